@@ -1,0 +1,84 @@
+-- S5 and S6: the label has at most five numbers, so positions have at most six; a derivative of 32 goals has at most 96.
+--   root-label                  the label is owed by a root goal and has at most five numbers
+--   deriv-small lift-small      obligation positions
+--   ann-small gcp-small         announcements, and the displacement of a class
+--   deriv-length deriv-few      how many goals
+use mathlib.Core.Path.{_≡_, refl, ap, sym, _∙_}
+use mathlib.Core.Bool.{Bool, true, false, not, _&&_}
+use mathlib.Core.List.{List, [], _∷_, _++_, map}
+use mathlib.Core.Option.{Option, some}
+use mathlib.Core.Logic.{_⊎_, inl, inr, ⊎-elim}
+use Prim.Native.Nat.{ℕ, zero, suc, _+_, _*_, _<_, _≤_}
+use native.Mathlib.Omega.{arith}
+use lib.ListN.{length, getElem?, length-append, length-map}
+use Rattle.kinds.specs.Lists.{filter, gather, range, isNil}
+use Rattle.kinds.specs.Positions.{Pos, strip}
+use Rattle.kinds.proofs.Bools.{and-l}
+use Rattle.kinds.proofs.Members.{_∈_, here, there, filter-split, filter-at-most, filter-le, gather-length, length-range}
+use Rattle.kinds.proofs.Prefixes.{_≼_, strip-join}
+use Rattle.kinds.proofs.Codes.{Small, small-prefix, small-rest, small-snoc}
+use Rattle.term.specs.Terms.{Term, node}
+use Rattle.automaton.specs.Goals.{Goal, State, has, label, reduced, met, deriv}
+use Rattle.automaton.specs.Classes.{classes, gcp, liftGoal, lift}
+use Rattle.automaton.specs.Bare.{fresh}
+use Rattle.automaton.specs.Walking.{Setting, calculus}
+use Rattle.automaton.proofs.Subterms.{sub-depth}
+use Rattle.automaton.proofs.Root.{gcp-below}
+use Rattle.automaton.proofs.Derivative.{Owes, owes, on-owes, From, old, under, from, on-lifted, on-label}
+use Rattle.automaton.proofs.Sound.{Real, Sound, SoundState}
+use Rattle.automaton.proofs.Apart.{label-owes}
+use Rattle.automaton.proofs.Owed.{below-gcp}
+
+module _ (S : Setting) where
+  -- a position that a root goal owes is a position of its shape
+  root-short : (g : Goal Pos) (o : Pos) → g .ann ≡ [] → Real S g o → length o ≤ 5
+  root-short g o e r =
+      let h = sub-depth (strip (g .ann) o) (r .shape) (node (r .head) (r .kids)) (r .is) in
+      let d = S .flat (g .shape) (r .shape) (r .is-shape) in
+      let z : strip (g .ann) o ≡ o = rw e in
+      let h′ = rw z at h in omega arith
+
+  -- goals of which one announces at the root are a state
+  pub root-label : (s : State Pos) → Sound S s → (r : Goal Pos) → r ∈ s → r .ann ≡ [] → SoundState S s
+  root-label s w r i e =
+      let o = w .owing r i in
+      on-label S s r (o .0) i e (o .1) λ g a b c.
+      record { goals = w; root = g; root-in = a; root-at = b; label-owed = c; label-short = root-short g (label (calculus S) s) b (w .real g a (label (calculus S) s) c) }
+
+  pub deriv-small : (s : State Pos) → SoundState S s → (f n : ℕ) → n ≤ 4 → (o : Pos) → Owes (deriv (calculus S) s f n) o → Small o
+  deriv-small s w f n few o m = on-owes (deriv (calculus S) s f n) m λ g i j. go (from S s f n g o i j)
+    where
+      go : From S s n o → Small o
+      go (old a ne) = w .goals .small o a
+      go (under i l u e) = rw e (small-snoc (label (calculus S) s) i (w .goals .small (label (calculus S) s) (label-owes S s w)) (w .label-short) l (omega arith))
+
+  pub lift-small : (k : State Pos) → Sound S k → (o : Pos) → Owes (lift (calculus S) k) o → Small o
+  lift-small k w o m = on-lifted S k o m λ y g i j e.
+      rw e (small-rest (gcp k) (strip (gcp k) y) (rw (strip-join (gcp k) y (below-gcp S k w g i y j)) (w .small y (owes i j))))
+
+  pub ann-small : (s : State Pos) → Sound S s → (g : Goal Pos) → g ∈ s → Small (g .ann)
+  ann-small s w g m = let o = w .owing g m in small-prefix (w .low g m (o .0) (o .1)) (w .small (o .0) (owes m (o .1)))
+
+  -- a class is never empty
+  pub gcp-small : (k : State Pos) → Sound S k → (g : Goal Pos) → g ∈ k → Small (gcp k)
+  gcp-small k w g m = small-prefix (gcp-below k g m) (ann-small k w g m)
+
+  pub deriv-length : (s : State Pos) (f n : ℕ) → length (deriv (calculus S) s f n) ≤ length s + n * length (S .shapes)
+  deriv-length s f n =
+      let b₁ = filter-at-most (λ g. not (isNil (g .obs))) (met (calculus S) s f n) in
+      let b₂ = length-map (filter ((calculus S) .expects f (label (calculus S) s)) s) (reduced (calculus S) (label (calculus S) s) n) in
+      let b₃ = filter-le ((calculus S) .expects f (label (calculus S) s)) (λ g. has (calculus S) (label (calculus S) s) (g .obs)) s (λ g e. and-l _ e) in
+      let b₄ = filter-split (λ g. has (calculus S) (label (calculus S) s) (g .obs)) s in
+      let c : length (gather (λ i. (calculus S) .fresh (label (calculus S) s ++ (i ∷ []))) (range 1 n)) ≡ n * length (S .shapes) = gather-length (λ i. (calculus S) .fresh (label (calculus S) s ++ (i ∷ []))) (length (S .shapes)) (range 1 n) (λ i. length-map (range 0 (length (S .shapes))) (fresh (label (calculus S) s ++ (i ∷ []))) ∙ length-range 0 (length (S .shapes))) ∙ rw (length-range 1 n) in
+      rw (length-append, length-append) (omega arith)
+
+  pub deriv-few : (s : State Pos) (f n : ℕ) → length s ≤ 32 → n ≤ 4 → length (deriv (calculus S) s f n) ≤ 96
+  deriv-few s f n a c = let h = deriv-length s f n in let z = product n (length (S .shapes)) c (S .few-shapes) in omega arith
+    where
+      product : (n m : ℕ) → n ≤ 4 → m ≤ 16 → n * m ≤ 64
+      product zero m c b = omega arith
+      product (suc zero) m c b = omega arith
+      product (suc (suc zero)) m c b = omega arith
+      product (suc (suc (suc zero))) m c b = omega arith
+      product (suc (suc (suc (suc zero)))) m c b = omega arith
+      product (suc (suc (suc (suc (suc n))))) m c b = absurd (omega arith)

@@ -1,0 +1,9 @@
+-- The paper's construction with document 01's choices.
+pub mod Goals
+pub mod Classes
+pub mod Paper
+pub mod Bare
+pub mod Exploring
+pub mod PlanWords
+pub mod Walking
+pub mod Examples

@@ -1,0 +1,99 @@
+-- Reachable states, and the walk over the positions of a score, for any choice at each step.
+--   Reach          a state is the initial one, or the lifting of a class of a derivative of a reachable one
+--   Setting        child counts and shapes within the limits of document 01, as the construction needs them
+--   Scored         a setting and a score of its symbols
+--   Partner Alike  states that are equal as sets: each goal has one of the same shape, announcement and obligations in the other
+--   Item           a state, and the position of the score where it stands
+--   looks          the position that an item reads next: where it stands, followed by its state's label
+--   follows        the items that come of an item after a symbol of n children was read
+--   Goes           items that go on for these: at the same places, with states that are equal as sets and reachable
+--   Walked         "a step takes item i; later ones close up": what waits, the positions read, and what was announced where
+use mathlib.Core.Path.{_≡_}
+use mathlib.Core.List.{List, [], _∷_, _++_, map}
+use mathlib.Core.Option.{Option, some}
+use Prim.Native.Nat.{ℕ, _≤_}
+use lib.ListN.{length, getElem?}
+use Rattle.kinds.specs.Positions.{Pos}
+use Rattle.kinds.proofs.Members.{_∈_, _⊆_}
+use Rattle.term.specs.Terms.{Term, node, Terms, count, depth, Fits, Whole}
+use Rattle.term.specs.Places.{sub}
+use Rattle.automaton.specs.Goals.{Goal, State, Calculus, Announcement, initial, label, deriv, outputs}
+use Rattle.automaton.specs.Classes.{classes, gcp, lift}
+use Rattle.automaton.specs.Bare.{bare}
+
+-- for symbols with these numbers of children
+pub data Reach {O : Type 0} (K : Calculus O) (ar : List ℕ) : State O → Type 0 where
+  init : Reach K ar (initial K)
+  next : {s k : State O} (f n : ℕ) → Reach K ar s → getElem? ar f ≡ some n → k ∈ classes K (deriv K s f n) → Reach K ar (lift K k)
+
+pub record Setting : Type 0 where
+  pub counts : List ℕ
+  pub shapes : List Term
+  -- words from here on are blanks
+  pub blanks : ℕ
+  pub children : (f n : ℕ) → getElem? counts f ≡ some n → n ≤ 4
+  pub some-shape : 1 ≤ length shapes
+  pub few-shapes : length shapes ≤ 16
+  pub fits : (i : ℕ) (x : Term) → getElem? shapes i ≡ some x → Fits counts blanks x
+  pub flat : (i : ℕ) (x : Term) → getElem? shapes i ≡ some x → depth x ≤ 5
+  -- no shape is one blank
+  pub solid : (i : ℕ) (x : Term) → getElem? shapes i ≡ some x → (f : ℕ) × (us : Terms) × (x ≡ node f us)
+
+pub record Scored : Type 0 where
+  pub setting : Setting
+  pub score : Term
+  pub score-blanks : ℕ
+  pub score-fits : Fits (setting .counts) score-blanks score
+  pub whole : Whole score
+
+abbrev pub calculus : Setting → Calculus Pos
+calculus S = bare (S .shapes)
+
+abbrev pub Reachable : Setting → State Pos → Type 0
+Reachable S s = Reach (calculus S) (S .counts) s
+
+pub record Partner (s : State Pos) (g : Goal Pos) : Type 0 where
+  pub goal : Goal Pos
+  pub inside : goal ∈ s
+  pub shape : goal .shape ≡ g .shape
+  pub ann : goal .ann ≡ g .ann
+  pub less : goal .obs ⊆ g .obs
+  pub more : g .obs ⊆ goal .obs
+
+pub record Alike (s s′ : State Pos) : Type 0 where
+  pub to : (g : Goal Pos) → g ∈ s → Partner s′ g
+  pub fro : (g : Goal Pos) → g ∈ s′ → Partner s g
+
+pub record Item : Type 0 where
+  pub state : State Pos
+  pub at : Pos
+
+module _ (S : Setting) where
+  abbrev pub looks : Item → Pos
+  looks it = it .at ++ label (calculus S) (it .state)
+
+  -- a class of the derivative, lifted, where its greatest common prefix leads
+  abbrev pub goesOn : Item → State Pos → Item
+  goesOn it k = record { state = lift (calculus S) k; at = it .at ++ gcp k }
+
+  abbrev pub follows : Item → ℕ → ℕ → List Item
+  follows it f n = map (goesOn it) (classes (calculus S) (deriv (calculus S) (it .state) f n))
+
+  abbrev pub placed : Item → Announcement → Announcement
+  placed it a = record { shape = a .shape; at = it .at ++ a .at }
+
+  -- what an item announces where a symbol of n children is read
+  abbrev pub announces : Item → ℕ → ℕ → List Announcement
+  announces it f n = map (placed it) (outputs (calculus S) (it .state) f n)
+
+  pub data Goes : List Item → List Item → Type 0 where
+    none-go : Goes [] []
+    one-goes : {j j′ : Item} {js js′ : List Item} → j′ .at ≡ j .at → Alike (j .state) (j′ .state) → Reachable S (j′ .state) → Goes js js′ → Goes (j ∷ js) (j′ ∷ js′)
+
+pub data Walked (C : Scored) : List Item → List Pos → List Announcement → Type 0 where
+  begin : Walked C (record { state = initial (calculus (C .setting)); at = [] } ∷ []) [] []
+  step : (before after : List Item) (read : List Pos) (told : List Announcement) (it : Item) (f : ℕ) (ts : Terms) (js : List Item)
+      → Walked C (before ++ (it ∷ after)) read told
+      → sub (C .score) (looks (C .setting) it) ≡ some (node f ts)
+      → Goes (C .setting) (follows (C .setting) it f (count ts)) js
+      → Walked C (before ++ (after ++ js)) (read ++ (looks (C .setting) it ∷ [])) (told ++ announces (C .setting) it f (count ts))

@@ -1,0 +1,6 @@
+-- The definitions that every layer shares.
+pub mod Lists
+pub mod Positions
+pub mod Bits
+pub mod Reasons
+pub mod Kinds

@@ -1,0 +1,2 @@
+-- What building a plan means.
+pub mod Building

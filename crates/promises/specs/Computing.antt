@@ -1,0 +1,22 @@
+-- Every definition that is shut elsewhere, opened for computing: who says `unfolding computing` has all of them.
+use Prim.Native.Nat.{ℕ}
+use Rattle.kinds.specs.Positions.{decodeTo}
+use Rattle.term.specs.Reading.{childrenOf, headOf, reading}
+use Rattle.term.specs.Spans.{over, spansOf, sibling, childAt, follow, target}
+use Rattle.folio.specs.Bytes.{wordsOf}
+use Rattle.folio.specs.Sections.{distancesOf, trailerOf, overAt, symbolsOf, sectionsOf}
+use Rattle.folio.specs.Tables.{shapesFrom, shapesOf, scoreOf}
+use Rattle.folio.specs.Opening.{stored, held, opened}
+use Rattle.folio.specs.Again.{symbolsGood, shapesGood, scoreGood, pieceAt, subtreeAt}
+use Rattle.plan.specs.Building.{cleared, buildOf}
+use Rattle.walk.specs.PlanParts.{pairs, counted, blockAt, labelWord, blockOf, pairAt, labelOf, lengthsOf, announcementOf, successorOf}
+use Rattle.walk.specs.Starting.{started}
+use Rattle.walk.specs.Stepping.{targets, look, marked, tried, stepped, run, runBy}
+use Rattle.report.specs.Counting.{anyTo, sumTo, someMatch, numberAt, total}
+use Rattle.report.specs.Counting.{counted as countedIn}
+use Rattle.report.specs.Paths.{childOn, pathTo}
+use Rattle.report.specs.Text.{digitsTo, digits, pathText, texts, lines, report}
+
+unfoldable pub computing : ℕ
+unfolding decodeTo childrenOf headOf reading over spansOf sibling childAt follow target wordsOf distancesOf trailerOf overAt symbolsOf sectionsOf shapesFrom shapesOf scoreOf stored held opened symbolsGood shapesGood scoreGood pieceAt subtreeAt cleared buildOf pairs counted blockAt labelWord blockOf pairAt labelOf lengthsOf announcementOf successorOf started targets look marked tried stepped run runBy anyTo sumTo someMatch numberAt total countedIn childOn pathTo digitsTo digits pathText texts lines report
+computing = 0

@@ -1,0 +1,3 @@
+-- What is promised.
+pub mod Computing
+pub mod Sample

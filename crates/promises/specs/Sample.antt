@@ -1,0 +1,109 @@
+-- The sample folio: P1 to P10 of document 01, the whole plan and the whole report, as one table of the definitions with one claim.
+--   file      the 49 bytes
+--   table     what the definitions give: from the file its opening, from that the building, from that the plan, from that the walks and the report
+--   claimed   what document 01 says
+--   sample    they are equal
+use mathlib.Core.Path.{_≡_, refl}
+use mathlib.Core.List.{List, [], _∷_, _++_}
+use Prim.Native.Nat.{ℕ, _*_, _-_}
+use lib.ListN.{length, take, drop, replicate}
+use Rattle.kinds.specs.Positions.{code}
+use Rattle.kinds.specs.Reasons.{Says}
+use Rattle.folio.specs.Opening.{Lent, lent, opened, openedSays}
+use Rattle.folio.specs.Opening.{Out as Opening}
+use Rattle.plan.specs.Building.{buildOf, builtSays}
+use Rattle.plan.specs.Building.{Out as Building}
+use Rattle.walk.specs.Starting.{Walk, walkOf, counting, started, walkedSays}
+use Rattle.walk.specs.Stepping.{stepped, runBy}
+use Rattle.report.specs.Counting.{matchesOf, countedSays}
+use Rattle.report.specs.Clashes.{clashesOf}
+use Rattle.report.specs.Quoted.{bytes}
+use Rattle.report.specs.Text.{report}
+use Rattle.promises.specs.Computing.{computing}
+
+-- rest, join, close with 0, 2, 1 children
+abbrev symbols : List ℕ
+symbols = 0 ∷ 2 ∷ 1 ∷ []
+
+-- join(_, close(_)) and join(join(_, _), _)
+abbrev shapeBytes : List ℕ
+shapeBytes = 1 ∷ 0 ∷ 255 ∷ 255 ∷ 2 ∷ 0 ∷ 255 ∷ 255 ∷ 1 ∷ 0 ∷ 1 ∷ 0 ∷ 255 ∷ 255 ∷ 255 ∷ 255 ∷ 255 ∷ 255 ∷ []
+
+abbrev scoreBytes : List ℕ
+scoreBytes = 1 ∷ 0 ∷ 1 ∷ 0 ∷ 0 ∷ 0 ∷ 2 ∷ 0 ∷ 0 ∷ 0 ∷ 2 ∷ 0 ∷ 1 ∷ 0 ∷ 0 ∷ 0 ∷ 2 ∷ 0 ∷ 0 ∷ 0 ∷ []
+
+abbrev pub file : List ℕ
+file = symbols ++ (shapeBytes ++ (scoreBytes ++ (41 ∷ 0 ∷ 38 ∷ 0 ∷ 20 ∷ 0 ∷ 83 ∷ 67 ∷ [])))
+
+-- what document 01 says that opening and building write; the rows below hold the calls against it, and go on from it
+abbrev shapeWords : List ℕ
+shapeWords = 1 ∷ 65535 ∷ 2 ∷ 65535 ∷ 1 ∷ 1 ∷ 65535 ∷ 65535 ∷ 65535 ∷ []
+
+abbrev starts : List ℕ
+starts = 0 ∷ 4 ∷ []
+
+abbrev score : List ℕ
+score = 1 ∷ 1 ∷ 0 ∷ 2 ∷ 0 ∷ 2 ∷ 1 ∷ 0 ∷ 2 ∷ 0 ∷ []
+
+abbrev spans : List ℕ
+spans = 10 ∷ 4 ∷ 1 ∷ 2 ∷ 1 ∷ 5 ∷ 4 ∷ 1 ∷ 2 ∷ 1 ∷ []
+
+abbrev plan : List ℕ
+plan = 3 ∷ 3 ∷ 2 ∷ 56 ∷ 0 ∷ 1 ∷ 2 ∷ 16 ∷ 18 ∷ 24 ∷ 28 ∷ 30 ∷ 38 ∷ 42 ∷ 44 ∷ 50 ∷ 0 ∷ 0 ∷ 0 ∷ 2 ∷ 1 ∷ 0 ∷ 2 ∷ 0 ∷ 0 ∷ 1 ∷ 0 ∷ 1 ∷ 0 ∷ 0 ∷ 1 ∷ 1 ∷ 0 ∷ 2 ∷ 1 ∷ 1 ∷ 2 ∷ 1 ∷ 0 ∷ 1 ∷ 0 ∷ 6 ∷ 0 ∷ 0 ∷ 0 ∷ 2 ∷ 1 ∷ 2 ∷ 2 ∷ 2 ∷ 1 ∷ 0 ∷ 0 ∷ 1 ∷ 0 ∷ 11 ∷ []
+
+abbrev nines : ℕ → List ℕ
+nines n = replicate n 9
+
+pub opening : Opening
+opening = opened file (lent (nines 9) (nines 2) (nines 10) (nines 10))
+
+-- a plan buffer of one word more
+pub building : Building
+building = buildOf symbols shapeWords starts (nines 57) (nines 32768)
+
+abbrev begun : List ℕ → List ℕ → Walk
+begun sc sp = let n = length sc in started symbols sc sp (walkOf (nines (2 * n)) (nines n) (nines n) (counting 7 7)) .walk
+
+pub firsts : Walk
+firsts = runBy (λ n. 0) plan score spans 10 (begun score spans)
+
+pub lasts : Walk
+lasts = runBy (λ n. n - 1) plan score spans 10 (begun score spans)
+
+-- a score of one constant
+pub alone : Walk
+alone = runBy (λ n. 0) plan (0 ∷ []) (1 ∷ []) 1 (begun (0 ∷ []) (1 ∷ []))
+
+-- an answer's number and its values
+abbrev row : Says → List ℕ
+row s = s .number ∷ s .values
+
+pub table : List (List ℕ)
+table =
+    firsts .marks ∷ firsts .log ∷ lasts .log
+    ∷ take 6 (drop 18 plan) ∷ take 8 (drop 30 plan) ∷ take 6 (drop 50 plan)
+    ∷ (code (2 ∷ 1 ∷ []) ∷ [])
+    ∷ (alone .count .waiting ∷ alone .count .logged ∷ [])
+    ∷ row (openedSays (opened [] (lent [] [] [] []) .answer))
+    ∷ row (walkedSays (stepped plan score spans 0 firsts .answer))
+    ∷ row (openedSays (opening .answer)) ∷ opening .tables .words ∷ opening .tables .starts ∷ opening .tables .score ∷ opening .tables .spans
+    ∷ row (builtSays (building .answer)) ∷ building .plan
+    ∷ row (countedSays (matchesOf symbols score spans (firsts .marks))) ∷ row (countedSays (clashesOf symbols score spans (firsts .marks)))
+    ∷ report spans 3 (firsts .marks) ∷ []
+
+abbrev pub claimed : List (List ℕ)
+claimed =
+    (3 ∷ 1 ∷ 0 ∷ 0 ∷ 0 ∷ 0 ∷ 1 ∷ 0 ∷ 0 ∷ 0 ∷ []) ∷ (0 ∷ 1 ∷ 5 ∷ 2 ∷ 3 ∷ 6 ∷ 4 ∷ 7 ∷ 8 ∷ 9 ∷ []) ∷ (0 ∷ 5 ∷ 6 ∷ 8 ∷ 9 ∷ 7 ∷ 1 ∷ 3 ∷ 4 ∷ 2 ∷ [])
+    ∷ (0 ∷ 2 ∷ 1 ∷ 0 ∷ 2 ∷ 0 ∷ []) ∷ (1 ∷ 1 ∷ 0 ∷ 2 ∷ 1 ∷ 1 ∷ 2 ∷ 1 ∷ []) ∷ (1 ∷ 0 ∷ 0 ∷ 1 ∷ 0 ∷ 11 ∷ [])
+    ∷ (11 ∷ [])
+    ∷ (0 ∷ 1 ∷ [])
+    ∷ (1 ∷ 0 ∷ [])
+    ∷ (32 ∷ 0 ∷ [])
+    ∷ (0 ∷ 3 ∷ 2 ∷ 9 ∷ 10 ∷ []) ∷ shapeWords ∷ starts ∷ score ∷ spans
+    ∷ (0 ∷ 3 ∷ 56 ∷ []) ∷ (plan ++ (9 ∷ []))
+    ∷ (0 ∷ 4 ∷ []) ∷ (0 ∷ 4 ∷ [])
+    ∷ bytes "nodes 10 states 3 matches 4 clashes 4\n0 0 -\n0 1 -\n1 0 1\n6 0 2.1\n" ∷ []
+
+pub sample : table ≡ claimed
+unfolding table opening building firsts lasts alone computing
+sample = refl

@@ -1,0 +1,6 @@
+-- What counting and the report mean.
+pub mod Counting
+pub mod Clashes
+pub mod Quoted
+pub mod Paths
+pub mod Text

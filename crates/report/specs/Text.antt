@@ -1,0 +1,65 @@
+-- "First line: nodes, states, matches (ones in all marks), clashes. Then one line a match, by node, then shape: node, shape, path in dotted child
+-- numbers, the root as `-`. A refusal prints only `refused N at P`." Every line ends with a line feed; a text is its bytes.
+--   digitsTo      a number in decimal, of at most d digits; digits: of any length that is met
+--   dotted        child numbers with dots between
+--   pathText      a position, the root as `-`
+--   line          one match
+--   firstLine     the four numbers
+--   lines         by node, then shape
+--   report        over the spans of the n nodes, the state count and the marks
+--   refusalText   what a refusal prints
+use Prim.Native.Nat.{ℕ, zero, suc, _+_, _/_, _%_}
+use mathlib.Core.List.{List, [], _∷_, _++_}
+use mathlib.Core.Bool.{Bool, cond}
+use lib.Dec.{ltb}
+use lib.ListN.{length, take}
+use Rattle.kinds.specs.Positions.{Pos}
+use Rattle.kinds.specs.Reasons.{numberOf}
+use Rattle.kinds.specs.declared.Reason.{Reason}
+use Rattle.report.specs.Counting.{Match, matchAt, found, total}
+use Rattle.report.specs.Clashes.{clashNumber, clash}
+use Rattle.report.specs.Quoted.{bytes}
+use Rattle.report.specs.Paths.{pathTo}
+
+unfoldable pub digitsTo : ℕ → ℕ → List ℕ
+digitsTo zero n = []
+digitsTo (suc d) n = cond (ltb n 10) ((48 + n) ∷ []) (digitsTo d (n / 10) ++ ((48 + n % 10) ∷ []))
+
+-- twenty digits hold any number that a machine word holds
+unfoldable pub digits : ℕ → List ℕ
+digits n = digitsTo 20 n
+
+abbrev pub dotted : Pos → List ℕ
+dotted [] = []
+dotted (i ∷ []) = digits i
+dotted (i ∷ j ∷ p) = digits i ++ (bytes "." ++ dotted (j ∷ p))
+
+unfoldable pub pathText : Pos → List ℕ
+pathText [] = bytes "-"
+pathText (i ∷ p) = dotted (i ∷ p)
+
+abbrev pub line : List ℕ → Match → List ℕ
+line spans m = digits (m .node) ++ (bytes " " ++ (digits (m .shape) ++ (bytes " " ++ (pathText (pathTo 64 spans (m .node) 0) ++ bytes "\n"))))
+
+abbrev pub firstLine : ℕ → ℕ → ℕ → ℕ → List ℕ
+firstLine n s m c =
+    bytes "nodes " ++ (digits n
+    ++ (bytes " states " ++ (digits s
+    ++ (bytes " matches " ++ (digits m
+    ++ (bytes " clashes " ++ (digits c ++ bytes "\n")))))))
+
+-- t 0, t 1, …, t (k - 1), one after the other
+unfoldable pub texts : ℕ → (ℕ → List ℕ) → List ℕ
+texts zero t = []
+texts (suc k) t = texts k t ++ t k
+
+unfoldable pub lines : List ℕ → List ℕ → List ℕ
+lines spans ms = texts (length ms) (λ x. texts 16 (λ j. cond (found ms (matchAt x j)) (line spans (matchAt x j)) []))
+
+unfoldable pub report : List ℕ → ℕ → List ℕ → List ℕ
+report spans states marks =
+    let ms = take (length spans) marks in
+    firstLine (length spans) states (total ms) (clashNumber (clash spans) ms) ++ lines spans ms
+
+abbrev pub refusalText : Reason → ℕ → List ℕ
+refusalText r p = bytes "refused " ++ (digits (numberOf r) ++ (bytes " at " ++ (digits p ++ bytes "\n")))

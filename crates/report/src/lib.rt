@@ -1,0 +1,6 @@
+use kinds::Reason;
+
+pub enum Counted {
+    Number(usize),
+    Refused(Reason),
+}

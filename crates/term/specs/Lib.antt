@@ -1,0 +1,5 @@
+-- Terms, their words, and the one reader.
+pub mod Terms
+pub mod Places
+pub mod Reading
+pub mod Spans
