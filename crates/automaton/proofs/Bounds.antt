@@ -2,27 +2,26 @@
 --   root-label                  the label is owed by a root goal and has at most five numbers
 --   deriv-small lift-small      obligation positions
 --   ann-small gcp-small         announcements, and the displacement of a class
+--   owed-code ann-code          their codes are at most 15,624
 --   deriv-length deriv-few      how many goals
-use mathlib.Core.Path.{_≡_, refl, ap, sym, _∙_}
-use mathlib.Core.Bool.{Bool, true, false, not, _&&_}
-use mathlib.Core.List.{List, [], _∷_, _++_, map}
-use mathlib.Core.Option.{Option, some}
-use mathlib.Core.Logic.{_⊎_, inl, inr, ⊎-elim}
-use Prim.Native.Nat.{ℕ, zero, suc, _+_, _*_, _<_, _≤_}
+use mathlib.Core.Path.{_≡_, _∙_}
+use mathlib.Core.Bool.{not}
+use mathlib.Core.List.{[], _∷_, _++_}
+use Prim.Native.Nat.{ℕ, zero, suc, _+_, _*_, _≤_}
 use native.Mathlib.Omega.{arith}
-use lib.ListN.{length, getElem?, length-append, length-map}
+use lib.ListN.{length, length-append, length-map}
 use Rattle.kinds.specs.Lists.{filter, gather, range, isNil}
-use Rattle.kinds.specs.Positions.{Pos, strip}
+use Rattle.kinds.specs.Positions.{Pos, strip, code}
 use Rattle.kinds.proofs.Bools.{and-l}
-use Rattle.kinds.proofs.Members.{_∈_, here, there, filter-split, filter-at-most, filter-le, gather-length, length-range}
-use Rattle.kinds.proofs.Prefixes.{_≼_, strip-join}
-use Rattle.kinds.proofs.Codes.{Small, small-prefix, small-rest, small-snoc}
-use Rattle.term.specs.Terms.{Term, node}
-use Rattle.automaton.specs.Goals.{Goal, State, has, label, reduced, met, deriv}
-use Rattle.automaton.specs.Classes.{classes, gcp, liftGoal, lift}
+use Rattle.kinds.proofs.Members.{_∈_, filter-split, filter-at-most, filter-le, gather-length, length-range}
+use Rattle.kinds.proofs.Prefixes.{strip-join}
+use Rattle.kinds.proofs.Codes.{Small, small-prefix, small-rest, small-snoc, small-code}
+use Rattle.term.specs.Terms.{node}
+use Rattle.automaton.specs.Goals.{Calculus, Goal, State, has, label, reduced, met, deriv}
+use Rattle.automaton.specs.Classes.{gcp, lift}
 use Rattle.automaton.specs.Bare.{fresh}
 use Rattle.automaton.specs.Walking.{Setting, calculus}
-use Rattle.automaton.proofs.Subterms.{sub-depth}
+use Rattle.term.proofs.Subterms.{sub-depth}
 use Rattle.automaton.proofs.Root.{gcp-below}
 use Rattle.automaton.proofs.Derivative.{Owes, owes, on-owes, From, old, under, from, on-lifted, on-label}
 use Rattle.automaton.proofs.Sound.{Real, Sound, SoundState}
@@ -30,6 +29,9 @@ use Rattle.automaton.proofs.Apart.{label-owes}
 use Rattle.automaton.proofs.Owed.{below-gcp}
 
 module _ (S : Setting) where
+  abbrev K : Calculus Pos
+  K = calculus S
+
   -- a position that a root goal owes is a position of its shape
   root-short : (g : Goal Pos) (o : Pos) → g .ann ≡ [] → Real S g o → length o ≤ 5
   root-short g o e r =
@@ -43,36 +45,47 @@ module _ (S : Setting) where
   root-label s w r i e =
       let o = w .owing r i in
       on-label S s r (o .0) i e (o .1) λ g a b c.
-      record { goals = w; root = g; root-in = a; root-at = b; label-owed = c; label-short = root-short g (label (calculus S) s) b (w .real g a (label (calculus S) s) c) }
+      record { goals = w; root = g; root-in = a; root-at = b; label-owed = c; label-short = root-short g (label K s) b (w .real g a (label K s) c) }
 
-  pub deriv-small : (s : State Pos) → SoundState S s → (f n : ℕ) → n ≤ 4 → (o : Pos) → Owes (deriv (calculus S) s f n) o → Small o
-  deriv-small s w f n few o m = on-owes (deriv (calculus S) s f n) m λ g i j. go (from S s f n g o i j)
+  pub deriv-small : (s : State Pos) → SoundState S s → (f n : ℕ) → n ≤ 4 → (o : Pos) → Owes (deriv K s f n) o → Small o
+  deriv-small s w f n few o m = on-owes (deriv K s f n) m λ g i j. go (from S s f n g o i j)
     where
       go : From S s n o → Small o
       go (old a ne) = w .goals .small o a
-      go (under i l u e) = rw e (small-snoc (label (calculus S) s) i (w .goals .small (label (calculus S) s) (label-owes S s w)) (w .label-short) l (omega arith))
+      go (under i l u e) = rw e (small-snoc (label K s) i (w .goals .small (label K s) (label-owes S s w)) (w .label-short) l (omega arith))
 
-  pub lift-small : (k : State Pos) → Sound S k → (o : Pos) → Owes (lift (calculus S) k) o → Small o
+  pub lift-small : (k : State Pos) → Sound S k → (o : Pos) → Owes (lift K k) o → Small o
   lift-small k w o m = on-lifted S k o m λ y g i j e.
       rw e (small-rest (gcp k) (strip (gcp k) y) (rw (strip-join (gcp k) y (below-gcp S k w g i y j)) (w .small y (owes i j))))
 
   pub ann-small : (s : State Pos) → Sound S s → (g : Goal Pos) → g ∈ s → Small (g .ann)
   ann-small s w g m = let o = w .owing g m in small-prefix (w .low g m (o .0) (o .1)) (w .small (o .0) (owes m (o .1)))
 
-  -- a class is never empty
   pub gcp-small : (k : State Pos) → Sound S k → (g : Goal Pos) → g ∈ k → Small (gcp k)
   gcp-small k w g m = small-prefix (gcp-below k g m) (ann-small k w g m)
 
-  pub deriv-length : (s : State Pos) (f n : ℕ) → length (deriv (calculus S) s f n) ≤ length s + n * length (S .shapes)
-  deriv-length s f n =
-      let b₁ = filter-at-most (λ g. not (isNil (g .obs))) (met (calculus S) s f n) in
-      let b₂ = length-map (filter ((calculus S) .expects f (label (calculus S) s)) s) (reduced (calculus S) (label (calculus S) s) n) in
-      let b₃ = filter-le ((calculus S) .expects f (label (calculus S) s)) (λ g. has (calculus S) (label (calculus S) s) (g .obs)) s (λ g e. and-l _ e) in
-      let b₄ = filter-split (λ g. has (calculus S) (label (calculus S) s) (g .obs)) s in
-      let c : length (gather (λ i. (calculus S) .fresh (label (calculus S) s ++ (i ∷ []))) (range 1 n)) ≡ n * length (S .shapes) = gather-length (λ i. (calculus S) .fresh (label (calculus S) s ++ (i ∷ []))) (length (S .shapes)) (range 1 n) (λ i. length-map (range 0 (length (S .shapes))) (fresh (label (calculus S) s ++ (i ∷ []))) ∙ length-range 0 (length (S .shapes))) ∙ rw (length-range 1 n) in
-      rw (length-append, length-append) (omega arith)
+  pub owed-code : (s : State Pos) → Sound S s → (o : Pos) → Owes s o → code o ≤ 15624
+  owed-code s w o m = small-code o (w .small o m)
 
-  pub deriv-few : (s : State Pos) (f n : ℕ) → length s ≤ 32 → n ≤ 4 → length (deriv (calculus S) s f n) ≤ 96
+  pub ann-code : (s : State Pos) → Sound S s → (g : Goal Pos) → g ∈ s → code (g .ann) ≤ 15624
+  ann-code s w g m = small-code (g .ann) (ann-small s w g m)
+
+  pub deriv-length : (s : State Pos) (f n : ℕ) → length (deriv K s f n) ≤ length s + n * length (S .shapes)
+  deriv-length s f n =
+      let b₁ = filter-at-most (λ g. not (isNil (g .obs))) (met K s f n) in
+      let b₂ = length-map (filter (K .expects f (label K s)) s) (reduced K (label K s) n) in
+      let b₃ = filter-le (K .expects f (label K s)) (λ g. has K (label K s) (g .obs)) s (λ g e. and-l _ e) in
+      let b₄ = filter-split (λ g. has K (label K s) (g .obs)) s in
+      let c = new-ones in
+      rw (length-append, length-append) (omega arith)
+    where
+      each : (p : Pos) → length (K .fresh p) ≡ length (S .shapes)
+      each p = length-map (range 0 (length (S .shapes))) (fresh p) ∙ length-range 0 (length (S .shapes))
+
+      new-ones : length (gather (λ i. K .fresh (label K s ++ (i ∷ []))) (range 1 n)) ≡ n * length (S .shapes)
+      new-ones = gather-length (λ i. K .fresh (label K s ++ (i ∷ []))) (length (S .shapes)) (range 1 n) (λ i. each (label K s ++ (i ∷ []))) ∙ rw (length-range 1 n)
+
+  pub deriv-few : (s : State Pos) (f n : ℕ) → length s ≤ 32 → n ≤ 4 → length (deriv K s f n) ≤ 96
   deriv-few s f n a c = let h = deriv-length s f n in let z = product n (length (S .shapes)) c (S .few-shapes) in omega arith
     where
       product : (n m : ℕ) → n ≤ 4 → m ≤ 16 → n * m ≤ 64

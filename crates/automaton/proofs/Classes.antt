@@ -1,26 +1,31 @@
 -- The classes of a list of goals, for any kind of obligation: each is all that depends on its first goal.
 --   picked-in on-picked picked-of pairwise-picked   the goals of a row
---   Class class-is on-class            a class, by the place of its first goal
+--   leads-at on-row                    a row that begins a class
+--   Class class-is class-lead          a class, by the place of its first goal
 --   class-sub class-at class-has class-some   its goals are goals of the list; which ones; there is one
 --   class-closed                       what depends on a goal of a class is in it
 --   dependent-place dependent-sym      Dependent goals stand in the list, and the other way round too
 --   class-unique class-of              each goal that depends on itself is in exactly one class
+--   classes-one classes-none           of the classes one passes a test, or none does
 use mathlib.Core.Path.{_≡_, refl, ap, sym, _∙_}
-use mathlib.Core.Bool.{Bool, true, false, cond, not, _&&_, false≢true}
+use mathlib.Core.Bool.{Bool, true, false, cond, false≢true}
 use mathlib.Core.List.{List, [], _∷_, map}
-use mathlib.Core.Option.{Option, none, some}
+use mathlib.Core.Option.{some}
 use mathlib.Core.Logic.{_⊎_, inl, inr, ⊎-elim}
-use Prim.Native.Nat.{ℕ, zero, suc, _+_, _<_, _≤_}
+use Prim.Native.Nat.{ℕ, zero, suc, _+_, _<_}
 use native.Mathlib.Omega.{arith}
 use native.Mathlib.Nat.{eq-or-lt-of-le, le-of-suc-le-suc, add-zero, zero-add}
 use lib.ListN.{length, getD, getElem?}
-use Rattle.kinds.proofs.Bools.{test, Order, less, equal, more, order}
+use Rattle.kinds.specs.Lists.{sum}
+use Rattle.kinds.proofs.Bools.{test, not-true, Order, less, equal, more, order}
 use Rattle.kinds.proofs.Options.{none-not}
-use Rattle.kinds.proofs.Members.{_∈_, here, there, _⊆_, on-map, map-in, in-sort, sort-in}
+use Rattle.kinds.proofs.Members.{_∈_, here, there, _⊆_, on-map, map-in, in-sort, sort-in, sort-perm}
+use Rattle.kinds.proofs.Sums.{sum-map, sum-perm, sum-zero}
 use Rattle.kinds.proofs.Pairwise.{Pairwise}
-use Rattle.kinds.proofs.Places.{at-in, on-in, at-below, at-some, getD-at}
+use Rattle.kinds.proofs.Places.{on-in, at-below, at-some, getD-at}
 use Rattle.automaton.specs.Goals.{Goal, State, Calculus}
 use Rattle.automaton.specs.Classes.{Square, entry, picked, leads, rowsFrom, dep, Dependent, direct, via, closed, classBefore, classes}
+use Rattle.automaton.specs.Walking.{one}
 use Rattle.automaton.proofs.Closure.{dep-sym, dependent-closed}
 
 -- ---- the goals of a row
@@ -201,3 +206,30 @@ module _ {O : Type 0} (K : Calculus O) where
                   let y : entry (closed K s) (l .at) m ≡ true = ap (λ x. getD x m false) (getD-at (closed K s) (l .at) [] a) ∙ e in
                   let u : entry (closed K s) j m ≡ true = (dependent-closed K s j m) .1 (via to ((dependent-closed K s (l .at) m) .0 y)) in
                   absurd (false≢true (sym (l .before m h) ∙ u))
+
+-- exactly one of the rows that begin a class passes a test
+rows-one : (P : List Bool → Bool) (m : Square) (i l : ℕ) (r : List Bool) → getElem? m l ≡ some r → leads (i + l) r ≡ true → P r ≡ true
+    → ((k : ℕ) (x : List Bool) → getElem? m k ≡ some x → leads (i + k) x ≡ true → P x ≡ true → k ≡ l) → sum (map (λ x. one (P x)) (rowsFrom i m)) ≡ 1
+rows-one P [] i l r e t p u = none-not e
+rows-one P (x ∷ m) i zero r e t p u =
+    let z : x ≡ r = cc in
+    rw (z, rw add-zero at t, p, sum-zero (λ y. one (P y)) (rowsFrom (suc i) m) rest)
+  where
+    rest : (y : List Bool) → y ∈ rowsFrom (suc i) m → one (P y) ≡ 0
+    rest y a = on-row m (suc i) a λ k b c. rw (not-true (P y) (λ q. let v = u (suc k) y b (rw (shift i k) at c) q in omega arith))
+rows-one P (x ∷ m) i (suc l) r e t p u = go (leads i x) refl (rows-one P m (suc i) l r e (rw (← (shift i l)) at t) p (λ k y b c q. let v = u (suc k) y b (rw (shift i k) at c) q in omega arith))
+  where
+    go : (b : Bool) → leads i x ≡ b → sum (map (λ y. one (P y)) (rowsFrom (suc i) m)) ≡ 1 → sum (map (λ y. one (P y)) (cond b (x ∷ rowsFrom (suc i) m) (rowsFrom (suc i) m))) ≡ 1
+    go true h ih = rw (not-true (P x) (λ q. let v = u 0 x refl (rw (add-zero, h)) q in omega arith)) (omega arith)
+    go false h ih = ih
+
+module _ {O : Type 0} (K : Calculus O) (P : State O → Bool) (s : State O) where
+  sum-rows : sum (map (λ k. one (P k)) (classes K s)) ≡ sum (map (λ r. one (P (picked r s))) (rowsFrom 0 (closed K s)))
+  sum-rows = sym (sum-perm (λ k. one (P k)) (sort-perm (classBefore K) (map (λ r. picked r s) (rowsFrom 0 (closed K s))))) ∙ sum-map (λ k. one (P k)) (λ r. picked r s) (rowsFrom 0 (closed K s))
+
+  pub classes-one : (k : State O) (c : Class K s k) → P k ≡ true → ((k′ : State O) (c′ : Class K s k′) → P k′ ≡ true → c′ .lead ≡ c .lead) → sum (map (λ k. one (P k)) (classes K s)) ≡ 1
+  classes-one k c p u = sum-rows ∙ rows-one (λ r. P (picked r s)) (closed K s) 0 (c .lead) (c .row) (c .is-row) (rw zero-add (c .begins)) (rw (← (c .is)) p)
+      (λ l r a t q. u (picked r s) (record { lead = l; row = r; is-row = a; begins = rw zero-add at t; is = refl }) q)
+
+  pub classes-none : ((k : State O) → k ∈ classes K s → P k ≡ false) → sum (map (λ k. one (P k)) (classes K s)) ≡ 0
+  classes-none h = sum-zero (λ k. one (P k)) (classes K s) (λ k m. rw (h k m))

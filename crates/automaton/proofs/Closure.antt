@@ -1,21 +1,20 @@
 -- The closed square says yes exactly where two goals are Dependent.
 --   Chain                     from i to j by yeses of a square, through numbers below n
---   widen chain-join turn     chains, put together and turned round
+--   chain-join                chains, put together
 --   close-chain               n rounds of closing give the chains through numbers below n
 --   square-of on-square       an entry of the square is a direct dependency
---   dep-sym square-sym        dependency is symmetric
+--   dep-sym                   direct dependency is symmetric
 --   dependent-closed          the closed square and the paper's relation agree
 use mathlib.Core.Path.{_≡_, refl, ap, sym, _∙_}
 use mathlib.Core.Bool.{Bool, true, false, cond, _&&_, _||_, false≢true, or-false}
-use mathlib.Core.List.{List, [], _∷_, _++_, map}
-use mathlib.Core.Option.{Option, none, some}
-use mathlib.Core.Logic.{_⊎_, inl, inr, ⊎-elim, _↔_}
-use Prim.Native.Nat.{ℕ, zero, suc, _+_, _<_, _≤_}
+use mathlib.Core.List.{List, [], _∷_, map}
+use mathlib.Core.Option.{some}
+use mathlib.Core.Logic.{_⊎_, inl, inr, _↔_}
+use Prim.Native.Nat.{ℕ, zero, suc, _+_, _<_}
 use native.Mathlib.Omega.{arith}
 use native.Mathlib.Nat.{eq-or-lt-of-le, le-of-suc-le-suc, add-zero, zero-add}
 use lib.ListN.{length, getD, getElem?, List·getD-map}
-use Rattle.kinds.specs.Lists.{same, any, range}
-use Rattle.kinds.specs.Positions.{Pos}
+use Rattle.kinds.specs.Lists.{same, range}
 use Rattle.kinds.proofs.Bools.{and-l, and-r, both, or-l, or-r, or-case}
 use Rattle.kinds.proofs.Members.{on-any, any-of, same-is, same-refl}
 use Rattle.kinds.proofs.Places.{at-below, at-map, getD-at}
@@ -40,11 +39,6 @@ module _ (R : ℕ → ℕ → Bool) where
   pub chain-join : {n i m j : ℕ} → Chain R n i m → m < n → Chain R n m j → Chain R n i j
   chain-join (link r) h d = step r h d
   chain-join (step r l c) h d = step r l (chain-join c h d)
-
-  -- chains turn round where the links do
-  pub turn : {n : ℕ} → ((i j : ℕ) → R i j ≡ true → R j i ≡ true) → {i j : ℕ} → Chain R n i j → Chain R n j i
-  turn sy (link r) = link (sy _ _ r)
-  turn sy (step r h c) = chain-join (turn sy c) h (link (sy _ _ r))
 
   -- a chain through numbers up to n avoids n, or goes to n and on from n
   abbrev Split : ℕ → ℕ → ℕ → Type 0
@@ -130,9 +124,6 @@ module _ {O : Type 0} (K : Calculus O) where
       on-any (λ o. has K (K .at o) (h .obs)) (g .obs) e λ o i t.
       on-any (λ x. same (K .at o) (K .at x)) (h .obs) t λ x j u.
       any-of (λ y. has K (K .at y) (g .obs)) j (any-of (λ y. same (K .at x) (K .at y)) i (rw (same-is (K .at o) (K .at x) u) (same-refl (K .at x))))
-
-  pub square-sym : (s : State O) (i j : ℕ) → entry (square K s) i j ≡ true → entry (square K s) j i ≡ true
-  square-sym s i j e = on-square s i j e λ g h a b t. square-of s j i b a (dep-sym g h t)
 
   chain-dependent : (s : State O) {n i j : ℕ} → Chain (entry (square K s)) n i j → Dependent K s i j
   chain-dependent s (link r) = on-square s _ _ r λ g h a b t. direct a b t

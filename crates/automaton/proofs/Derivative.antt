@@ -1,35 +1,35 @@
 -- What a derivative and a lifted class are made of, over bare positions.
---   Owes owes                      an obligation position of a list of goals
+--   Owes owes on-owes              an obligation position of a list of goals
 --   on-inPlace inPlace-kept inPlace-put   what is reduced: kept, or put in the place of the position read
 --   args-in on-args on-argsOf args-under  the arguments that are put there
---   expects-owes on-expects        a goal that expects a symbol at p owes a pattern with that head there
---   Derived derived on-met         a goal of the derivative is unchanged, reduced or fresh
+--   expects-owes on-expects expects-of   a goal that expects a symbol at p owes a pattern with that head there
+--   has-owes owes-has              the test whether p is owed
+--   on-met met-in                  the goals that expect the symbol, reduced
+--   Derived derived                a goal of the derivative is unchanged, reduced or fresh
 --   kept-in cut-in new-in          and these are goals of it
+--   on-initial initial-in          the goals of the initial state
 --   From from                      an obligation position of it is an old one but the label, or a child of the label
 --   on-lifted                      an obligation position of a lifted list
 --   first-in on-label              the label is an obligation position of a root goal
-use mathlib.Core.Path.{_≡_, refl, ap, sym, _∙_}
-use mathlib.Core.Bool.{Bool, true, false, cond, not, _&&_, _||_, false≢true}
-use mathlib.Core.List.{List, [], _∷_, _++_, map}
+use mathlib.Core.Path.{_≡_, refl, sym, _∙_}
+use mathlib.Core.Bool.{Bool, true, false, cond, not, false≢true}
+use mathlib.Core.List.{List, [], _∷_, _++_}
 use mathlib.Core.Option.{Option, none, some}
 use mathlib.Core.Logic.{_⊎_, inl, inr, ⊎-elim}
 use Prim.Native.Nat.{ℕ, zero, suc, _+_, _<_, _≤_}
 use native.Mathlib.Omega.{arith}
 use native.Mathlib.Nat.{add-zero}
-use lib.Dec.{eqb}
-use lib.ListN.{length, getElem?}
-use Rattle.kinds.specs.Lists.{same, filter, any, gather, range, isNil, bind}
+use lib.ListN.{length}
+use Rattle.kinds.specs.Lists.{same, filter, any, gather, range, isNil}
 use Rattle.kinds.specs.Positions.{Pos, before, strip}
 use Rattle.kinds.proofs.Bools.{and-l, and-r, both, of-not, eqb-is, is-eqb}
 use Rattle.kinds.proofs.Options.{none-not}
 use Rattle.kinds.proofs.Members.{_∈_, here, there, ∈-left, ∈-right, ∈-append, in-filter, filter-in, on-map, map-in, on-gather, gather-in, on-any, any-of, same-is, same-refl, in-range, range-in}
-use Rattle.kinds.proofs.Prefixes.{_≼_, ≼-refl, ≼-snoc}
 use Rattle.term.specs.Terms.{Term, blank, node, Terms, tnil, tcons}
-use Rattle.term.specs.Places.{nth, sub}
+use Rattle.term.specs.Places.{nth}
 use Rattle.automaton.specs.Goals.{Goal, State, Calculus, isRoot, has, firstFrom, first, allObs, label, initial, reduced, met, deriv}
 use Rattle.automaton.specs.Classes.{gcp, liftGoal, lift}
-use Rattle.automaton.specs.Paper.{heads}
-use Rattle.automaton.specs.Bare.{owed, headsOf, fresh, args, argsOf, inPlace, bare}
+use Rattle.automaton.specs.Bare.{owed, headsOf, fresh, args, argsOf, inPlace}
 use Rattle.automaton.specs.Walking.{Setting, calculus}
 
 -- some goal of s owes at o
@@ -90,7 +90,8 @@ module _ {O : Type 0} (K : Calculus O) where
   firstFrom-in p [] = inl refl
   firstFrom-in p (o ∷ os) = go (before (K .at o) p) (firstFrom-in (K .at o) os) (firstFrom-in p os)
     where
-      go : (b : Bool) → (firstFrom K (K .at o) os ≡ K .at o) ⊎ ((x : O) × (x ∈ os) × (K .at x ≡ firstFrom K (K .at o) os)) → (firstFrom K p os ≡ p) ⊎ ((x : O) × (x ∈ os) × (K .at x ≡ firstFrom K p os))
+      go : (b : Bool) → (firstFrom K (K .at o) os ≡ K .at o) ⊎ ((x : O) × (x ∈ os) × (K .at x ≡ firstFrom K (K .at o) os))
+          → (firstFrom K p os ≡ p) ⊎ ((x : O) × (x ∈ os) × (K .at x ≡ firstFrom K p os))
           → (firstFrom K (cond b (K .at o) p) os ≡ p) ⊎ ((x : O) × (x ∈ (o ∷ os)) × (K .at x ≡ firstFrom K (cond b (K .at o) p) os))
       go true (inl e) c = inr (o, here refl, sym e)
       go true (inr e) c = inr (e .0, there (e .1), e .2)
@@ -105,10 +106,13 @@ module _ {O : Type 0} (K : Calculus O) where
       go (inr e) = (e .0, there (e .1), e .2)
 
 module _ (S : Setting) where
+  abbrev K : Calculus Pos
+  K = calculus S
+
   -- where some root goal owes something, the label is what a root goal owes
-  pub on-label {κ} : {C : Type κ} (s : State Pos) (r : Goal Pos) (o : Pos) → r ∈ s → r .ann ≡ [] → o ∈ r .obs → ((g : Goal Pos) → g ∈ s → g .ann ≡ [] → label (calculus S) s ∈ g .obs → C) → C
+  pub on-label {κ} : {C : Type κ} (s : State Pos) (r : Goal Pos) (o : Pos) → r ∈ s → r .ann ≡ [] → o ∈ r .obs → ((g : Goal Pos) → g ∈ s → g .ann ≡ [] → label K s ∈ g .obs → C) → C
   on-label s r o i e j k =
-      let x = first-in (calculus S) (allObs (filter (λ g. isRoot (g .ann)) s)) (gather-in (λ g. g .obs) (filter-in (λ g. isRoot (g .ann)) i (rw e)) j) in
+      let x = first-in K (allObs (filter (λ g. isRoot (g .ann)) s)) (gather-in (λ g. g .obs) (filter-in (λ g. isRoot (g .ann)) i (rw e)) j) in
       on-gather (λ g. g .obs) (filter (λ g. isRoot (g .ann)) s) (x .1) λ g a b.
       let w = in-filter (λ g. isRoot (g .ann)) s a in
       k g (w .0) (root (g .ann) (w .1)) (rw (← (x .2)) b)
@@ -118,103 +122,103 @@ module _ (S : Setting) where
       root (i ∷ p) e = absurd (false≢true e)
 
   -- ---- what a symbol is expected at
-  pub expects-owes : (f : ℕ) (p : Pos) (g : Goal Pos) → (calculus S) .expects f p g ≡ true → p ∈ g .obs
+  pub expects-owes : (f : ℕ) (p : Pos) (g : Goal Pos) → K .expects f p g ≡ true → p ∈ g .obs
   expects-owes f p g e = on-any (same p) (g .obs) (and-l _ e) λ o m t. rw (same-is p o t) m
 
-  pub on-expects {κ} : {C : Type κ} (f : ℕ) (p : Pos) (g : Goal Pos) → (calculus S) .expects f p g ≡ true → ((us : Terms) → owed (S .shapes) g p ≡ some (node f us) → C) → C
+  pub on-expects {κ} : {C : Type κ} (f : ℕ) (p : Pos) (g : Goal Pos) → K .expects f p g ≡ true → ((us : Terms) → owed (S .shapes) g p ≡ some (node f us) → C) → C
   on-expects f p g e k = on-headsOf f (owed (S .shapes) g p) (and-r (any (same p) (g .obs)) e) k
 
-  pub expects-of : (f : ℕ) (p : Pos) (g : Goal Pos) (us : Terms) → p ∈ g .obs → owed (S .shapes) g p ≡ some (node f us) → (calculus S) .expects f p g ≡ true
+  pub expects-of : (f : ℕ) (p : Pos) (g : Goal Pos) (us : Terms) → p ∈ g .obs → owed (S .shapes) g p ≡ some (node f us) → K .expects f p g ≡ true
   expects-of f p g us m e = both {a = any (same p) (g .obs)} (any-of (same p) m (same-refl p)) (rw e (is-eqb f f refl))
 
-  pub has-owes : (p : Pos) (os : List Pos) → p ∈ os → has (calculus S) p os ≡ true
+  pub has-owes : (p : Pos) (os : List Pos) → p ∈ os → has K p os ≡ true
   has-owes p os m = any-of (λ o. same p o) m (same-refl p)
 
-  pub owes-has : (p : Pos) (os : List Pos) → has (calculus S) p os ≡ true → p ∈ os
+  pub owes-has : (p : Pos) (os : List Pos) → has K p os ≡ true → p ∈ os
   owes-has p os e = on-any (λ o. same p o) os e λ o m t. rw (same-is p o t) m
 
   -- ---- goals of the derivative
   pub data Derived (s : State Pos) (f n : ℕ) (g : Goal Pos) : Type 0 where
-    kept : g ∈ s → has (calculus S) (label (calculus S) s) (g .obs) ≡ false → Derived s f n g
-    cut : (h : Goal Pos) → h ∈ s → (calculus S) .expects f (label (calculus S) s) h ≡ true → g ≡ reduced (calculus S) (label (calculus S) s) n h → (o : Pos) → o ∈ g .obs → Derived s f n g
-    new : (i j : ℕ) → 1 ≤ i → i ≤ n → j < length (S .shapes) → g ≡ fresh (label (calculus S) s ++ (i ∷ [])) j → Derived s f n g
+    kept : g ∈ s → has K (label K s) (g .obs) ≡ false → Derived s f n g
+    cut : (h : Goal Pos) → h ∈ s → K .expects f (label K s) h ≡ true → g ≡ reduced K (label K s) n h → (o : Pos) → o ∈ g .obs → Derived s f n g
+    new : (i j : ℕ) → 1 ≤ i → i ≤ n → j < length (S .shapes) → g ≡ fresh (label K s ++ (i ∷ [])) j → Derived s f n g
 
-  pub on-met {κ} : {C : Type κ} (s : State Pos) (f n : ℕ) {g : Goal Pos} → g ∈ met (calculus S) s f n → ((h : Goal Pos) → h ∈ s → (calculus S) .expects f (label (calculus S) s) h ≡ true → g ≡ reduced (calculus S) (label (calculus S) s) n h → C) → C
-  on-met s f n m k = on-map (reduced (calculus S) (label (calculus S) s) n) (filter ((calculus S) .expects f (label (calculus S) s)) s) m λ h i e.
-      let w = in-filter ((calculus S) .expects f (label (calculus S) s)) s i in
+  pub on-met {κ} : {C : Type κ} (s : State Pos) (f n : ℕ) {g : Goal Pos} → g ∈ met K s f n → ((h : Goal Pos) → h ∈ s → K .expects f (label K s) h ≡ true → g ≡ reduced K (label K s) n h → C) → C
+  on-met s f n m k = on-map (reduced K (label K s) n) (filter (K .expects f (label K s)) s) m λ h i e.
+      let w = in-filter (K .expects f (label K s)) s i in
       k h (w .0) (w .1) e
 
-  pub met-in : (s : State Pos) (f n : ℕ) (h : Goal Pos) → h ∈ s → (calculus S) .expects f (label (calculus S) s) h ≡ true → reduced (calculus S) (label (calculus S) s) n h ∈ met (calculus S) s f n
-  met-in s f n h m e = map-in (reduced (calculus S) (label (calculus S) s) n) (filter-in ((calculus S) .expects f (label (calculus S) s)) m e)
+  pub met-in : (s : State Pos) (f n : ℕ) (h : Goal Pos) → h ∈ s → K .expects f (label K s) h ≡ true → reduced K (label K s) n h ∈ met K s f n
+  met-in s f n h m e = map-in (reduced K (label K s) n) (filter-in (K .expects f (label K s)) m e)
 
-  pub derived : (s : State Pos) (f n : ℕ) (g : Goal Pos) → g ∈ deriv (calculus S) s f n → Derived s f n g
-  derived s f n g m = ⊎-elim old (λ i. ⊎-elim less fresh-one (∈-append (filter (λ x. not (isNil (x .obs))) (met (calculus S) s f n)) i)) (∈-append (filter (λ x. not (has (calculus S) (label (calculus S) s) (x .obs))) s) m)
+  pub derived : (s : State Pos) (f n : ℕ) (g : Goal Pos) → g ∈ deriv K s f n → Derived s f n g
+  derived s f n g m = ⊎-elim old (λ i. ⊎-elim less fresh-one (∈-append (filter (λ x. not (isNil (x .obs))) (met K s f n)) i)) (∈-append (filter (λ x. not (has K (label K s) (x .obs))) s) m)
     where
-      old : g ∈ filter (λ x. not (has (calculus S) (label (calculus S) s) (x .obs))) s → Derived s f n g
-      old i = let w = in-filter (λ x. not (has (calculus S) (label (calculus S) s) (x .obs))) s i in kept (w .0) (of-not _ (w .1))
+      old : g ∈ filter (λ x. not (has K (label K s) (x .obs))) s → Derived s f n g
+      old i = let w = in-filter (λ x. not (has K (label K s) (x .obs))) s i in kept (w .0) (of-not _ (w .1))
 
       some-left : (os : List Pos) → not (isNil os) ≡ true → (o : Pos) × (o ∈ os)
       some-left [] e = absurd (false≢true e)
       some-left (o ∷ os) e = (o, here refl)
 
-      less : g ∈ filter (λ x. not (isNil (x .obs))) (met (calculus S) s f n) → Derived s f n g
+      less : g ∈ filter (λ x. not (isNil (x .obs))) (met K s f n) → Derived s f n g
       less i =
-          let w = in-filter (λ x. not (isNil (x .obs))) (met (calculus S) s f n) i in
+          let w = in-filter (λ x. not (isNil (x .obs))) (met K s f n) i in
           let o = some-left (g .obs) (w .1) in
           on-met s f n (w .0) λ h j e d. cut h j e d (o .0) (o .1)
 
-      fresh-one : g ∈ gather (λ i. (calculus S) .fresh (label (calculus S) s ++ (i ∷ []))) (range 1 n) → Derived s f n g
+      fresh-one : g ∈ gather (λ i. K .fresh (label K s ++ (i ∷ []))) (range 1 n) → Derived s f n g
       fresh-one i =
-          on-gather (λ c. (calculus S) .fresh (label (calculus S) s ++ (c ∷ []))) (range 1 n) i λ c a b.
-          on-map (fresh (label (calculus S) s ++ (c ∷ []))) (range 0 (length (S .shapes))) b λ j d e.
+          on-gather (λ c. K .fresh (label K s ++ (c ∷ []))) (range 1 n) i λ c a b.
+          on-map (fresh (label K s ++ (c ∷ []))) (range 0 (length (S .shapes))) b λ j d e.
           let u = in-range n 1 c a in
           let v = in-range (length (S .shapes)) 0 j d in
           new c j (u .0) (omega arith) (omega arith) e
 
-  pub kept-in : (s : State Pos) (f n : ℕ) (g : Goal Pos) → g ∈ s → has (calculus S) (label (calculus S) s) (g .obs) ≡ false → g ∈ deriv (calculus S) s f n
-  kept-in s f n g m e = ∈-left _ (filter-in (λ x. not (has (calculus S) (label (calculus S) s) (x .obs))) m (rw e))
+  pub kept-in : (s : State Pos) (f n : ℕ) (g : Goal Pos) → g ∈ s → has K (label K s) (g .obs) ≡ false → g ∈ deriv K s f n
+  kept-in s f n g m e = ∈-left _ (filter-in (λ x. not (has K (label K s) (x .obs))) m (rw e))
 
-  pub cut-in : (s : State Pos) (f n : ℕ) (h : Goal Pos) → h ∈ s → (calculus S) .expects f (label (calculus S) s) h ≡ true → isNil ((reduced (calculus S) (label (calculus S) s) n h) .obs) ≡ false
-      → reduced (calculus S) (label (calculus S) s) n h ∈ deriv (calculus S) s f n
-  cut-in s f n h m e d = ∈-right (filter (λ x. not (has (calculus S) (label (calculus S) s) (x .obs))) s) (∈-left _ (filter-in (λ x. not (isNil (x .obs))) (met-in s f n h m e) (rw d)))
+  pub cut-in : (s : State Pos) (f n : ℕ) (h : Goal Pos) → h ∈ s → K .expects f (label K s) h ≡ true → isNil ((reduced K (label K s) n h) .obs) ≡ false
+      → reduced K (label K s) n h ∈ deriv K s f n
+  cut-in s f n h m e d = ∈-right (filter (λ x. not (has K (label K s) (x .obs))) s) (∈-left _ (filter-in (λ x. not (isNil (x .obs))) (met-in s f n h m e) (rw d)))
 
-  pub new-in : (s : State Pos) (f n i j : ℕ) → 1 ≤ i → i ≤ n → j < length (S .shapes) → fresh (label (calculus S) s ++ (i ∷ [])) j ∈ deriv (calculus S) s f n
+  pub new-in : (s : State Pos) (f n i j : ℕ) → 1 ≤ i → i ≤ n → j < length (S .shapes) → fresh (label K s ++ (i ∷ [])) j ∈ deriv K s f n
   new-in s f n i j l u h =
-      ∈-right (filter (λ x. not (has (calculus S) (label (calculus S) s) (x .obs))) s)
-      (∈-right (filter (λ x. not (isNil (x .obs))) (met (calculus S) s f n))
-      (gather-in (λ c. (calculus S) .fresh (label (calculus S) s ++ (c ∷ []))) (range-in n 1 i l (omega arith)) (map-in (fresh (label (calculus S) s ++ (i ∷ []))) (range-in (length (S .shapes)) 0 j (omega arith) (omega arith)))))
+      ∈-right (filter (λ x. not (has K (label K s) (x .obs))) s)
+      (∈-right (filter (λ x. not (isNil (x .obs))) (met K s f n))
+      (gather-in (λ c. K .fresh (label K s ++ (c ∷ []))) (range-in n 1 i l (omega arith)) (map-in (fresh (label K s ++ (i ∷ []))) (range-in (length (S .shapes)) 0 j (omega arith) (omega arith)))))
 
-  pub on-initial {κ} : {C : Type κ} {g : Goal Pos} → g ∈ initial (calculus S) → ((j : ℕ) → j < length (S .shapes) → g ≡ fresh [] j → C) → C
+  pub on-initial {κ} : {C : Type κ} {g : Goal Pos} → g ∈ initial K → ((j : ℕ) → j < length (S .shapes) → g ≡ fresh [] j → C) → C
   on-initial m k = on-map (fresh []) (range 0 (length (S .shapes))) m λ j d e. let v = in-range (length (S .shapes)) 0 j d in k j (omega arith) e
 
-  pub initial-in : (j : ℕ) → j < length (S .shapes) → fresh [] j ∈ initial (calculus S)
+  pub initial-in : (j : ℕ) → j < length (S .shapes) → fresh [] j ∈ initial K
   initial-in j h = map-in (fresh []) (range-in (length (S .shapes)) 0 j (omega arith) (omega arith))
 
   -- ---- its obligation positions
   pub data From (s : State Pos) (n : ℕ) (o : Pos) : Type 0 where
-    old : Owes s o → (o ≡ label (calculus S) s → ⊥) → From s n o
-    under : (i : ℕ) → 1 ≤ i → i ≤ n → o ≡ label (calculus S) s ++ (i ∷ []) → From s n o
+    old : Owes s o → (o ≡ label K s → ⊥) → From s n o
+    under : (i : ℕ) → 1 ≤ i → i ≤ n → o ≡ label K s ++ (i ∷ []) → From s n o
 
   not-it : {p o : Pos} → same p o ≡ false → o ≡ p → ⊥
   not-it {p} {o} e d = false≢true (sym e ∙ rw d (same-refl p))
 
-  pub from : (s : State Pos) (f n : ℕ) (g : Goal Pos) (o : Pos) → g ∈ deriv (calculus S) s f n → o ∈ g .obs → From s n o
+  pub from : (s : State Pos) (f n : ℕ) (g : Goal Pos) (o : Pos) → g ∈ deriv K s f n → o ∈ g .obs → From s n o
   from s f n g o m i = go (derived s f n g m)
     where
       only : {p : Pos} → o ∈ (p ∷ []) → o ≡ p
       only (here d) = d
 
       go : Derived s f n g → From s n o
-      go (kept a e) = old (owes a i) (λ d. false≢true (sym e ∙ has-owes (label (calculus S) s) (g .obs) (rw (← d) i)))
-      go (cut h a e d x j) = on-inPlace (label (calculus S) s) (argsOf (label (calculus S) s) n (owed (S .shapes) h (label (calculus S) s))) (h .obs) (rw d at i)
+      go (kept a e) = old (owes a i) (λ d. false≢true (sym e ∙ has-owes (label K s) (g .obs) (rw (← d) i)))
+      go (cut h a e d x j) = on-inPlace (label K s) (argsOf (label K s) n (owed (S .shapes) h (label K s))) (h .obs) (rw d at i)
           (λ b ne. old (owes a b) (not-it ne))
-          (λ b c. args-under (label (calculus S) s) n (owed (S .shapes) h (label (calculus S) s)) c under)
+          (λ b c. args-under (label K s) n (owed (S .shapes) h (label K s)) c under)
       go (new c j l u h d) = under c l u (only (rw d at i))
 
   -- ---- lifting
-  pub on-lifted {κ} : {C : Type κ} (k : State Pos) (o : Pos) → Owes (lift (calculus S) k) o → ((x : Pos) (g : Goal Pos) → g ∈ k → x ∈ g .obs → o ≡ strip (gcp k) x → C) → C
+  pub on-lifted {κ} : {C : Type κ} (k : State Pos) (o : Pos) → Owes (lift K k) o → ((x : Pos) (g : Goal Pos) → g ∈ k → x ∈ g .obs → o ≡ strip (gcp k) x → C) → C
   on-lifted k o m c =
-      on-gather (λ g. g .obs) (lift (calculus S) k) m λ g i j.
-      on-map (liftGoal (calculus S) (gcp k)) k i λ h a e.
+      on-gather (λ g. g .obs) (lift K k) m λ g i j.
+      on-map (liftGoal K (gcp k)) k i λ h a e.
       on-map (strip (gcp k)) (h .obs) (rw e at j) λ x b d.
       c x h a b (rw d)

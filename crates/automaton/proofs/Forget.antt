@@ -1,15 +1,15 @@
 -- A map of obligations that commutes with each part of two calculi commutes with every stage, down to the words of the plan.
 --   forget forgets                  a goal, a state with each obligation mapped
 --   Carries                         the map commutes with each part, on the goals that are Right; and what is made of these is Right
+--   AllRight AllRights              of all goals of a state, of states
 --   label-same outputs-same deriv-same classes-same gcp-same lift-same sameState-same   and so with each stage
---   explored-same plan-same         the same states are numbered and the same plan is made, or refused
-use mathlib.Core.Path.{_≡_, refl, ap, ap₂, sym, _∙_, subst}
+--   plan-same                       so the same plan is made, or refused
+use mathlib.Core.Path.{_≡_, refl, ap, ap₂, sym, _∙_}
 use mathlib.Core.Bool.{Bool, true, false, cond, not, _&&_, _||_}
 use mathlib.Core.List.{List, [], _∷_, _++_, map}
 use mathlib.Core.Option.{Option, none, some}
-use mathlib.Core.Logic.{_⊎_, inl, inr, ⊎-elim}
-use Prim.Native.Nat.{ℕ, zero, suc, _+_, _<_}
-use native.Mathlib.Omega.{arith}
+use mathlib.Core.Logic.{⊎-elim}
+use Prim.Native.Nat.{ℕ, zero, suc}
 use lib.Dec.{eqb, ltb, leb}
 use lib.ListN.{length, getD, length-map, List·getD-map}
 use Rattle.kinds.specs.Lists.{same, filter, any, all, sort, gather, range, find, isNil}
@@ -22,12 +22,12 @@ use Rattle.kinds.proofs.ListLaws.{map-append, map-map, map-same, filter-map, fi
 use Rattle.kinds.proofs.Places.{getD-in}
 use Rattle.kinds.proofs.Prefixes.{_≼_}
 use Rattle.automaton.specs.Goals.{Goal, State, Calculus, isRoot, has, firstFrom, first, allObs, label, initial, reduced, met, deriv, announcement, annBefore, outputs}
-use Rattle.automaton.specs.Classes.{Square, dep, square, closed, picked, rowsFrom, classBefore, classes, gcpFrom, gcp, liftGoal, lift, sameGoal, sameState}
-use Rattle.automaton.specs.Exploring.{Succ, Block, Met, stopped, Made, refused, made, andThen, thenBlock, thenMore, numbered, meet, meets, row, run, explored}
-use Rattle.automaton.specs.Exploring.{met as found}
-use Rattle.automaton.specs.PlanWords.{too-long, plan-of, planWords, toPlan, planned}
+use Rattle.automaton.specs.Classes.{dep, square, closed, picked, rowsFrom, classBefore, classes, gcpFrom, gcp, liftGoal, lift, sameGoal, sameState}
+use Rattle.automaton.specs.Exploring.{construction}
+use Rattle.automaton.specs.PlanWords.{planned}
 use Rattle.automaton.proofs.Classes.{class-sub}
 use Rattle.automaton.proofs.Root.{gcp-below}
+use Rattle.automaton.proofs.Simulation.{Simulates, plan-simulated}
 
 module _ {O P : Type 0} (h : O → P) where
   abbrev pub forget : Goal O → Goal P
@@ -56,10 +56,6 @@ picked-same h [] s = refl
 picked-same h (b ∷ bs) [] = refl
 picked-same h (true ∷ bs) (g ∷ s) = ap (λ l. h g ∷ l) (picked-same h bs s)
 picked-same h (false ∷ bs) (g ∷ s) = picked-same h bs s
-
-find-same : {A B : Type 0} (h : A → B) (p : A → Bool) (q : B → Bool) (xs : List A) (c : ℕ) → ((x : A) → x ∈ xs → p x ≡ q (h x)) → find p xs c ≡ find q (map h xs) c
-find-same h p q [] c e = refl
-find-same h p q (x ∷ xs) c e = rw (e x (here refl), find-same h p q xs (suc c) (λ y m. e y (there m)))
 
 -- two tests under a third
 under : (a c c′ d d′ : Bool) → (a ≡ true → c ≡ c′) → (a ≡ true → d ≡ d′) → (a && c && d) ≡ (a && c′ && d′)
@@ -189,7 +185,8 @@ module _ {O P : Type 0} (K : Calculus O) (J : Calculus P) (h : O → P) (Right :
   lift-right k r g m = on-map (liftGoal K (gcp k)) k m λ y i e. rw e (carries .lifted-right (gcp k) y (gcp-below k y i) (r y i))
 
   -- ---- equality of states
-  inside-same : (g g′ : Goal O) → Right g → Right g′ → g .shape ≡ g′ .shape → g .ann ≡ g′ .ann → all (λ o. any (K .alike o) (g′ .obs)) (g .obs) ≡ all (λ o. any (J .alike o) (map h (g′ .obs))) (map h (g .obs))
+  inside-same : (g g′ : Goal O) → Right g → Right g′ → g .shape ≡ g′ .shape → g .ann ≡ g′ .ann
+      → all (λ o. any (K .alike o) (g′ .obs)) (g .obs) ≡ all (λ o. any (J .alike o) (map h (g′ .obs))) (map h (g .obs))
   inside-same g g′ rg rg′ es ea =
       all-same _ _ (g .obs) (λ o i. any-same _ _ (g′ .obs) (λ x j. carries .alike g g′ rg rg′ es ea o x i j) ∙ sym (any-map h (J .alike (h o)) (g′ .obs)))
       ∙ sym (all-map h (λ o. any (J .alike o) (map h (g′ .obs))) (g .obs))
@@ -211,96 +208,20 @@ module _ {O P : Type 0} (K : Calculus O) (J : Calculus P) (h : O → P) (Right :
   sameState-same s t rs rt = ap₂ _&&_ (half-same s t rs rt) (half-same t s rt rs)
 
   -- ---- exploring
-  abbrev pub AllRights : List (State O) → Type 0
-  AllRights ss = (s : State O) → s ∈ ss → AllRight s
+  carried : (ar : List ℕ) → Simulates (construction K) (construction J) (forgets h) AllRight AllRight ar
+  carried ar = record {
+    start = carries .fresh [];
+    start-right = carries .fresh-right [];
+    label = λ s r. label-same s;
+    outputs = λ s r f n e. outputs-same s r f n;
+    classes = λ s r f n e. classes-same (deriv K s f n) ∙ ap (classes J) (deriv-same s r f n);
+    parts = λ s r f n e k m g j. deriv-right s r f n g (class-sub K (deriv K s f n) k m g j);
+    size = λ k r. length-map k (forget h);
+    gcp = λ k r. gcp-same k;
+    lift = λ k r. lift-same k;
+    lifted = λ k r l. lift-right k r;
+    same = sameState-same;
+  }
 
-  -- the two answers say the same
-  data SameMet : Met O → Met P → Type 0 where
-    both-stop : (r : Reason) → SameMet (stopped r) (stopped r)
-    both-met : (ss : List (State O)) (xs : List Succ) → AllRights ss → SameMet (found ss xs) (found (map (forgets h) ss) xs)
-
-  pub data SameMade : Made O → Made P → Type 0 where
-    both-refuse : (r : Reason) (i : ℕ) → SameMade (refused r i) (refused r i)
-    both-made : (ss : List (State O)) (bs : List Block) → ((s : State O) → s ∈ ss → (g : Goal O) → g ∈ s → Right g) → SameMade (made ss bs) (made (map (forgets h) ss) bs)
-
-  numbered-same : (o : Option ℕ) (ss : List (State O)) (k : State O) (c : Pos) → AllRights ss → AllRight k → SameMet (numbered o ss k c) (numbered o (map (forgets h) ss) (forgets h k) c)
-  numbered-same (some i) ss k c rs rk = both-met ss (record { to = i; by = c } ∷ []) rs
-  numbered-same none ss k c rs rk = rw (length-map ss (forgets h), ← (map-append (forgets h) ss (k ∷ []))) (go (leb 128 (length ss)))
-    where
-      one-more : AllRights (ss ++ (k ∷ []))
-      one-more s m = ⊎-elim (λ i. rs s i) last (∈-append ss m)
-        where
-          last : s ∈ (k ∷ []) → AllRight s
-          last (here e) = rw e rk
-
-      go : (b : Bool) → SameMet (cond b (stopped ManyStates) (found (ss ++ (k ∷ [])) (record { to = length ss; by = c } ∷ []))) (cond b (stopped ManyStates) (found (map (forgets h) (ss ++ (k ∷ []))) (record { to = length ss; by = c } ∷ [])))
-      go true = both-stop ManyStates
-      go false = both-met (ss ++ (k ∷ [])) (record { to = length ss; by = c } ∷ []) one-more
-
-  meet-same : (ss : List (State O)) (k : State O) → AllRights ss → AllRight k → SameMet (meet K ss k) (meet J (map (forgets h) ss) (forgets h k))
-  meet-same ss k rs rk = rw (length-map k (forget h), ← (lift-same k), gcp-same k, ← there-too) (go (ltb 32 (length k)))
-    where
-      there-too : find (sameState K (lift K k)) ss 0 ≡ find (sameState J (forgets h (lift K k))) (map (forgets h) ss) 0
-      there-too = find-same (forgets h) (sameState K (lift K k)) (sameState J (forgets h (lift K k))) ss 0 (λ s m. sameState-same (lift K k) s (lift-right k rk) (rs s m))
-
-      go : (b : Bool) → SameMet (cond b (stopped ManyGoals) (numbered (find (sameState K (lift K k)) ss 0) ss (lift K k) (gcp k))) (cond b (stopped ManyGoals) (numbered (find (sameState K (lift K k)) ss 0) (map (forgets h) ss) (forgets h (lift K k)) (gcp k)))
-      go true = both-stop ManyGoals
-      go false = numbered-same (find (sameState K (lift K k)) ss 0) ss (lift K k) (gcp k) rs (lift-right k rk)
-
-  andThen-same : {m : Met O} {m′ : Met P} (f : List (State O) → List Succ → Met O) (f′ : List (State P) → List Succ → Met P) → SameMet m m′ → ((ss : List (State O)) (xs : List Succ) → AllRights ss → SameMet (f ss xs) (f′ (map (forgets h) ss) xs)) → SameMet (andThen m f) (andThen m′ f′)
-  andThen-same f f′ (both-stop r) k = both-stop r
-  andThen-same f f′ (both-met ss xs rs) k = k ss xs rs
-
-  meets-same : (ks ss : List (State O)) → AllRights ss → AllRights ks → SameMet (meets K ss ks) (meets J (map (forgets h) ss) (map (forgets h) ks))
-  meets-same [] ss rs rk = both-met ss [] rs
-  meets-same (k ∷ ks) ss rs rk =
-      andThen-same (λ ss₁ xs. andThen (meets K ss₁ ks) (λ ss₂ ys. found ss₂ (xs ++ ys))) (λ ss₁ xs. andThen (meets J ss₁ (map (forgets h) ks)) (λ ss₂ ys. found ss₂ (xs ++ ys))) (meet-same ss k rs (rk k (here refl)))
-      (λ ss₁ xs r₁. andThen-same (λ ss₂ ys. found ss₂ (xs ++ ys)) (λ ss₂ ys. found ss₂ (xs ++ ys)) (meets-same ks ss₁ r₁ (λ y m. rk y (there m))) (λ ss₂ ys r₂. both-met ss₂ (xs ++ ys) r₂))
-
-  row-same : (i : ℕ) (s : State O) → AllRight s → (ns : List ℕ) (f : ℕ) (ss : List (State O)) (bs : List Block) → AllRights ss → SameMade (row K i s f ns ss bs) (row J i (forgets h s) f ns (map (forgets h) ss) bs)
-  row-same i s r [] f ss bs rs = both-made ss bs rs
-  row-same i s r (n ∷ ns) f ss bs rs =
-      rw (← same-classes, outputs-same s r f n) (go (meets-same (classes K (deriv K s f n)) ss rs (λ k m g j. deriv-right s r f n g (class-sub K (deriv K s f n) k m g j))) (λ ss₁ bs₁ r₁. row-same i s r ns (suc f) ss₁ bs₁ r₁))
-    where
-      same-classes : map (forgets h) (classes K (deriv K s f n)) ≡ classes J (deriv J (forgets h s) f n)
-      same-classes = classes-same (deriv K s f n) ∙ ap (classes J) (deriv-same s r f n)
-
-      go : {m : Met O} {m′ : Met P} → SameMet m m′ → ((ss₁ : List (State O)) (bs₁ : List Block) → AllRights ss₁ → SameMade (row K i s (suc f) ns ss₁ bs₁) (row J i (forgets h s) (suc f) ns (map (forgets h) ss₁) bs₁))
-          → SameMade (thenBlock i (outputs K s f n) bs m (λ ss₁ bs₁. row K i s (suc f) ns ss₁ bs₁)) (thenBlock i (outputs K s f n) bs m′ (λ ss₁ bs₁. row J i (forgets h s) (suc f) ns ss₁ bs₁))
-      go (both-stop c) ih = both-refuse c i
-      go (both-met ss₁ xs r₁) ih = ih ss₁ (bs ++ (record { out = outputs K s f n; succs = xs } ∷ [])) r₁
-
-  thenMore-same : {m : Made O} {m′ : Made P} (k : List (State O) → List Block → Made O) (k′ : List (State P) → List Block → Made P) → SameMade m m′ → ((ss : List (State O)) (bs : List Block) → AllRights ss → SameMade (k ss bs) (k′ (map (forgets h) ss) bs)) → SameMade (thenMore m k) (thenMore m′ k′)
-  thenMore-same k k′ (both-refuse r i) f = both-refuse r i
-  thenMore-same k k′ (both-made ss bs rs) f = f ss bs rs
-
-  run-same : (ar : List ℕ) (fuel i : ℕ) (ss : List (State O)) (bs : List Block) → AllRights ss → SameMade (run K ar fuel i ss bs) (run J ar fuel i (map (forgets h) ss) bs)
-  run-same ar zero i ss bs rs = both-made ss bs rs
-  run-same ar (suc fuel) i ss bs rs = rw (length-map ss (forgets h), List·getD-map (forgets h) ss i []) (go (ltb i (length ss)) refl (λ ss₁ bs₁ r₁. run-same ar fuel (suc i) ss₁ bs₁ r₁))
-    where
-      go : (b : Bool) → ltb i (length ss) ≡ b → ((ss₁ : List (State O)) (bs₁ : List Block) → AllRights ss₁ → SameMade (run K ar fuel (suc i) ss₁ bs₁) (run J ar fuel (suc i) (map (forgets h) ss₁) bs₁))
-          → SameMade (cond b (thenMore (row K i (getD ss i []) 0 ar ss bs) (λ ss₁ bs₁. run K ar fuel (suc i) ss₁ bs₁)) (made ss bs))
-          (cond b (thenMore (row J i (forgets h (getD ss i [])) 0 ar (map (forgets h) ss) bs) (λ ss₁ bs₁. run J ar fuel (suc i) ss₁ bs₁)) (made (map (forgets h) ss) bs))
-      go true e ih = thenMore-same (λ ss₁ bs₁. run K ar fuel (suc i) ss₁ bs₁) (λ ss₁ bs₁. run J ar fuel (suc i) ss₁ bs₁)
-          (row-same i (getD ss i []) (rs (getD ss i []) (getD-in ss i [] (ltb-is i (length ss) e))) ar 0 ss bs rs) ih
-      go false e ih = both-made ss bs rs
-
-  pub explored-same : (ar : List ℕ) → SameMade (explored K ar) (explored J ar)
-  explored-same ar = rw (← (carries .fresh [])) (run-same ar 128 0 (initial K ∷ []) [] only)
-    where
-      only : AllRights (initial K ∷ [])
-      only s (here e) = rw e (carries .fresh-right [])
-
-  -- ---- the words
-  words-same : (k n : ℕ) (ss : List (State O)) (bs : List Block) → planWords J k n (map (forgets h) ss) bs ≡ planWords K k n ss bs
-  words-same k n ss bs =
-      let l : map (λ s. code (label J s)) (map (forgets h) ss) ≡ map (λ s. code (label K s)) ss = map-map (λ s. code (label J s)) (forgets h) ss ∙ map-same _ _ ss (λ s m. ap code (label-same s)) in
-      rw (l, length-map ss (forgets h))
-
-  pub plan-same : (ar : List ℕ) (n room : ℕ) → planned K ar n room ≡ planned J ar n room
-  plan-same ar n room = go (explored K ar) (explored J ar) (explored-same ar)
-    where
-      go : (m : Made O) (m′ : Made P) → SameMade m m′ → toPlan K room (length ar) n m ≡ toPlan J room (length ar) n m′
-      go (refused r i) m′ (both-refuse a b) = refl
-      go (made ss bs) m′ (both-made a b rs) =
-          ap₂ (λ (w : List ℕ) (m : ℕ). cond (ltb room (length w) || ltb 65535 (length w)) too-long (plan-of m w)) (sym (words-same (length ar) n ss bs)) (sym (length-map ss (forgets h)))
+  pub plan-same : (ar : List ℕ) (n room : ℕ) → planned (construction K) ar n room ≡ planned (construction J) ar n room
+  plan-same ar n room = plan-simulated (construction K) (construction J) (forgets h) AllRight AllRight ar (carried ar) n room

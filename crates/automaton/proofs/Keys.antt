@@ -2,27 +2,27 @@
 --   keyed-one keyed-distinct
 --   freshes-keyed met-keyed deriv-keyed class-keyed lift-keyed
 use mathlib.Core.Path.{_≡_, refl, ap, sym, _∙_}
-use mathlib.Core.Bool.{Bool, true, false, not, _&&_, false≢true}
-use mathlib.Core.List.{List, [], _∷_, _++_, map}
-use mathlib.Core.Logic.{_⊎_, inl, inr, ⊎-elim}
-use Prim.Native.Nat.{ℕ, zero, suc, _+_, _<_, _≤_}
+use mathlib.Core.Bool.{true, not, false≢true}
+use mathlib.Core.List.{[], _∷_, _++_}
+use mathlib.Core.Logic.{⊎-elim}
+use Prim.Native.Nat.{ℕ, _<_}
 use native.Mathlib.Omega.{arith}
 use lib.ListN.{length, length-append}
 use Rattle.kinds.specs.Lists.{filter, gather, range, isNil}
-use Rattle.kinds.specs.Positions.{Pos, strip}
+use Rattle.kinds.specs.Positions.{Pos}
 use Rattle.kinds.proofs.Bools.{and-l}
-use Rattle.kinds.proofs.Members.{_∈_, here, there, ∈-append, in-filter, on-map, on-gather, Distinct}
+use Rattle.kinds.proofs.Members.{_∈_, ∈-append, in-filter, on-map, on-gather, Distinct}
 use Rattle.kinds.proofs.Pairwise.{Pairwise, pairwise-append, pairwise-filter, pairwise-two, pairwise-distinct, pairwise-map, pairwise-gather, pairwise-range}
 use Rattle.kinds.proofs.ListLaws.{append-same}
 use Rattle.kinds.proofs.Prefixes.{_≼_, ≼-trans, ≼-length, strip-join}
-use Rattle.automaton.specs.Goals.{Goal, State, has, label, reduced, met, deriv}
-use Rattle.automaton.specs.Classes.{picked, rowsFrom, closed, classes, classBefore, gcp, liftGoal, lift}
+use Rattle.automaton.specs.Goals.{Calculus, Goal, State, has, label, reduced, met, deriv}
+use Rattle.automaton.specs.Classes.{classes, gcp, liftGoal, lift}
 use Rattle.automaton.specs.Bare.{fresh}
 use Rattle.automaton.specs.Walking.{Setting, calculus}
 use Rattle.automaton.proofs.Classes.{class-is, pairwise-picked}
 use Rattle.automaton.proofs.Root.{gcp-below}
 use Rattle.automaton.proofs.Derivative.{owes, on-met}
-use Rattle.automaton.proofs.Sound.{SameKey, Other, Sound, SoundState}
+use Rattle.automaton.proofs.Sound.{SameKey, Other, SoundState}
 use Rattle.automaton.proofs.Apart.{label-owes, child-below}
 
 pub keyed-one : (s : State Pos) → Pairwise Other s → (g h : Goal Pos) → g ∈ s → h ∈ s → SameKey g h → g ≡ h
@@ -35,61 +35,70 @@ last-same : (p : Pos) (i j : ℕ) → p ++ (i ∷ []) ≡ p ++ (j ∷ []) → i 
 last-same p i j e = let z : i ∷ [] ≡ j ∷ [] = append-same p (i ∷ []) (j ∷ []) e in cc
 
 module _ (S : Setting) where
-  pub freshes-keyed : (p : Pos) → Pairwise Other ((calculus S) .fresh p)
+  abbrev K : Calculus Pos
+  K = calculus S
+
+  pub freshes-keyed : (p : Pos) → Pairwise Other (K .fresh p)
   freshes-keyed p = pairwise-map _<_ Other (fresh p) (range 0 (length (S .shapes))) (λ x y i j l e. let z : x ≡ y = e .0 in omega arith) (pairwise-range 0 (length (S .shapes)))
 
-  fresh-ann : (p : Pos) (g : Goal Pos) → g ∈ (calculus S) .fresh p → g .ann ≡ p
+  fresh-ann : (p : Pos) (g : Goal Pos) → g ∈ K .fresh p → g .ann ≡ p
   fresh-ann p g m = on-map (fresh p) (range 0 (length (S .shapes))) m λ i a e. rw e
 
   module _ (s : State Pos) (w : SoundState S s) (f n : ℕ) where
-    pub met-keyed : Pairwise Other (met (calculus S) s f n)
-    met-keyed = pairwise-map Other Other (reduced (calculus S) (label (calculus S) s) n) (filter ((calculus S) .expects f (label (calculus S) s)) s) (λ x y i j o e. o e)
-        (pairwise-filter Other ((calculus S) .expects f (label (calculus S) s)) s (w .goals .keyed))
+    abbrev L : Pos
+    L = label K s
+
+    abbrev D : State Pos
+    D = deriv K s f n
+
+    pub met-keyed : Pairwise Other (met K s f n)
+    met-keyed = pairwise-map Other Other (reduced K L n) (filter (K .expects f L) s) (λ x y i j o e. o e)
+        (pairwise-filter Other (K .expects f L) s (w .goals .keyed))
 
     -- no goal of the state announces right below the label: it would owe below the label
-    not-below-label : (g : Goal Pos) → g ∈ s → (i : ℕ) → g .ann ≡ label (calculus S) s ++ (i ∷ []) → ⊥
+    not-below-label : (g : Goal Pos) → g ∈ s → (i : ℕ) → g .ann ≡ L ++ (i ∷ []) → ⊥
     not-below-label g m i e = let o = w .goals .owing g m in go (o .0) (o .1) (g .ann) e (w .goals .low g m (o .0) (o .1))
       where
-        go : (o : Pos) → o ∈ g .obs → (a : Pos) → a ≡ label (calculus S) s ++ (i ∷ []) → o ≼ a → ⊥
+        go : (o : Pos) → o ∈ g .obs → (a : Pos) → a ≡ L ++ (i ∷ []) → o ≼ a → ⊥
         go o j a d h =
-            let down : o ≼ (label (calculus S) s ++ (i ∷ [])) = rw d at h in
-            let z : o ≡ label (calculus S) s = w .goals .apart o (label (calculus S) s) (owes m j) (label-owes S s w) (≼-trans down (child-below (label (calculus S) s) i)) in
-            let y : length o ≡ length (label (calculus S) s) = ap length z in
+            let down : o ≼ (L ++ (i ∷ [])) = rw d at h in
+            let z : o ≡ L = w .goals .apart o L (owes m j) (label-owes S s w) (≼-trans down (child-below L i)) in
+            let y : length o ≡ length L = ap length z in
             let v = rw length-append at (≼-length down) in
             omega arith
 
-    new-keyed : Pairwise Other (gather (λ i. (calculus S) .fresh (label (calculus S) s ++ (i ∷ []))) (range 1 n))
-    new-keyed = pairwise-gather _<_ Other (λ i. (calculus S) .fresh (label (calculus S) s ++ (i ∷ []))) (range 1 n) (λ i m. freshes-keyed (label (calculus S) s ++ (i ∷ [])))
-        (λ i j a b l g h c d e. let z : i ≡ j = last-same (label (calculus S) s) i j (sym (fresh-ann (label (calculus S) s ++ (i ∷ [])) g c) ∙ e .1 ∙ fresh-ann (label (calculus S) s ++ (j ∷ [])) h d) in omega arith)
+    new-keyed : Pairwise Other (gather (λ i. K .fresh (L ++ (i ∷ []))) (range 1 n))
+    new-keyed = pairwise-gather _<_ Other (λ i. K .fresh (L ++ (i ∷ []))) (range 1 n) (λ i m. freshes-keyed (L ++ (i ∷ [])))
+        (λ i j a b l g h c d e. let z : i ≡ j = last-same L i j (sym (fresh-ann (L ++ (i ∷ [])) g c) ∙ e .1 ∙ fresh-ann (L ++ (j ∷ [])) h d) in omega arith)
         (pairwise-range 1 n)
 
-    old-new : (g h x : Goal Pos) → x ∈ s → SameKey x g → h ∈ gather (λ i. (calculus S) .fresh (label (calculus S) s ++ (i ∷ []))) (range 1 n) → Other g h
-    old-new g h x i k m e = on-gather (λ c. (calculus S) .fresh (label (calculus S) s ++ (c ∷ []))) (range 1 n) m λ c a b. not-below-label x i c (k .1 ∙ e .1 ∙ fresh-ann (label (calculus S) s ++ (c ∷ [])) h b)
+    old-new : (g h x : Goal Pos) → x ∈ s → SameKey x g → h ∈ gather (λ i. K .fresh (L ++ (i ∷ []))) (range 1 n) → Other g h
+    old-new g h x i k m e = on-gather (λ c. K .fresh (L ++ (c ∷ []))) (range 1 n) m λ c a b. not-below-label x i c (k .1 ∙ e .1 ∙ fresh-ann (L ++ (c ∷ [])) h b)
 
-    pub deriv-keyed : Pairwise Other (deriv (calculus S) s f n)
-    deriv-keyed = pairwise-append Other A (B ++ C) (pairwise-filter Other (λ g. not (has (calculus S) (label (calculus S) s) (g .obs))) s (w .goals .keyed))
-        (pairwise-append Other B C (pairwise-filter Other (λ g. not (isNil (g .obs))) (met (calculus S) s f n) met-keyed) new-keyed
-        (λ g h i j. on-met S s f n ((in-filter (λ x. not (isNil (x .obs))) (met (calculus S) s f n) i) .0) λ x a b e. old-new g h x a (rw e (refl, refl)) j))
-        (λ g h i j. ⊎-elim (λ b. cross g h i b) (λ c. old-new g h g ((in-filter (λ y. not (has (calculus S) (label (calculus S) s) (y .obs))) s i) .0) (refl, refl) c) (∈-append B j))
+    pub deriv-keyed : Pairwise Other D
+    deriv-keyed = pairwise-append Other A (B ++ C) (pairwise-filter Other (λ g. not (has K L (g .obs))) s (w .goals .keyed))
+        (pairwise-append Other B C (pairwise-filter Other (λ g. not (isNil (g .obs))) (met K s f n) met-keyed) new-keyed
+        (λ g h i j. on-met S s f n ((in-filter (λ x. not (isNil (x .obs))) (met K s f n) i) .0) λ x a b e. old-new g h x a (rw e (refl, refl)) j))
+        (λ g h i j. ⊎-elim (λ b. cross g h i b) (λ c. old-new g h g ((in-filter (λ y. not (has K L (y .obs))) s i) .0) (refl, refl) c) (∈-append B j))
       where
         A : State Pos
-        A = filter (λ g. not (has (calculus S) (label (calculus S) s) (g .obs))) s
+        A = filter (λ g. not (has K L (g .obs))) s
 
         B : State Pos
-        B = filter (λ g. not (isNil (g .obs))) (met (calculus S) s f n)
+        B = filter (λ g. not (isNil (g .obs))) (met K s f n)
 
         C : State Pos
-        C = gather (λ i. (calculus S) .fresh (label (calculus S) s ++ (i ∷ []))) (range 1 n)
+        C = gather (λ i. K .fresh (L ++ (i ∷ []))) (range 1 n)
 
         cross : (g h : Goal Pos) → g ∈ A → h ∈ B → Other g h
-        cross g h i j k = on-met S s f n ((in-filter (λ x. not (isNil (x .obs))) (met (calculus S) s f n) j) .0) λ x a b e.
-            let u = in-filter (λ y. not (has (calculus S) (label (calculus S) s) (y .obs))) s i in
+        cross g h i j k = on-met S s f n ((in-filter (λ x. not (isNil (x .obs))) (met K s f n) j) .0) λ x a b e.
+            let u = in-filter (λ y. not (has K L (y .obs))) s i in
             let z : g ≡ x = keyed-one s (w .goals .keyed) g x (u .0) a (rw e at k) in
-            let v : has (calculus S) (label (calculus S) s) (g .obs) ≡ true = rw z (and-l _ b) in
+            let v : has K L (g .obs) ≡ true = rw z (and-l _ b) in
             false≢true (sym (ap not v) ∙ u .1)
 
-  pub class-keyed : (d k : State Pos) → Pairwise Other d → k ∈ classes (calculus S) d → Pairwise Other k
-  class-keyed d k a m = let c = class-is (calculus S) d k m in rw (c .is) (pairwise-picked Other (c .row) d a)
+  pub class-keyed : (d k : State Pos) → Pairwise Other d → k ∈ classes K d → Pairwise Other k
+  class-keyed d k a m = let c = class-is K d k m in rw (c .is) (pairwise-picked Other (c .row) d a)
 
-  pub lift-keyed : (k : State Pos) → Pairwise Other k → Pairwise Other (lift (calculus S) k)
-  lift-keyed k a = pairwise-map Other Other (liftGoal (calculus S) (gcp k)) k (λ g h i j o e. o (e .0, sym (strip-join (gcp k) (g .ann) (gcp-below k g i)) ∙ ap (λ x. gcp k ++ x) (e .1) ∙ strip-join (gcp k) (h .ann) (gcp-below k h j))) a
+  pub lift-keyed : (k : State Pos) → Pairwise Other k → Pairwise Other (lift K k)
+  lift-keyed k a = pairwise-map Other Other (liftGoal K (gcp k)) k (λ g h i j o e. o (e .0, sym (strip-join (gcp k) (g .ann) (gcp-below k g i)) ∙ ap (λ x. gcp k ++ x) (e .1) ∙ strip-join (gcp k) (h .ann) (gcp-below k h j))) a

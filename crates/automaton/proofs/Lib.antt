@@ -1,9 +1,10 @@
 -- What is proved of the construction.
+pub mod ClassOrder
 pub mod Closure
 pub mod Classes
 pub mod Root
+pub mod Simulation
 pub mod Forget
-pub mod Subterms
 pub mod SamePlan
 pub mod Derivative
 pub mod Sound
@@ -13,3 +14,17 @@ pub mod Fresh
 pub mod Keys
 pub mod Bounds
 pub mod Reachable
+pub mod Alike
+pub mod Numbered
+pub mod Covers
+pub mod Invariant
+pub mod ReadOnce
+pub mod History
+pub mod Announced
+pub mod Onward
+pub mod Steps
+pub mod Counts
+pub mod Marks
+pub mod Explored
+pub mod OpenNodes
+pub mod Walks

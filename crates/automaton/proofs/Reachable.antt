@@ -1,28 +1,26 @@
 -- Every reachable state is sound; so are its derivatives and their classes.
---   initial-sound deriv-sound class-sound lift-sound
+--   initial-owes initial-sound deriv-sound class-sound lift-sound
 --   reachable-sound      S1 to S6 of a reachable state
 --   class-announces      a class of a derivative has a goal that announces at its greatest common prefix
 --   next-sound           a class of a derivative, lifted, is a sound state again
 use mathlib.Core.Path.{_≡_, refl, ap, sym, _∙_}
-use mathlib.Core.List.{List, [], _∷_}
-use mathlib.Core.Option.{Option, some}
-use Prim.Native.Nat.{ℕ, _<_, _≤_}
+use mathlib.Core.List.{[], _∷_}
+use mathlib.Core.Option.{some}
+use Prim.Native.Nat.{ℕ}
 use native.Mathlib.Omega.{arith}
-use lib.ListN.{length, getElem?}
+use lib.ListN.{getElem?}
 use Rattle.kinds.specs.Positions.{Pos, strip}
-use Rattle.kinds.proofs.Members.{_∈_, here, there, _⊆_, on-map, map-in}
-use Rattle.kinds.proofs.Pairwise.{Pairwise}
+use Rattle.kinds.proofs.Members.{_∈_, here, _⊆_, on-map, map-in}
 use Rattle.kinds.proofs.Prefixes.{_≼_, ≼-refl, strip-self, strip-below, strip-back}
-use Rattle.kinds.proofs.Ordered.{Before}
-use Rattle.kinds.proofs.Codes.{Small, proper-nil}
-use Rattle.automaton.specs.Goals.{Goal, State, initial, deriv}
+use Rattle.kinds.proofs.Codes.{proper-nil}
+use Rattle.automaton.specs.Goals.{Calculus, Goal, State, initial, deriv}
 use Rattle.automaton.specs.Classes.{classes, gcp, liftGoal, lift}
 use Rattle.automaton.specs.Bare.{fresh}
-use Rattle.automaton.specs.Walking.{Reach, init, next, Setting, calculus, Reachable}
+use Rattle.automaton.specs.Walking.{init, next, Setting, calculus, Reachable}
 use Rattle.automaton.proofs.Classes.{class-sub}
 use Rattle.automaton.proofs.Root.{Top, class-top, gcp-below}
 use Rattle.automaton.proofs.Derivative.{Owes, owes, on-owes, on-initial, initial-in, on-lifted}
-use Rattle.automaton.proofs.Sound.{Real, Sound, SoundState}
+use Rattle.automaton.proofs.Sound.{Sound, SoundState}
 use Rattle.automaton.proofs.Apart.{deriv-owing, deriv-low, deriv-apart}
 use Rattle.automaton.proofs.Owed.{fresh-real, deriv-real, lift-real, deriv-ordered, lift-ordered, below-gcp}
 use Rattle.automaton.proofs.Fresh.{deriv-fresh, class-fresh, lift-fresh}
@@ -30,13 +28,16 @@ use Rattle.automaton.proofs.Keys.{freshes-keyed, deriv-keyed, class-key
 use Rattle.automaton.proofs.Bounds.{root-label, deriv-small, lift-small}
 
 module _ (S : Setting) where
-  initial-owes : (o : Pos) → Owes (initial (calculus S)) o → o ≡ []
-  initial-owes o m = on-owes (initial (calculus S)) m λ g i j. on-initial S i λ c h e. only (rw e at j)
+  abbrev K : Calculus Pos
+  K = calculus S
+
+  pub initial-owes : (o : Pos) → Owes (initial K) o → o ≡ []
+  initial-owes o m = on-owes (initial K) m λ g i j. on-initial S i λ c h e. only (rw e at j)
     where
       only : o ∈ ([] ∷ []) → o ≡ []
       only (here d) = d
 
-  initial-goals : Sound S (initial (calculus S))
+  initial-goals : Sound S (initial K)
   initial-goals = record {
     owing = λ g m. on-initial S m λ j h e. rw e ([], here refl);
     low = λ g m o i. on-initial S m λ j h e. rw (e, initial-owes o (owes m i)) (≼-refl []);
@@ -48,10 +49,10 @@ module _ (S : Setting) where
     small = λ o m. rw (initial-owes o m) (record { short = omega arith; digits = proper-nil });
   }
 
-  pub initial-sound : SoundState S (initial (calculus S))
-  initial-sound = root-label S (initial (calculus S)) initial-goals (fresh [] 0) (initial-in S 0 (S .some-shape)) refl
+  pub initial-sound : SoundState S (initial K)
+  initial-sound = root-label S (initial K) initial-goals (fresh [] 0) (initial-in S 0 (S .some-shape)) refl
 
-  pub deriv-sound : (s : State Pos) → SoundState S s → (f n : ℕ) → getElem? (S .counts) f ≡ some n → Sound S (deriv (calculus S) s f n)
+  pub deriv-sound : (s : State Pos) → SoundState S s → (f n : ℕ) → getElem? (S .counts) f ≡ some n → Sound S (deriv K s f n)
   deriv-sound s w f n a = record {
     owing = deriv-owing S s w f n;
     low = deriv-low S s w f n;
@@ -63,7 +64,7 @@ module _ (S : Setting) where
     small = deriv-small S s w f n (S .children f n a);
   }
 
-  pub class-sound : (d : State Pos) → Sound S d → (k : State Pos) → k ∈ classes (calculus S) d → Sound S k
+  pub class-sound : (d : State Pos) → Sound S d → (k : State Pos) → k ∈ classes K d → Sound S k
   class-sound d w k m = record {
     owing = λ g i. w .owing g (up g i);
     low = λ g i. w .low g (up g i);
@@ -76,15 +77,15 @@ module _ (S : Setting) where
   }
     where
       up : k ⊆ d
-      up = class-sub (calculus S) d k m
+      up = class-sub K d k m
 
       all-up : (o : Pos) → Owes k o → Owes d o
       all-up o a = on-owes k a λ g i j. owes (up g i) j
 
-  pub lift-sound : (k : State Pos) → Sound S k → Sound S (lift (calculus S) k)
+  pub lift-sound : (k : State Pos) → Sound S k → Sound S (lift K k)
   lift-sound k w = record {
-    owing = λ g i. on-map (liftGoal (calculus S) (gcp k)) k i λ h a e. rw e (lifted h (w .owing h a));
-    low = λ g m o j. on-map (liftGoal (calculus S) (gcp k)) k m λ x i e. on-map (strip (gcp k)) (x .obs) (rw e at j) λ y l d. rw (e, d) (strip-below (gcp k) y (x .ann) (w .low x i y l) (gcp-below k x i));
+    owing = λ g i. on-map (liftGoal K (gcp k)) k i λ h a e. rw e (lifted h (w .owing h a));
+    low = λ g m o j. on-map (liftGoal K (gcp k)) k m λ x i e. on-map (strip (gcp k)) (x .obs) (rw e at j) λ y l d. rw (e, d) (strip-below (gcp k) y (x .ann) (w .low x i y l) (gcp-below k x i));
     real = lift-real S k w;
     ordered = lift-ordered S k w;
     apart = λ o x mo mx h.
@@ -97,17 +98,17 @@ module _ (S : Setting) where
     small = lift-small S k w;
   }
     where
-      lifted : (h : Goal Pos) → (o : Pos) × (o ∈ h .obs) → (o : Pos) × (o ∈ (liftGoal (calculus S) (gcp k) h) .obs)
+      lifted : (h : Goal Pos) → (o : Pos) × (o ∈ h .obs) → (o : Pos) × (o ∈ (liftGoal K (gcp k) h) .obs)
       lifted h o = (strip (gcp k) (o .0), map-in (strip (gcp k)) (o .1))
 
-  pub class-announces : (d : State Pos) → Sound S d → (k : State Pos) → k ∈ classes (calculus S) d → Top k
-  class-announces d w k m = class-top (calculus S) d (w .low) k m
+  pub class-announces : (d : State Pos) → Sound S d → (k : State Pos) → k ∈ classes K d → Top k
+  class-announces d w k m = class-top K d (w .low) k m
 
-  pub next-sound : (s : State Pos) → SoundState S s → (f n : ℕ) → getElem? (S .counts) f ≡ some n → (k : State Pos) → k ∈ classes (calculus S) (deriv (calculus S) s f n) → SoundState S (lift (calculus S) k)
+  pub next-sound : (s : State Pos) → SoundState S s → (f n : ℕ) → getElem? (S .counts) f ≡ some n → (k : State Pos) → k ∈ classes K (deriv K s f n) → SoundState S (lift K k)
   next-sound s w f n a k m =
       let d = deriv-sound s w f n a in
-      let t = class-announces (deriv (calculus S) s f n) d k m in
-      root-label S (lift (calculus S) k) (lift-sound k (class-sound (deriv (calculus S) s f n) d k m)) (liftGoal (calculus S) (gcp k) (t .goal)) (map-in (liftGoal (calculus S) (gcp k)) (t .inside)) (rw (← (t .at)) (strip-self (gcp k)))
+      let t = class-announces (deriv K s f n) d k m in
+      root-label S (lift K k) (lift-sound k (class-sound (deriv K s f n) d k m)) (liftGoal K (gcp k) (t .goal)) (map-in (liftGoal K (gcp k)) (t .inside)) (rw (← (t .at)) (strip-self (gcp k)))
 
   pub reachable-sound : {s : State Pos} → Reachable S s → SoundState S s
   reachable-sound init = initial-sound

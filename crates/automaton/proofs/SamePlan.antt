@@ -1,10 +1,11 @@
 -- The paper's obligations and bare positions give the same plan, and the same refusals.
---   Right       each obligation's subpattern is the shape's, at its position below the announcement
---   same-plan   planned (paper shapes) is planned (bare shapes)
+--   RightOb Right   each obligation's subpattern is the shape's, at its position below the announcement
+--   carries         forgetting the subpatterns commutes with each part of the two calculi
+--   same-plan       planned (paper shapes) is planned (bare shapes)
 use mathlib.Core.Path.{_≡_, refl, ap, ap₂, sym, _∙_}
 use mathlib.Core.Bool.{Bool, true, false, cond, _&&_, _||_}
-use mathlib.Core.List.{List, [], _∷_, _++_, map, append-assoc, append-nil}
-use mathlib.Core.Option.{Option, none, some}
+use mathlib.Core.List.{List, [], _∷_, _++_, map}
+use mathlib.Core.Option.{some}
 use Prim.Native.Nat.{ℕ, zero, suc, _+_}
 use native.Mathlib.Omega.{arith}
 use native.Mathlib.Nat.{add-zero, zero-add}
@@ -13,19 +14,20 @@ use lib.ListN.{length, getElem?}
 use Rattle.kinds.specs.Lists.{same, any, gather, mapAt, range, bind}
 use Rattle.kinds.specs.Positions.{Pos, strip}
 use Rattle.kinds.proofs.Bools.{both, is-eqb}
-use Rattle.kinds.proofs.Options.{none-not, on-bind}
+use Rattle.kinds.proofs.Options.{on-bind}
 use Rattle.kinds.proofs.Members.{_∈_, here, there, on-map, on-gather, same-is}
-use Rattle.kinds.proofs.ListLaws.{map-map, map-gather, gather-map, gather-same}
-use Rattle.kinds.proofs.Prefixes.{_≼_, ≼-refl, ≼-snoc, ≼-trans, strip-self, strip-more, strip-strip, strip-below}
+use Rattle.kinds.proofs.ListLaws.{map-gather, gather-map, gather-same}
+use Rattle.kinds.proofs.Prefixes.{_≼_, ≼-refl, ≼-snoc, strip-self, strip-more, strip-strip, strip-below}
 use Rattle.term.specs.Terms.{Term, blank, node, Terms, tnil, tcons}
 use Rattle.term.specs.Places.{nth, sub}
-use Rattle.automaton.specs.Goals.{Goal, State, Calculus, has, reduced}
+use Rattle.automaton.specs.Goals.{Goal, reduced}
 use Rattle.automaton.specs.Classes.{liftGoal}
 use Rattle.automaton.specs.Paper.{Ob, heads, reduceOb, sameTerm, sameTerms, paper}
 use Rattle.automaton.specs.Paper.{fresh as freshOb, args as argObs, argsOf as argObsOf}
 use Rattle.automaton.specs.Bare.{owed, headsOf, fresh, args, argsOf, inPlace, bare}
+use Rattle.automaton.specs.Exploring.{construction}
 use Rattle.automaton.specs.PlanWords.{planned}
-use Rattle.automaton.proofs.Subterms.{sub-append}
+use Rattle.term.proofs.Subterms.{sub-append}
 use Rattle.automaton.proofs.Forget.{forget, forgets, Carries, plan-same}
 
 abbrev pub position : Ob → Pos
@@ -89,7 +91,8 @@ spread true false false = refl
 spread false c d = refl
 
 module _ (shapes : List Term) where
-  expects-same : (f : ℕ) (p : Pos) (g : Goal Ob) → Right shapes g → (any (same p) (map position (g .obs)) && headsOf f (owed shapes (forget position g) p)) ≡ any (λ o. same p (o .pos) && heads f (o .pat)) (g .obs)
+  expects-same : (f : ℕ) (p : Pos) (g : Goal Ob) → Right shapes g
+      → (any (same p) (map position (g .obs)) && headsOf f (owed shapes (forget position g) p)) ≡ any (λ o. same p (o .pos) && heads f (o .pat)) (g .obs)
   expects-same f p g r = go (g .obs) (λ o m. (r o m) .is)
     where
       one : (o : Ob) → owed shapes (forget position g) (o .pos) ≡ some (o .pat) → (same p (o .pos) && headsOf f (owed shapes (forget position g) p)) ≡ (same p (o .pos) && heads f (o .pat))
@@ -99,11 +102,13 @@ module _ (shapes : List Term) where
           split true d = ap (headsOf f) (ap (owed shapes (forget position g)) (same-is p (o .pos) d) ∙ e)
           split false d = refl
 
-      go : (os : List Ob) → ((o : Ob) → o ∈ os → owed shapes (forget position g) (o .pos) ≡ some (o .pat)) → (any (same p) (map position os) && headsOf f (owed shapes (forget position g) p)) ≡ any (λ o. same p (o .pos) && heads f (o .pat)) os
+      go : (os : List Ob) → ((o : Ob) → o ∈ os → owed shapes (forget position g) (o .pos) ≡ some (o .pat))
+          → (any (same p) (map position os) && headsOf f (owed shapes (forget position g) p)) ≡ any (λ o. same p (o .pos) && heads f (o .pat)) os
       go [] h = refl
       go (o ∷ os) h = spread (same p (o .pos)) (any (same p) (map position os)) (headsOf f (owed shapes (forget position g) p)) ∙ ap₂ _||_ (one o (h o (here refl))) (go os (λ x m. h x (there m)))
 
-  reduce-same : (p : Pos) (n : ℕ) (g : Goal Ob) → Right shapes g → map position (gather (reduceOb p n) (g .obs)) ≡ gather (inPlace p (argsOf p n (owed shapes (forget position g) p))) (map position (g .obs))
+  reduce-same : (p : Pos) (n : ℕ) (g : Goal Ob) → Right shapes g
+      → map position (gather (reduceOb p n) (g .obs)) ≡ gather (inPlace p (argsOf p n (owed shapes (forget position g) p))) (map position (g .obs))
   reduce-same p n g r =
       map-gather position (reduceOb p n) (g .obs)
       ∙ gather-same _ _ (g .obs) (λ o m. one o ((r o m) .is))
@@ -117,7 +122,8 @@ module _ (shapes : List Term) where
           split false d = refl
 
   -- what is owed right below p
-  owed-child : (g : Goal Ob) (p : Pos) (f j : ℕ) (us : Terms) (u : Term) → p ≼ g .ann → owed shapes (forget position g) p ≡ some (node f us) → nth us j ≡ some u → owed shapes (forget position g) (p ++ ((1 + j) ∷ [])) ≡ some u
+  owed-child : (g : Goal Ob) (p : Pos) (f j : ℕ) (us : Terms) (u : Term) → p ≼ g .ann
+      → owed shapes (forget position g) p ≡ some (node f us) → nth us j ≡ some u → owed shapes (forget position g) (p ++ ((1 + j) ∷ [])) ≡ some u
   owed-child g p f j us u low e d = on-bind (getElem? shapes (g .shape)) _ e λ x gx sx.
       let one : 1 + j ≡ suc j = omega arith in
       rw (gx, strip-more (g .ann) p ((1 + j) ∷ []) low, sub-append (strip (g .ann) p) ((1 + j) ∷ []) x, sx, one, d)
@@ -142,7 +148,8 @@ module _ (shapes : List Term) where
         is = ap (λ q. bind (getElem? shapes (g .shape)) (λ z. sub z q)) (strip-strip c (g .ann) (x .pos) up (h .low)) ∙ h .is;
       }
 
-  alike-same : (g g′ : Goal Ob) → Right shapes g → Right shapes g′ → g .shape ≡ g′ .shape → g .ann ≡ g′ .ann → (o x : Ob) → o ∈ g .obs → x ∈ g′ .obs → (same (o .pos) (x .pos) && sameTerm (o .pat) (x .pat)) ≡ same (o .pos) (x .pos)
+  alike-same : (g g′ : Goal Ob) → Right shapes g → Right shapes g′ → g .shape ≡ g′ .shape → g .ann ≡ g′ .ann
+      → (o x : Ob) → o ∈ g .obs → x ∈ g′ .obs → (same (o .pos) (x .pos) && sameTerm (o .pat) (x .pat)) ≡ same (o .pos) (x .pos)
   alike-same g g′ rg rg′ es ea o x i j = go (same (o .pos) (x .pos)) refl
     where
       pats : o .pos ≡ x .pos → o .pat ≡ x .pat
@@ -168,5 +175,5 @@ module _ (shapes : List Term) where
     lifted-right = lifted-right;
   }
 
-pub same-plan : (ar : List ℕ) (shapes : List Term) (n room : ℕ) → planned (paper shapes) ar n room ≡ planned (bare shapes) ar n room
+pub same-plan : (ar : List ℕ) (shapes : List Term) (n room : ℕ) → planned (construction (paper shapes)) ar n room ≡ planned (construction (bare shapes)) ar n room
 same-plan ar shapes n room = plan-same (paper shapes) (bare shapes) position (Right shapes) (carries shapes) ar n room

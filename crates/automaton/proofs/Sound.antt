@@ -5,7 +5,7 @@
 --   SoundState      these, and S5, of a state
 use mathlib.Core.Path.{_≡_}
 use mathlib.Core.Option.{some}
-use mathlib.Core.List.{List, []}
+use mathlib.Core.List.{[]}
 use Prim.Native.Nat.{ℕ, _<_, _≤_}
 use lib.ListN.{length, getElem?}
 use Rattle.kinds.specs.Positions.{Pos, strip}

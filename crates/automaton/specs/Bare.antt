@@ -2,7 +2,7 @@
 --   owed       what a goal owes at a position
 --   fresh      ℓ@p → ℓ@p, ℓ by its number
 --   args       the positions p.i of the arguments that are no blank
---   reduceOb   reduce, one obligation
+--   inPlace    reduce, one obligation: the arguments take its own place
 --   bare       the calculus of positions for a list of shapes
 use mathlib.Core.List.{List, [], _∷_, _++_, map}
 use mathlib.Core.Bool.{Bool, false, cond, _&&_}

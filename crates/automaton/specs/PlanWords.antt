@@ -14,8 +14,7 @@ use lib.ListN.{length}
 use Rattle.kinds.specs.Lists.{gather, concat}
 use Rattle.kinds.specs.Positions.{code}
 use Rattle.kinds.specs.declared.Reason.{Reason}
-use Rattle.automaton.specs.Goals.{State, Calculus, label}
-use Rattle.automaton.specs.Exploring.{Succ, Block, Made, refused, made, explored}
+use Rattle.automaton.specs.Exploring.{Construction, Succ, Block, Made, refused, made, explored}
 
 abbrev pub blockWords : Block → List ℕ
 blockWords b =
@@ -32,17 +31,17 @@ pub data Plan : Type 0 where
   too-long : Plan
   plan-of : ℕ → List ℕ → Plan
 
-module _ {O : Type 0} (K : Calculus O) where
+module _ {S : Type 0} (C : Construction S) where
   -- of k symbols and n shapes
-  abbrev pub planWords : ℕ → ℕ → List (State O) → List Block → List ℕ
+  abbrev pub planWords : ℕ → ℕ → List S → List Block → List ℕ
   planWords k n ss bs =
       let m = length ss in
       let bw : List (List ℕ) = map blockWords bs in
       let at = 4 + m + m * k in
       let all = concat bw in
-      m ∷ k ∷ n ∷ (at + length all) ∷ map (λ s. code (label K s)) ss ++ (startsFrom at bw ++ all)
+      m ∷ k ∷ n ∷ (at + length all) ∷ map (λ s. code (C .label s)) ss ++ (startsFrom at bw ++ all)
 
-  abbrev pub toPlan : ℕ → ℕ → ℕ → Made O → Plan
+  abbrev pub toPlan : ℕ → ℕ → ℕ → Made S → Plan
   toPlan room k n (refused r p) = halted r p
   toPlan room k n (made ss bs) =
       let w = planWords k n ss bs in
@@ -50,4 +49,4 @@ module _ {O : Type 0} (K : Calculus O) where
 
   -- for symbols with these numbers of children, n shapes, and a buffer of room words
   abbrev pub planned : List ℕ → ℕ → ℕ → Plan
-  planned ar n room = toPlan room (length ar) n (explored K ar)
+  planned ar n room = toPlan room (length ar) n (explored C ar)

@@ -2,22 +2,29 @@
 --   Reach          a state is the initial one, or the lifting of a class of a derivative of a reachable one
 --   Setting        child counts and shapes within the limits of document 01, as the construction needs them
 --   Scored         a setting and a score of its symbols
+--   calculus Reachable   bare positions, for the setting's shapes; the states reachable with its symbols
 --   Partner Alike  states that are equal as sets: each goal has one of the same shape, announcement and obligations in the other
 --   Item           a state, and the position of the score where it stands
+--   covers sees    a state covers the positions at and under those that it owes; an item sees them from where it stands
+--   one waits times   how many items see a position, how often it was read
 --   looks          the position that an item reads next: where it stands, followed by its state's label
---   follows        the items that come of an item after a symbol of n children was read
+--   goesOn follows the items that come of an item after a symbol of n children was read, one for each class of the derivative
+--   placed announces   what it announces then, and where
 --   Goes           items that go on for these: at the same places, with states that are equal as sets and reachable
 --   Walked         "a step takes item i; later ones close up": what waits, the positions read, and what was announced where
 use mathlib.Core.Path.{_≡_}
+use mathlib.Core.Bool.{Bool, true, false}
 use mathlib.Core.List.{List, [], _∷_, _++_, map}
-use mathlib.Core.Option.{Option, some}
+use mathlib.Core.Option.{some}
 use Prim.Native.Nat.{ℕ, _≤_}
 use lib.ListN.{length, getElem?}
 use Rattle.kinds.specs.Positions.{Pos}
+use Rattle.kinds.specs.Lists.{same, any, sum}
 use Rattle.kinds.proofs.Members.{_∈_, _⊆_}
+use Rattle.kinds.proofs.Prefixes.{prefix}
 use Rattle.term.specs.Terms.{Term, node, Terms, count, depth, Fits, Whole}
 use Rattle.term.specs.Places.{sub}
-use Rattle.automaton.specs.Goals.{Goal, State, Calculus, Announcement, initial, label, deriv, outputs}
+use Rattle.automaton.specs.Goals.{Goal, State, Calculus, Announcement, allObs, initial, label, deriv, outputs}
 use Rattle.automaton.specs.Classes.{classes, gcp, lift}
 use Rattle.automaton.specs.Bare.{bare}
 
@@ -67,6 +74,22 @@ pub record Alike (s s′ : State Pos) : Type 0 where
 pub record Item : Type 0 where
   pub state : State Pos
   pub at : Pos
+
+abbrev pub covers : State Pos → Pos → Bool
+covers s q = any (λ o. prefix o q) (allObs s)
+
+abbrev pub sees : Item → Pos → Bool
+sees it q = any (λ o. prefix (it .at ++ o) q) (allObs (it .state))
+
+abbrev pub one : Bool → ℕ
+one true = 1
+one false = 0
+
+abbrev pub waits : Pos → List Item → ℕ
+waits q items = sum (map (λ j. one (sees j q)) items)
+
+abbrev pub times : Pos → List Pos → ℕ
+times q read = sum (map (λ p. one (same p q)) read)
 
 module _ (S : Setting) where
   abbrev pub looks : Item → Pos

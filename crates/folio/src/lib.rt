@@ -1,6 +1,30 @@
 use kinds::Node;
 use kinds::Reason;
 
+pub mod opening; // the call that opens a folio
+pub mod finding; // where its sections are: 1 to 6
+pub mod reading; // its shapes and its score: 7 to 17
+pub mod checking; // the tables lent to later calls
+pub mod showing; // the words of one subtree
+
+pub const MOST_SYMBOLS: usize = 32;
+
+pub const MOST_SHAPES: usize = 16;
+
+pub const SHAPE_NODES: usize = 16;
+
+pub const SHAPE_LEVELS: usize = 6;
+
+pub const SCORE_NODES: usize = 4096;
+
+pub const SCORE_LEVELS: usize = 65;
+
+// Words from this one on are blanks in a shape.
+pub const BLANK: usize = 65535;
+
+// No word is one in a score.
+pub const NO_BLANK: usize = 65536;
+
 // Where the shapes, the score and the trailer begin, in bytes; symbols begin at 0.
 pub struct Places {
     pub shapes: usize,

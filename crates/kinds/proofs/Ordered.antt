@@ -1,16 +1,17 @@
 -- Document order.
 --   Before before-irrefl before-trans before-total    a strict total order
+--   before-asym before-pass                           what comes before is not after; what does not come before is passed on
 --   before-more more-before before-append child-before   and what is under a position
 --   ordered-unique                                    a list in document order is determined by its elements
 use mathlib.Core.Path.{_≡_, refl, ap, sym, _∙_}
-use mathlib.Core.Bool.{true, _&&_, false≢true}
+use mathlib.Core.Bool.{true, false, _&&_, false≢true}
 use mathlib.Core.List.{List, [], _∷_, _++_}
 use mathlib.Core.Logic.{_⊎_, inl, inr, ⊎-elim}
 use Prim.Native.Nat.{ℕ, _<_}
 use native.Mathlib.Omega.{arith}
 use lib.Dec.{eqb, ltb}
 use Rattle.kinds.specs.Positions.{Pos, before}
-use Rattle.kinds.proofs.Bools.{and-l, and-r, both, or-l, or-r, or-case, eqb-is, is-eqb, ltb-is, is-ltb, ltb-irrefl, Order, less, equal, more, order}
+use Rattle.kinds.proofs.Bools.{and-l, and-r, both, or-l, or-r, or-case, not-true, eqb-is, is-eqb, ltb-is, is-ltb, ltb-irrefl, Order, less, equal, more, order}
 use Rattle.kinds.proofs.Members.{_∈_, here, there, _⊆_}
 use Rattle.kinds.proofs.Pairwise.{Pairwise}
 use Rattle.kinds.proofs.Prefixes.{_≼_, ≼-cons}
@@ -94,3 +95,14 @@ ordered-unique (x ∷ xs) (y ∷ ys) a b f g = rw first (ap (λ l. y ∷ l) (ord
     right : (z : Pos) → z ∈ ys → z ∈ (x ∷ xs) → z ∈ xs
     right z m (here e) = absurd (before-irrefl y (b .0 y (rw (← first, ← e) m)))
     right z m (there i) = i
+
+pub before-asym : (p q : Pos) → before p q ≡ true → before q p ≡ false
+before-asym p q e = not-true (before q p) (λ d. before-irrefl p (before-trans p q p e d))
+
+pub before-pass : (p q r : Pos) → before q p ≡ false → before r q ≡ false → before r p ≡ false
+before-pass p q r a b = not-true (before r p) (λ d. go d (before-total p q))
+  where
+    go : before r p ≡ true → Before p q ⊎ ((p ≡ q) ⊎ Before q p) → ⊥
+    go d (inl c) = false≢true (sym b ∙ before-trans r p q d c)
+    go d (inr (inl c)) = false≢true (sym b ∙ rw (← c) d)
+    go d (inr (inr c)) = false≢true (sym a ∙ c)

@@ -3,14 +3,15 @@
 --   pairwise-append pairwise-filter pairwise-map pairwise-gather pairwise-range   how lists are made
 --   pairwise-two pairwise-perm    where the relation is symmetric
 --   pairwise-distinct             where nothing is related to itself
+--   pairwise-sort                 a sorted list: no later element comes before an earlier one
 use mathlib.Core.Path.{_≡_, refl, sym, _∙_}
 use mathlib.Core.Bool.{Bool, true, false, cond}
 use mathlib.Core.List.{List, [], _∷_, _++_, map}
 use mathlib.Core.Logic.{_⊎_, inl, inr, ⊎-elim}
 use Prim.Native.Nat.{ℕ, zero, suc, _<_}
 use native.Mathlib.Omega.{arith}
-use Rattle.kinds.specs.Lists.{filter, gather, range}
-use Rattle.kinds.proofs.Members.{_∈_, here, there, ∈-append, in-filter, on-map, on-gather, in-range, Distinct, Perm, done, keep, swap, then, perm-in, perm-sym}
+use Rattle.kinds.specs.Lists.{filter, gather, range, insert, sort}
+use Rattle.kinds.proofs.Members.{_∈_, here, there, ∈-append, in-filter, on-map, on-gather, in-range, Distinct, Perm, done, keep, swap, then, perm-in, perm-sym, insert-perm}
 
 module _ {A : Type 0} (R : A → A → Type 0) where
   abbrev pub Pairwise : List A → Type 0
@@ -65,3 +66,28 @@ module _ {A B : Type 0} (S : A → A → Type 0) (R : B → B → Type 0) where
 pub pairwise-range : (c n : ℕ) → Pairwise _<_ (range c n)
 pairwise-range c zero = tt
 pairwise-range c (suc n) = (λ y m. let h = in-range n (suc c) y m in omega arith, pairwise-range (suc c) n)
+
+-- an order of two that is no order of equals, and in which what does not come before is passed on
+module _ {A : Type 0} (lt : A → A → Bool) (asym : (x y : A) → lt x y ≡ true → lt y x ≡ false) (pass : (x y z : A) → lt y x ≡ false → lt z y ≡ false → lt z x ≡ false) where
+  abbrev NotBefore : A → A → Type 0
+  NotBefore x y = lt y x ≡ false
+
+  pairwise-insert : (a : A) (xs : List A) → Pairwise NotBefore xs → Pairwise NotBefore (insert lt a xs)
+  pairwise-insert a [] p = (λ y m. elim m [ ], tt)
+  pairwise-insert a (x ∷ xs) p = go (lt x a) refl (pairwise-insert a xs (p .1))
+    where
+      later : lt x a ≡ false → (y : A) → y ∈ (x ∷ xs) → lt y a ≡ false
+      later e y (here i) = rw i e
+      later e y (there i) = pass a x y e (p .0 y i)
+
+      first : lt x a ≡ true → (y : A) → y ∈ (a ∷ xs) → lt y x ≡ false
+      first e y (here i) = rw i (asym x a e)
+      first e y (there i) = p .0 y i
+
+      go : (b : Bool) → lt x a ≡ b → Pairwise NotBefore (insert lt a xs) → Pairwise NotBefore (cond b (x ∷ insert lt a xs) (a ∷ x ∷ xs))
+      go true e ih = (λ y m. first e y (perm-in (perm-sym (insert-perm lt a xs)) y m), ih)
+      go false e ih = (later e, p)
+
+  pub pairwise-sort : (xs : List A) → Pairwise NotBefore (sort lt xs)
+  pairwise-sort [] = tt
+  pairwise-sort (x ∷ xs) = pairwise-insert x (sort lt xs) (pairwise-sort xs)

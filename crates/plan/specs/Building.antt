@@ -20,6 +20,7 @@ use Rattle.term.specs.Terms.{Term}
 use Rattle.folio.specs.Again.{shapesGood}
 use Rattle.folio.specs.Folio.{shapeTerms}
 use Rattle.automaton.specs.Paper.{paper}
+use Rattle.automaton.specs.Exploring.{construction}
 use Rattle.automaton.specs.PlanWords.{Plan, halted, too-long, plan-of, planned}
 use Rattle.plan.specs.declared.Size.{Size}
 use Rattle.plan.specs.declared.Built.{Built}
@@ -51,7 +52,7 @@ written too-long plan scratch = record { answer = built.Refused LongPlan; plan =
 written (plan-of m ws) plan scratch = record { answer = built.Plan (size m (length ws)); plan = sets plan 0 ws; scratch = cleared scratch }
 
 abbrev pub planOf : List ℕ → List Term → ℕ → Plan
-planOf ar shapes room = planned (paper shapes) ar (length shapes) room
+planOf ar shapes room = planned (construction (paper shapes)) ar (length shapes) room
 
 unfoldable pub buildOf : List ℕ → List ℕ → List ℕ → List ℕ → List ℕ → Out
 buildOf ar ws st plan scratch =

@@ -1,2 +1,10 @@
--- What building a plan means.
 pub mod Building
+pub mod GoalWords
+pub mod WordStages
+pub mod WordMachine
+pub mod Decoding
+pub mod GoodStates
+pub mod Sharing
+pub mod Squares
+pub mod Links
+pub mod ShapeTables

@@ -1,6 +1,15 @@
 use kinds::Reason;
 use kinds::State;
 
+mod classes;
+mod closure;
+mod derive;
+mod goals;
+mod lift;
+mod same;
+mod square;
+mod tables;
+
 // How many states a plan has, and how many words.
 pub struct Size {
     pub states: usize,
@@ -10,5 +19,29 @@ pub struct Size {
 pub enum Built {
     Plan(Size),
     Refused(Reason),
+    Stopped(Reason, State),
+}
+
+// The first obligation position that two goals share.
+pub enum Shared {
+    At(u32),
+    Nothing,
+}
+
+// A class that is met: a state met before, a new one, or none.
+pub enum Place {
+    Known,
+    New,
+    Stopped(Reason),
+}
+
+// How many states there are now, and how many words the blocks made take.
+pub enum Met {
+    On(usize, usize),
+    Stopped(Reason),
+}
+
+pub enum Explored {
+    Made(usize, usize),
     Stopped(Reason, State),
 }

@@ -1,5 +1,7 @@
 use kinds::Reason;
 
+pub mod counting; // matches and clashes
+
 pub enum Counted {
     Number(usize),
     Refused(Reason),

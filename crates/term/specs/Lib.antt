@@ -3,3 +3,4 @@ pub mod Terms
 pub mod Places
 pub mod Reading
 pub mod Spans
+pub mod Following

@@ -5,23 +5,22 @@
 --   fits-at whole-at               what fits, or has no blank, does so at each position
 --   headed on-child                a node of a term that is no blank, and the child that it lies in
 --   dom-in in-dom length-dom dom-ordered dom-distinct   the list of a term's positions
-use mathlib.Core.Path.{_≡_, refl, ap, sym, _∙_}
+use mathlib.Core.Path.{_≡_, refl, ap, _∙_}
 use mathlib.Core.List.{List, [], _∷_, _++_, map}
 use mathlib.Core.Option.{Option, none, some}
-use mathlib.Core.Logic.{_⊎_, inl, inr, ⊎-elim}
-use Prim.Native.Nat.{ℕ, zero, suc, _+_, _<_, _≤_, max}
+use mathlib.Core.Logic.{⊎-elim}
+use Prim.Native.Nat.{ℕ, zero, suc, _+_, _<_, _≤_}
 use native.Mathlib.Omega.{arith}
-use lib.Dec.{eqb, ltb}
 use lib.ListN.{length, getElem?, length-append, length-map}
 use Rattle.kinds.specs.Lists.{bind}
-use Rattle.kinds.specs.Positions.{Pos, before}
+use Rattle.kinds.specs.Positions.{Pos}
 use Rattle.kinds.proofs.Bools.{or-l, is-ltb}
 use Rattle.kinds.proofs.Options.{none-not, on-bind}
 use Rattle.kinds.proofs.Members.{_∈_, here, there, ∈-left, ∈-right, ∈-append, map-in, on-map, Distinct}
 use Rattle.kinds.proofs.Pairwise.{Pairwise, pairwise-append, pairwise-map, pairwise-distinct}
 use Rattle.kinds.proofs.Ordered.{Before, before-irrefl, before-append}
 use Rattle.term.specs.Terms.{Term, blank, node, Terms, tnil, tcons, count, span, spans, depth, depths, Fits, Fitss, Whole, Wholes}
 use Rattle.term.specs.Places.{nth, child, sub, hd, headAt, dom, doms}
 
 pub sub-append : (p q : Pos) (t : Term) → sub t (p ++ q) ≡ bind (sub t p) (λ u. sub u q)
 sub-append [] q t = refl

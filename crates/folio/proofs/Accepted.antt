@@ -1,0 +1,221 @@
+-- An accepted file is one list of shapes and one score within the limits of a folio, and the tables hold their words, starts and spans.
+--   Meaning one-meaning         what the sections of a file mean, and only that
+--   Room                        the four tables have room
+--   answered                    what is answered and written for a folio
+--   Accepted accepted           an accepted file has a meaning, which the tables hold
+--   made                        and a file that has one is accepted
+--   shape-terms score-term      the terms that the tables' words hold
+use mathlib.Core.Path.{_≡_, refl, ap, ap₂, sym, _∙_}
+use mathlib.Core.List.{List, [], _∷_, append-nil}
+use mathlib.Core.Bool.{Bool, true, false}
+use Prim.Native.Nat.{ℕ, zero, suc, _+_, _*_, _-_, _≤_}
+use native.Mathlib.Omega.{arith}
+use borrow.Author.Tests.{leb-true}
+use lib.Dec.{leb}
+use lib.ListN.{length, take, drop}
+use lib.Seq.{sets}
+use Rattle.kinds.specs.Lists.{unless, gather}
+use Rattle.kinds.specs.declared.Reason.{Reason}
+use Rattle.kinds.specs.declared.Reason.the-variants as reason
+use Rattle.kinds.proofs.Members.{_∈_, here, there, in-none}
+use Rattle.kinds.proofs.Places.{at-in, on-in}
+use Rattle.kinds.proofs.ListLaws.{onto-sets, take-onto}
+use Rattle.term.specs.Terms.{Term, span, flatten, sizes}
+use Rattle.term.specs.Spans.{spansOf}
+use Rattle.term.proofs.OneTerm.{once}
+use Rattle.term.proofs.Sizes.{length-flatten, spans-are}
+use Rattle.term.proofs.TermWhole.{parse-flatten, parse-all}
+use Rattle.folio.specs.Bytes.{wordsOf}
+use Rattle.folio.specs.Sections.{trailerOf, sectionsOf}
+use Rattle.folio.specs.Tables.{blankWord, noBlank, shapeLevels, scoreLevels, Row, shapesOf, scoreOf}
+use Rattle.folio.specs.Opening.{Lent, Out, lent, out, refuse, counts, stored, onScore, onShapes, held, onSections, opened}
+use Rattle.folio.specs.Folio as folio
+use Rattle.folio.specs.Folio.{IsScore, shapeTerms, orBlank, scoreTerm}
+use Rattle.folio.specs.declared.Places.{Places}
+use Rattle.folio.specs.declared.Sections.{Sections}
+use Rattle.folio.specs.declared.Sections.the-variants as sections
+use Rattle.folio.specs.declared.Shapes.{Shapes}
+use Rattle.folio.specs.declared.Shapes.the-variants as shapes
+use Rattle.folio.specs.declared.Score.{Score}
+use Rattle.folio.specs.declared.Score.the-variants as score
+use Rattle.folio.specs.declared.Counts.{Counts}
+use Rattle.folio.specs.declared.Opened.the-variants.{Folio, Refused}
+use Rattle.folio.proofs.LawsSections.{sections-in, sections-good}
+use Rattle.folio.proofs.LawsOpening.{stored-all, held-on, opened-at}
+use Rattle.folio.proofs.Symbols.{GoodSymbols, symbols-is, symbols-of}
+use Rattle.folio.proofs.ShapesFound.{startsAt, length-starts, Each, found-shapes, shapes-found, all-once}
+use Rattle.folio.proofs.ScoreWhole.{Below, words-below, score-is, score-of}
+
+-- ---- what a file means
+pub record Meaning (file : List ℕ) (p : Places) : Type 0 where
+  pub shapes : List Term
+  pub score : Term
+  pub limits : folio.Folio (take (p .shapes) file) shapes score
+  pub shape-words : wordsOf (take (p .score - p .shapes) (drop (p .shapes) file)) ≡ gather flatten shapes
+  pub score-words : wordsOf (take (p .end - p .score) (drop (p .score) file)) ≡ flatten score
+
+pub each-shape : (ar : List ℕ) (ss : List Term) (t : Term) → folio.Folio ar ss t → Each ar ss
+each-shape ar ss t f u m = on-in m (λ i e. f .is-shape i u e)
+
+pub one-meaning : (file : List ℕ) (p : Places) (m n : Meaning file p) → (m .shapes ≡ n .shapes) × (m .score ≡ n .score)
+one-meaning file p m n = (
+  all-once (take (p .shapes) file) (m .shapes) (n .shapes) (each-shape _ _ _ (m .limits)) (each-shape _ _ _ (n .limits)) (sym (m .shape-words) ∙ n .shape-words),
+  once (take (p .shapes) file) noBlank (m .score) (n .score) [] [] (m .limits .is-score .fits) (n .limits .is-score .fits) (append-nil (flatten (m .score)) ∙ sym (m .score-words) ∙ n .score-words ∙ sym (append-nil (flatten (n .score)))) .0,
+)
+
+-- ---- what is answered and written
+pub record Room (l : Lent) (ws st sc : List ℕ) : Type 0 where
+  pub words : length ws ≤ length (l .words)
+  pub starts : length st ≤ length (l .starts)
+  pub score : length sc ≤ length (l .score)
+  pub spans : length sc ≤ length (l .spans)
+
+abbrev full : List ℕ → List ℕ → List ℕ → List ℕ → Lent → Out
+full ar ws st sc l =
+    out (Folio (counts (length ar) (length st) (length ws) (length sc)))
+    (lent (sets (l .words) 0 ws) (sets (l .starts) 0 st) (sets (l .score) 0 sc) (sets (l .spans) 0 (spansOf ar sc)))
+
+abbrev pub answered : List ℕ → List Term → Term → Lent → Out
+answered ar ss t l =
+    out (Folio (counts (length ar) (length ss) (length (gather flatten ss)) (span t)))
+    (lent (sets (l .words) 0 (gather flatten ss)) (sets (l .starts) 0 (startsAt 0 ss)) (sets (l .score) 0 (flatten t)) (sets (l .spans) 0 (sizes t)))
+
+full-answered : (ar : List ℕ) (ss : List Term) (t : Term) (l : Lent) → folio.Folio ar ss t → full ar (gather flatten ss) (startsAt 0 ss) (flatten t) l ≡ answered ar ss t l
+full-answered ar ss t l f =
+    let few = f .few-symbols in
+    let sp = spans-are ar noBlank t (omega arith) (f .is-score .fits) in
+    ap (λ (x : List ℕ). out (Folio (counts (length ar) (length (startsAt 0 ss)) (length (gather flatten ss)) (length (flatten t)))) (lent (sets (l .words) 0 (gather flatten ss)) (sets (l .starts) 0 (startsAt 0 ss)) (sets (l .score) 0 (flatten t)) (sets (l .spans) 0 x))) sp
+    ∙ ap₂ (λ (m n : ℕ). out (Folio (counts (length ar) m (length (gather flatten ss)) n)) (answered ar ss t l .tables)) (length-starts 0 ss) (length-flatten t)
+
+-- ---- what is accepted
+never-folio {κ} : {C : Type κ} {r : Reason} {p : ℕ} {k : Counts} → Refused r p ≡ Folio k → C
+never-folio e = let z : _≡_ {A = ℕ} 0 1 = cc in absurd (omega arith)
+
+on-room {κ} : {C : Type κ} (b : Bool) (l : Lent) (o : Out) (k : Counts) → unless b (refuse reason.Tables 0 l) o .answer ≡ Folio k → (b ≡ true → o .answer ≡ Folio k → C) → C
+on-room true l o k e c = c refl e
+on-room false l o k e c = never-folio e
+
+stored-room : (ar ws st sc : List ℕ) (l : Lent) (k : Counts) → stored ar ws st sc l .answer ≡ Folio k → Room l ws st sc
+unfolding stored
+stored-room ar ws st sc l k e =
+    on-room (leb (length ws) (length (l .words))) l _ k e λ a e₁.
+    on-room (leb (length st) (length (l .starts))) l _ k e₁ λ b e₂.
+    on-room (leb (length sc) (length (l .score))) l _ k e₂ λ c e₃.
+    on-room (leb (length sc) (length (l .spans))) l _ k e₃ λ d e₄.
+    record { words = leb-true (length ws) (length (l .words)) a; starts = leb-true (length st) (length (l .starts)) b; score = leb-true (length sc) (length (l .score)) c; spans = leb-true (length sc) (length (l .spans)) d }
+
+-- shapes and score pass, and there is room
+record Held (ar ws sc : List ℕ) (l : Lent) : Type 0 where
+  number : ℕ
+  shaped : shapesOf ar blankWord ws .answer ≡ shapes.Found number
+  whole : scoreOf ar sc ≡ score.Whole
+  room : Room l ws (shapesOf ar blankWord ws .starts) sc
+
+held-in : (ar ws sc : List ℕ) (at : ℕ) (l : Lent) (k : Counts) → held ar ws sc at l .answer ≡ Folio k → Held ar ws sc l
+unfolding held
+held-in ar ws sc at l k e = go (shapesOf ar blankWord ws .answer) refl (scoreOf ar sc) refl e
+  where
+    go : (a : Shapes) → shapesOf ar blankWord ws .answer ≡ a → (b : Score) → scoreOf ar sc ≡ b
+        → onShapes a at l (onScore b (at + 2 * length ws) l (stored ar ws (shapesOf ar blankWord ws .starts) sc l)) .answer ≡ Folio k → Held ar ws sc l
+    go (shapes.Refused r i) ea b eb e = never-folio e
+    go (shapes.Found n) ea (score.Refused r i) eb e = never-folio e
+    go (shapes.Found n) ea score.Whole eb e = record { number = n; shaped = ea; whole = eb; room = stored-room ar ws (shapesOf ar blankWord ws .starts) sc l k e }
+
+-- a number of a part is one of the whole
+in-take : (n : ℕ) (xs : List ℕ) {x : ℕ} → x ∈ take n xs → x ∈ xs
+in-take zero xs m = in-none m
+in-take (suc n) [] m = m
+in-take (suc n) (y ∷ xs) (here e) = here e
+in-take (suc n) (y ∷ xs) (there m) = there (in-take n xs m)
+
+in-drop : (n : ℕ) (xs : List ℕ) {x : ℕ} → x ∈ drop n xs → x ∈ xs
+in-drop zero xs m = m
+in-drop (suc n) [] m = m
+in-drop (suc n) (y ∷ xs) m = there (in-drop n xs m)
+
+pub record Accepted (file : List ℕ) (l : Lent) : Type 0 where
+  pub places : Places
+  pub placed : sectionsOf file ≡ sections.At places
+  pub meaning : Meaning file places
+  pub room : Room l (gather flatten (meaning .shapes)) (startsAt 0 (meaning .shapes)) (flatten (meaning .score))
+  pub is : opened file l ≡ answered (take (places .shapes) file) (meaning .shapes) (meaning .score) l
+
+pub made-held : (file : List ℕ) (p : Places) (m : Meaning file p) (l : Lent) → sectionsOf file ≡ sections.At p → Room l (gather flatten (m .shapes)) (startsAt 0 (m .shapes)) (flatten (m .score))
+    → opened file l ≡ answered (take (p .shapes) file) (m .shapes) (m .score) l
+made-held file p m l e room =
+    let ar : List ℕ = take (p .shapes) file in
+    let ws : List ℕ = gather flatten (m .shapes) in
+    let sc : List ℕ = flatten (m .score) in
+    let r = shapes-found ar (m .shapes) (each-shape _ _ _ (m .limits)) (m .limits .some-shape) (m .limits .few-shapes) in
+    opened-at file l p e
+    ∙ ap₂ (λ (x y : List ℕ). held ar x y (p .shapes) l) (m .shape-words) (m .score-words)
+    ∙ held-on ar ws sc (p .shapes) l (ap (λ (x : Row). x .answer) r) (score-of ar (m .score) (m .limits .is-score))
+    ∙ ap (λ (x : Row). stored ar ws (x .starts) sc l) r
+    ∙ stored-all ar ws (startsAt 0 (m .shapes)) sc l (room .words) (room .starts) (room .score) (room .spans)
+    ∙ full-answered ar (m .shapes) (m .score) l (m .limits)
+
+pub folio-of : (ar : List ℕ) (ss : List Term) (t : Term) → GoodSymbols ar → Each ar ss → 1 ≤ length ss → length ss ≤ 16 → IsScore ar t → folio.Folio ar ss t
+folio-of ar ss t g s a b c = record { some-symbol = g .some-symbol; few-symbols = g .few-symbols; children = g .children; some-shape = a; few-shapes = b; is-shape = λ i u e. s u (at-in ss i e); is-score = c }
+
+pub accepted : (file : List ℕ) (l : Lent) (k : Counts) → Below 256 file → opened file l .answer ≡ Folio k → Accepted file l
+unfolding opened
+accepted file l k small e = go (sectionsOf file) refl e
+  where
+    built : (p : Places) → sectionsOf file ≡ sections.At p
+        → Held (take (p .shapes) file) (wordsOf (take (p .score - p .shapes) (drop (p .shapes) file))) (wordsOf (take (p .end - p .score) (drop (p .score) file))) l → Accepted file l
+    built p ep h =
+        let ar : List ℕ = take (p .shapes) file in
+        let ws : List ℕ = wordsOf (take (p .score - p .shapes) (drop (p .shapes) file)) in
+        let bs : List ℕ = take (p .end - p .score) (drop (p .score) file) in
+        let f = found-shapes ar ws (h .number) (h .shaped) in
+        let s = score-is ar (wordsOf bs) (words-below bs (λ w m. small w (in-drop (p .score) file (in-take (p .end - p .score) (drop (p .score) file) m)))) (h .whole) in
+        let g = symbols-is ar (sections-in file p ep .1) in
+        let m : Meaning file p = record { shapes = f .trees; score = s .tree; limits = folio-of ar (f .trees) (s .tree) g (f .each) (f .some-shape) (f .few-shapes) (s .is); shape-words = f .words; score-words = s .words } in
+        let r : Room l (gather flatten (f .trees)) (startsAt 0 (f .trees)) (flatten (s .tree)) = record {
+          words = omega (arith, h .room .words, ap length (f .words));
+          starts = omega (arith, h .room .starts, ap length (f .begins));
+          score = omega (arith, h .room .score, ap length (s .words));
+          spans = omega (arith, h .room .spans, ap length (s .words));
+        } in
+        record { places = p; placed = ep; meaning = m; room = r; is = made-held file p m l ep r }
+
+    go : (s : Sections) → sectionsOf file ≡ s → onSections s file l .answer ≡ Folio k → Accepted file l
+    go (sections.Refused r i) es e = never-folio e
+    go (sections.At p) es e = built p es (held-in (take (p .shapes) file) (wordsOf (take (p .score - p .shapes) (drop (p .shapes) file))) (wordsOf (take (p .end - p .score) (drop (p .score) file))) (p .shapes) l k e)
+
+-- a file that passes 1 to 4, and whose sections are those of a folio
+pub made : (file : List ℕ) (p : Places) (m : Meaning file p) (l : Lent) → trailerOf file ≡ sections.At p → Room l (gather flatten (m .shapes)) (startsAt 0 (m .shapes)) (flatten (m .score))
+    → opened file l ≡ answered (take (p .shapes) file) (m .shapes) (m .score) l
+made file p m l e room =
+    let g : GoodSymbols (take (p .shapes) file) = record { some-symbol = m .limits .some-symbol; few-symbols = m .limits .few-symbols; children = m .limits .children } in
+    made-held file p m l (sections-good file p e (symbols-of (take (p .shapes) file) g)) room
+
+-- ---- the terms that the tables hold
+pub shape-terms : (ar : List ℕ) (ss : List Term) → Each ar ss → length ss ≤ 16 → shapeTerms ar (gather flatten ss) ≡ ss
+shape-terms ar ss s few = parse-all ar blankWord shapeLevels ss 16 few (λ t m. let h = s t m .flat in (s t m .fits, omega arith))
+
+pub score-term : (ar : List ℕ) (t : Term) → IsScore ar t → scoreTerm ar (flatten t) ≡ t
+score-term ar t s =
+    let h = s .flat in
+    ap (λ (x : List ℕ). scoreTerm ar x) (sym (append-nil (flatten t))) ∙ ap orBlank (parse-flatten ar noBlank t scoreLevels [] (s .fits) (omega arith))
+
+pub stored-back : (ws l : List ℕ) → length ws ≤ length l → take (length ws) (sets l 0 ws) ≡ ws
+stored-back ws l h = ap (take (length ws)) (sym (onto-sets ws l h)) ∙ take-onto ws l
+
+module _ (file : List ℕ) (l : Lent) (a : Accepted file l) where
+  abbrev symbols : List ℕ
+  symbols = take (a .places .shapes) file
+
+  -- as many words of the tables as are answered
+  pub table-shapes : shapeTerms symbols (take (length (gather flatten (a .meaning .shapes))) (opened file l .tables .words)) ≡ a .meaning .shapes
+  table-shapes =
+      ap (λ (o : Out). shapeTerms symbols (take (length (gather flatten (a .meaning .shapes))) (o .tables .words))) (a .is)
+      ∙ ap (shapeTerms symbols) (stored-back (gather flatten (a .meaning .shapes)) (l .words) (a .room .words))
+      ∙ shape-terms symbols (a .meaning .shapes) (each-shape _ _ _ (a .meaning .limits)) (a .meaning .limits .few-shapes)
+
+  pub table-score : scoreTerm symbols (take (span (a .meaning .score)) (opened file l .tables .score)) ≡ a .meaning .score
+  table-score =
+      ap (λ (o : Out). scoreTerm symbols (take (span (a .meaning .score)) (o .tables .score))) (a .is)
+      ∙ ap (λ (n : ℕ). scoreTerm symbols (take n (sets (l .score) 0 (flatten (a .meaning .score))))) (sym (length-flatten (a .meaning .score)))
+      ∙ ap (scoreTerm symbols) (stored-back (flatten (a .meaning .score)) (l .score) (a .room .score))
+      ∙ score-term symbols (a .meaning .score) (a .meaning .limits .is-score)

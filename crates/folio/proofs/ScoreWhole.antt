@@ -1,0 +1,84 @@
+-- A whole score is a score, and a score is whole.
+--   Below words-below       numbers below 256, or 65,536
+--   whole-of                what has no word from 65,536 on has no blank
+--   Scored score-is         the words are those of a score
+--   score-of                and the way back
+use mathlib.Core.Path.{_≡_, refl, ap, sym, _∙_}
+use mathlib.Core.List.{List, [], _∷_, _++_, append-nil}
+use mathlib.Core.Bool.{Bool, true, false, cond}
+use Prim.Native.Nat.{ℕ, _+_, _<_, _≤_}
+use native.Mathlib.Omega.{arith}
+use borrow.Author.Tests.{ltb-false}
+use lib.Dec.{ltb}
+use lib.ListN.{length, drop, drop-of-length-le, length-drop}
+use Rattle.kinds.specs.declared.Reason.the-variants as reason
+use Rattle.kinds.proofs.Members.{_∈_, here, there, ∈-left, ∈-right, in-none}
+use Rattle.term.specs.Terms.{Term, blank, node, Terms, tnil, tcons, span, flatten, flattens, Fits, Fitss, Whole, Wholes}
+use Rattle.term.specs.Reading.{reading}
+use Rattle.term.specs.declared.Met.{Met}
+use Rattle.term.specs.declared.Reading.{Reading}
+use Rattle.term.specs.declared.Reading.the-variants as read
+use Rattle.term.proofs.LawsReading.{whole-in}
+use Rattle.term.proofs.WholeTerm.{whole-term}
+use Rattle.term.proofs.TermWhole.{read-back}
+use Rattle.folio.specs.Bytes.{wordsOf}
+use Rattle.folio.specs.declared.Score.the-variants as score
+use Rattle.folio.specs.Tables.{noBlank, scoreLimits, scoreLevels, alone, scoreOf}
+use Rattle.folio.specs.Folio.{IsScore}
+use Rattle.folio.proofs.LawsTables.{score-whole}
+
+-- each number is below n
+abbrev pub Below : ℕ → List ℕ → Type 0
+Below n ws = (w : ℕ) → w ∈ ws → w < n
+
+pub words-below : (b : List ℕ) → Below 256 b → Below 65536 (wordsOf b)
+unfolding wordsOf
+words-below [] h w m = in-none m
+words-below (x ∷ []) h w m = in-none m
+words-below (x ∷ y ∷ r) h w (here e) = let p = h x (here refl) in let q = h y (there (here refl)) in omega arith
+words-below (x ∷ y ∷ r) h w (there m) = words-below r (λ v i. h v (there (there i))) w m
+
+mutual
+  pub whole-of : (ar : List ℕ) (t : Term) → Fits ar noBlank t → Below 65536 (flatten t) → Whole t
+  whole-of ar (blank w) f h = let l = h w (here refl) in absurd (omega arith)
+  whole-of ar (node g ts) f h = wholes-of ar ts (f .2) (λ w m. h w (there m))
+
+  wholes-of : (ar : List ℕ) (ts : Terms) → Fitss ar noBlank ts → Below 65536 (flattens ts) → Wholes ts
+  wholes-of ar tnil f h = tt
+  wholes-of ar (tcons t ts) f h = (whole-of ar t (f .0) (λ w m. h w (∈-left (flattens ts) m)), wholes-of ar ts (f .1) (λ w m. h w (∈-right (flatten t) m)))
+
+pub record Scored (ar ws : List ℕ) : Type 0 where
+  pub tree : Term
+  pub is : IsScore ar tree
+  pub words : ws ≡ flatten tree
+
+pub score-is : (ar ws : List ℕ) → Below 65536 ws → scoreOf ar ws ≡ score.Whole → Scored ar ws
+unfolding scoreOf
+score-is ar ws small e = go (reading ar ws (scoreLimits 0) scoreLevels 0) refl e
+  where
+    built : (m : Met) → reading ar ws (scoreLimits 0) scoreLevels 0 ≡ read.Whole m → length ws ≤ m .end → Scored ar ws
+    built m er h =
+        let a = whole-term ar ws (scoreLimits 0) scoreLevels 0 m er in
+        let w = whole-in ar ws (scoreLimits 0) scoreLevels 0 m er in
+        let q : ws ≡ flatten (a .tree) = a .words ∙ ap (λ (l : List ℕ). flatten (a .tree) ++ l) (drop-of-length-le ws h) ∙ append-nil (flatten (a .tree)) in
+        record {
+          tree = a .tree;
+          is = record { fits = a .fits; whole = whole-of ar (a .tree) (a .fits) (λ v i. small v (rw q i)); flat = omega (arith, a .flat); small = omega (arith, w .few, a .size) };
+          words = q;
+        }
+
+    go : (r : Reading) → reading ar ws (scoreLimits 0) scoreLevels 0 ≡ r → alone r (length ws) ≡ score.Whole → Scored ar ws
+    go (read.Refused f p) er e = let z : _≡_ {A = ℕ} 0 1 = cc in absurd (omega arith)
+    go (read.Whole m) er e = inner (ltb (m .end) (length ws)) refl e
+      where
+        inner : (b : Bool) → ltb (m .end) (length ws) ≡ b → cond b (score.Refused reason.Surplus (m .end)) score.Whole ≡ score.Whole → Scored ar ws
+        inner true eb e = let z : _≡_ {A = ℕ} 0 1 = cc in absurd (omega arith)
+        inner false eb e = built m er (ltb-false (m .end) (length ws) eb)
+
+pub score-of : (ar : List ℕ) (t : Term) → IsScore ar t → scoreOf ar (flatten t) ≡ score.Whole
+score-of ar t s =
+    let d = s .flat in
+    let n = s .small in
+    let b = read-back ar (flatten t) (scoreLimits 0) t scoreLevels 0 [] (s .fits) (omega arith) (omega arith) (sym (append-nil (flatten t))) in
+    let k : length (drop (0 + span t) (flatten t)) ≡ 0 = ap length (b .1) in
+    score-whole ar (flatten t) (b .0) (omega (arith, length-drop (0 + span t) (flatten t)))

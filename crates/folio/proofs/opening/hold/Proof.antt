@@ -1,0 +1,150 @@
+use Rattle.folio.specs.Tables.{blankWord}
+use Prim.Native.Nat.{ℕ, _-_}
+use mathlib.Core.Path.{sym, _∙_}
+use native.Mathlib.Omega.{arith}
+use lib.ListN.{length, take, drop, replicate, length-replicate}
+use Rattle.folio.specs.Opening.{lent}
+use Rattle.folio.proofs.LawsTables.{shapes-refused-in, score-refused-in, found-count}
+use Rattle.folio.proofs.LawsOpening.{ws-length, sc-length, parts-shapes, parts-score, parts-on}
+use borrow.Author.Needs.{needs}
+use Rattle.folio.proofs.opening.hold.Statement.{statement}
+use Rattle.folio.proofs.opening.hold.Tie as tie
+
+sub-ws : tie.Need-sub-ws
+sub-ws c = search needs
+
+part-ws-start : tie.Need-part-ws-start
+part-ws-start c = search needs
+
+part-ws-end : tie.Need-part-ws-end
+part-ws-end c = search needs
+
+mul-sc : tie.Need-mul-sc
+mul-sc c = search needs
+
+sub-sc : tie.Need-sub-sc
+sub-sc c = search needs
+
+part-sc-start : tie.Need-part-sc-start
+part-sc-start c = search needs
+
+part-sc-end : tie.Need-part-sc-end
+part-sc-end c = search needs
+
+slice-aggregate-read-shapes : tie.Need-slice-aggregate-read-shapes
+slice-aggregate-read-shapes c = search needs
+
+read-shapes-requires : tie.Need-read-shapes-requires
+read-shapes-requires c κs = search needs
+
+enum-known-reason : tie.Need-enum-known-reason
+enum-known-reason c = search needs
+
+mul-t29 : tie.Need-mul-t29
+mul-t29 c = let a = c .before .before .before .before .before .before .before .before .before .before .before .before .before .before .args in
+    omega (arith, shapes-refused-in (a .arity .now) blankWord (take (a .m - 0) (a .both .now)) _ _ (sym (c .before .before .before .before .read-shapes .ensures .0) ∙ c .before .reason .given .1), ws-length (a .arity .now) (a .both .now) (a .m) (c .before .before .before .before .before .before .before .before .before .before .before .before .before .before .pre .1))
+
+add-t30 : tie.Need-add-t30
+add-t30 c = let a = c .before .before .before .before .before .before .before .before .before .before .before .before .before .before .args in
+    omega (arith, shapes-refused-in (a .arity .now) blankWord (take (a .m - 0) (a .both .now)) _ _ (sym (c .before .before .before .before .read-shapes .ensures .0) ∙ c .before .reason .given .1), ws-length (a .arity .now) (a .both .now) (a .m) (c .before .before .before .before .before .before .before .before .before .before .before .before .before .before .pre .1))
+
+returns : tie.Need-returns
+returns c = let a = c .before .before .before .before .before .before .before .before .before .before .before .before .before .before .args in
+    sym (parts-shapes (a .arity .now) (a .both .now) (a .m) (c .before .before .before .before .before .before .before .before .before .before .before .before .before .before .pre .1) (a .at) (lent (a .words .now) (a .starts .now) (a .score .now) (a .spans .now)) (sym (c .before .before .before .before .read-shapes .ensures .0) ∙ c .before .reason .given .1))
+
+enum-known-n : tie.Need-enum-known-n
+enum-known-n c = search needs
+
+read-score-requires : tie.Need-read-score-requires
+read-score-requires c κs = search needs
+
+enum-known-reason-2 : tie.Need-enum-known-reason-2
+enum-known-reason-2 c = search needs
+
+mul-t32 : tie.Need-mul-t32
+mul-t32 c = search needs
+
+add-t33 : tie.Need-add-t33
+add-t33 c = search needs
+
+mul-t34 : tie.Need-mul-t34
+mul-t34 c = let a = c .before .before .before .before .before .before .before .before .before .before .before .before .before .before .before .before .before .before .args in
+    omega (arith, score-refused-in (a .arity .now) (take (length (a .both .now) - a .m) (drop (a .m) (a .both .now))) _ _ (sym (c .before .before .before .read-score .ensures) ∙ c .before .reason2 .given .1), sc-length (a .arity .now) (a .both .now) (a .m) (c .before .before .before .before .before .before .before .before .before .before .before .before .before .before .before .before .before .before .pre .1))
+
+add-t35 : tie.Need-add-t35
+add-t35 c = let a = c .before .before .before .before .before .before .before .before .before .before .before .before .before .before .before .before .before .before .args in
+    omega (arith, score-refused-in (a .arity .now) (take (length (a .both .now) - a .m) (drop (a .m) (a .both .now))) _ _ (sym (c .before .before .before .read-score .ensures) ∙ c .before .reason2 .given .1), sc-length (a .arity .now) (a .both .now) (a .m) (c .before .before .before .before .before .before .before .before .before .before .before .before .before .before .before .before .before .before .pre .1))
+
+returns-2 : tie.Need-returns-2
+returns-2 c = let a = c .before .before .before .before .before .before .before .before .before .before .before .before .before .before .before .before .before .before .args in
+    sym (parts-score (a .arity .now) (a .both .now) (a .m) (c .before .before .before .before .before .before .before .before .before .before .before .before .before .before .before .before .before .before .pre .1) (a .at) (lent (a .words .now) (a .starts .now) (a .score .now) (a .spans .now)) (sym (c .before .before .before .before .before .before .before .before .read-shapes .ensures .0) ∙ c .before .before .before .before .before .n .given .1) (sym (c .before .before .before .read-score .ensures) ∙ c .before .reason2 .given .1))
+
+enum-told : tie.Need-enum-told
+enum-told c = search needs
+
+sub-store : tie.Need-sub-store
+sub-store c = search needs
+
+part-store-start : tie.Need-part-store-start
+part-store-start c = search needs
+
+part-store-end : tie.Need-part-store-end
+part-store-end c = let a = c .before .before .before .before .before .before .before .before .before .before .before .before .before .before .before .before .before .before .args in
+    omega (arith, found-count (a .arity .now) blankWord (take (a .m - 0) (a .both .now)) _ (sym (c .before .before .before .before .before .before .before .before .read-shapes .ensures .0) ∙ c .before .before .before .before .before .n .given .1))
+
+store-requires : tie.Need-store-requires
+store-requires c κs = search needs
+
+same-length : tie.Need-same-length
+same-length c = search needs
+
+same-length-2 : tie.Need-same-length-2
+same-length-2 c = search needs
+
+same-length-3 : tie.Need-same-length-3
+same-length-3 c = search needs
+
+same-length-4 : tie.Need-same-length-4
+same-length-4 c = search needs
+
+returns-3 : tie.Need-returns-3
+returns-3 c = let a = c .before .before .before .before .before .before .before .before .before .before .before .before .before .before .before .before .before .before .before .before .before .before .before .before .before .before .before .before .before .before .before .before .args in
+    let l = lent (a .words .now) (a .starts .now) (a .score .now) (a .spans .now) in
+    let h = parts-on (a .arity .now) (a .both .now) (a .m) (c .before .before .before .before .before .before .before .before .before .before .before .before .before .before .before .before .before .before .before .before .before .before .before .before .before .before .before .before .before .before .before .before .pre .1) (a .at) l _ (replicate {A = ℕ} 16 0) _ (sym (c .before .before .before .before .before .before .before .before .before .before .before .before .before .before .before .before .before .before .before .before .before .before .read-shapes .ensures .0) ∙ c .before .before .before .before .before .before .before .before .before .before .before .before .before .before .before .before .before .before .before .n .given .1) (sym (c .before .before .before .before .before .before .before .before .before .before .before .before .before .before .before .before .before .read-score .ensures) ∙ c .before .before .before .before .before .before .before .before .before .before .before .before .before .before .before .enum-told .given .1) (length-replicate {A = ℕ} 16 0) (c .before .before .before .before .before .before .before .before .before .before .before .before .before .before .before .before .before .before .before .before .before .before .read-shapes .ensures .1) in
+    c .before .before .before .before .before .before .before .before .store .ensures ∙ sym h
+
+pub hold-spec : {M : Type 1} → statement M
+hold-spec =
+    tie.close
+    (tie.spec
+    sub-ws
+    part-ws-start
+    part-ws-end
+    mul-sc
+    sub-sc
+    part-sc-start
+    part-sc-end
+    slice-aggregate-read-shapes
+    read-shapes-requires
+    enum-known-reason
+    mul-t29
+    add-t30
+    returns
+    enum-known-n
+    read-score-requires
+    enum-known-reason-2
+    mul-t32
+    add-t33
+    mul-t34
+    add-t35
+    returns-2
+    enum-told
+    sub-store
+    part-store-start
+    part-store-end
+    store-requires
+    same-length
+    same-length-2
+    same-length-3
+    same-length-4
+    returns-3)

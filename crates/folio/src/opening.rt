@@ -1,0 +1,114 @@
+ghost use mathlib.Core.Path.{_≡_};
+ghost use Prim.Native.Nat.{ℕ, _≤_};
+ghost use lib.ListN.{length, take, drop};
+ghost use Rattle.folio.specs.Opening.{lent, out, stored, held, opened};
+use crate::BLANK;
+use crate::Counts;
+use crate::Opened;
+use crate::Score;
+use crate::Sections;
+use crate::Shapes;
+use crate::finding::fill;
+use crate::finding::find_sections;
+use crate::reading::read_score;
+use crate::reading::read_shapes;
+use kinds::Reason;
+use kinds::slices::put;
+use term::spans::put_spans;
+
+// Opens a folio: writes its shape words, their starts, its score and the score's spans, or refuses it and writes nothing.
+pub fn open(
+    file: &[u8],
+    words: &mut [u16],
+    starts: &mut [u16],
+    score: &mut [u16],
+    spans: &mut [u16],
+) -> Opened
+    ensures { λ r. ⌜ out r (lent (now (words .exit)) (now (starts .exit)) (now (score .exit)) (now (spans .exit))) ≡ opened (now (file .entry)) (lent (now (words .entry)) (now (starts .entry)) (now (score .entry)) (now (spans .entry))) ⌝ }
+{
+    let p = match find_sections(file) {
+        Sections::Refused(reason, place) => {
+            return Opened::Refused(reason, place);
+        }
+        Sections::At(p) => p,
+    };
+    let s = p.shapes;
+    let t = p.score;
+    let e = p.end;
+    let mut all = [0u16; 4368];
+    fill(&file[s..e], &mut all);
+    let m = (t - s) / 2;
+    let k = (e - s) / 2;
+    hold(&file[0..s], &all[0..k], m, s, words, starts, score, spans)
+}
+
+// The shapes, m words whose first is at byte `at`, and the score, the words behind them; then 18 and the tables.
+fn hold(
+    arity: &[u8],
+    both: &[u16],
+    m: usize,
+    at: usize,
+    words: &mut [u16],
+    starts: &mut [u16],
+    score: &mut [u16],
+    spans: &mut [u16],
+) -> Opened
+    requires { ⌜ (at ≤ 65535) × (m ≤ length (now both)) × (length (now both) ≤ 4368) ⌝ }
+    ensures { λ r. ⌜ out r (lent (now (words .exit)) (now (starts .exit)) (now (score .exit)) (now (spans .exit))) ≡ held (now (arity .entry)) (take m (now (both .entry))) (drop m (now (both .entry))) at (lent (now (words .entry)) (now (starts .entry)) (now (score .entry)) (now (spans .entry))) ⌝ }
+{
+    let k = both.len();
+    let ws = &both[0..m];
+    let sc = &both[m..k];
+    let mut firsts = [0u16; 16];
+    let n = match read_shapes(arity, BLANK, ws, &mut firsts) {
+        Shapes::Refused(reason, i) => {
+            return Opened::Refused(reason, at + 2 * i);
+        }
+        Shapes::Found(n) => n,
+    };
+    match read_score(arity, sc) {
+        Score::Refused(reason, i) => {
+            return Opened::Refused(reason, at + 2 * m + 2 * i);
+        }
+        Score::Whole => {}
+    }
+    store(arity, ws, &firsts[0..n], sc, words, starts, score, spans)
+}
+
+// 18, and then the writing of the four tables.
+fn store(
+    arity: &[u8],
+    ws: &[u16],
+    st: &[u16],
+    sc: &[u16],
+    words: &mut [u16],
+    starts: &mut [u16],
+    score: &mut [u16],
+    spans: &mut [u16],
+) -> Opened
+    requires { ⌜ length (now sc) ≤ 65535 ⌝ }
+    ensures { λ r. ⌜ out r (lent (now (words .exit)) (now (starts .exit)) (now (score .exit)) (now (spans .exit))) ≡ stored (now (arity .entry)) (now (ws .entry)) (now (st .entry)) (now (sc .entry)) (lent (now (words .entry)) (now (starts .entry)) (now (score .entry)) (now (spans .entry))) ⌝ }
+{
+    if words.len() < ws.len() {
+        return Opened::Refused(Reason::Tables, 0);
+    }
+    if starts.len() < st.len() {
+        return Opened::Refused(Reason::Tables, 0);
+    }
+    if score.len() < sc.len() {
+        return Opened::Refused(Reason::Tables, 0);
+    }
+    if spans.len() < sc.len() {
+        return Opened::Refused(Reason::Tables, 0);
+    }
+    put(words, ws);
+    put(starts, st);
+    put(score, sc);
+    put_spans(arity, sc, spans);
+    Opened::Folio(Counts {
+        symbols: arity.len(),
+        shapes: st.len(),
+        words: ws.len(),
+        nodes: sc.len(),
+    })
+}
