@@ -28,3 +28,4 @@ pub mod Marks
 pub mod Explored
 pub mod OpenNodes
 pub mod Walks
+pub mod BlocksAgain

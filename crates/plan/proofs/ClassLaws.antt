@@ -50,7 +50,7 @@ pick-off row ws at n j h l e =
     let d : n - j - 1 ≡ n - (j + 1) = omega arith in
     ap₂ (λ r gs. flat (pickedW r gs)) (drop-cons row j false l) (goals-next ws at (n - j) (omega arith)) ∙ rw (e, d, add-one j) refl
 
-picked-none : (bs : List Bool) → pickedW bs [] ≡ []
+pub picked-none : (bs : List Bool) → pickedW bs [] ≡ []
 unfolding pickedW
 picked-none [] = refl
 picked-none (b ∷ bs) = refl

@@ -22,7 +22,7 @@ use Rattle.kinds.proofs.Bools.{bool-ext}
 use Rattle.plan.specs.Squares.{cell}
 use Rattle.plan.specs.Links.{Linked, near, over}
 
-map-at {ℓ κ} : {A : Type ℓ} {B : Type κ} (f : A → B) (xs : List A) (i : ℕ) (d : B) (e : A) → i < length xs → getD (map f xs) i d ≡ f (getD xs i e)
+pub map-at {ℓ κ} : {A : Type ℓ} {B : Type κ} (f : A → B) (xs : List A) (i : ℕ) (d : B) (e : A) → i < length xs → getD (map f xs) i d ≡ f (getD xs i e)
 map-at f [] i d e h = absurd (omega arith)
 map-at f (x ∷ xs) zero d e h = refl
 map-at f (x ∷ xs) (suc i) d e h = map-at f xs i d e (omega arith)

@@ -17,6 +17,7 @@ pub mod SquareLaws
 pub mod LiftLaws
 pub mod ClassLaws
 pub mod TableLaws
+pub mod SortLaws
 pub mod Room
 pub mod ClosedDecoded
 pub mod TableFilled
@@ -25,3 +26,16 @@ pub mod TableSeek
 pub mod TableTold
 pub mod Goalwise
 pub mod OpenApart
+pub mod ReductDecoded
+pub mod FineSound
+pub mod ClassesDecoded
+pub mod OutputsDecoded
+pub mod ClassLifted
+pub mod GoodLaws
+pub mod WordsSimulate
+pub mod ReadyTables
+pub mod OrderLaws
+pub mod StateLaws
+pub mod InOrder
+pub mod MeetLaws
+pub mod WordArrays

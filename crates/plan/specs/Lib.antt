@@ -8,3 +8,5 @@ pub mod Sharing
 pub mod Squares
 pub mod Links
 pub mod ShapeTables
+pub mod Orders
+pub mod Meeting

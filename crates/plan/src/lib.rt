@@ -1,13 +1,17 @@
 use kinds::Reason;
 use kinds::State;
 
+mod announce;
 mod classes;
 mod closure;
 mod derive;
 mod goals;
 mod lift;
+mod order;
 mod same;
+mod sorting;
 mod square;
+mod states;
 mod tables;
 
 // How many states a plan has, and how many words.
@@ -26,13 +30,6 @@ pub enum Built {
 pub enum Shared {
     At(u32),
     Nothing,
-}
-
-// A class that is met: a state met before, a new one, or none.
-pub enum Place {
-    Known,
-    New,
-    Stopped(Reason),
 }
 
 // How many states there are now, and how many words the blocks made take.

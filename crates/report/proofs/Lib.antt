@@ -1,3 +1,6 @@
 pub mod AnyLaws
 pub mod CountLaws
 pub mod ClashLaws
+pub mod PathLaws
+pub mod DigitLaws
+pub mod TextLaws

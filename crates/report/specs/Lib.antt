@@ -5,3 +5,4 @@ pub mod Passing
 pub mod Quoted
 pub mod Paths
 pub mod Text
+pub mod Lines

@@ -11,8 +11,10 @@
 use Prim.Native.Nat.{ℕ, zero, suc, _+_, _/_, _%_}
 use mathlib.Core.List.{List, [], _∷_, _++_}
 use mathlib.Core.Bool.{Bool, cond}
+use mathlib.Core.Option.{Option, none, some}
 use lib.Dec.{ltb}
 use lib.ListN.{length, take}
+use Rattle.kinds.specs.Lists.{gather}
 use Rattle.kinds.specs.Positions.{Pos}
 use Rattle.kinds.specs.Reasons.{numberOf}
 use Rattle.kinds.specs.declared.Reason.{Reason}
@@ -20,6 +22,8 @@ use Rattle.report.specs.Counting.{Match, matchAt, found, total}
 use Rattle.report.specs.Clashes.{clashNumber, clash}
 use Rattle.report.specs.Quoted.{bytes}
 use Rattle.report.specs.Paths.{pathTo}
+use Rattle.report.specs.declared.Step.{Step}
+use Rattle.report.specs.declared.Step.the-variants.{At, Nowhere}
 
 unfoldable pub digitsTo : ℕ → ℕ → List ℕ
 digitsTo zero n = []
@@ -63,3 +67,12 @@ report spans states marks =
 
 abbrev pub refusalText : Reason → ℕ → List ℕ
 refusalText r p = bytes "refused " ++ (digits (numberOf r) ++ (bytes " at " ++ (digits p ++ bytes "\n")))
+
+-- numbers, each behind a dot
+unfoldable pub dottedOn : Pos → List ℕ
+dottedOn p = gather (λ i. 46 ∷ digits i) p
+
+-- a step as what it finds
+abbrev pub stepOf : Step → Option (ℕ × ℕ)
+stepOf (At i c) = some (i, c)
+stepOf Nowhere = none

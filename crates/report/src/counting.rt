@@ -18,8 +18,8 @@ pub fn matches(arity: &[u8], score: &[u16], spans: &[u16], marks: &[u16]) -> Cou
         if marks.len() < n {
             return Counted::Refused(Reason::ShortBuffers);
         }
-        let sum = ones_of(&marks[0..n]);
-        return Counted::Number(sum);
+        let ones = ones_of(&marks[0..n]);
+        return Counted::Number(ones);
     }
     Counted::Refused(Reason::BadScore)
 }

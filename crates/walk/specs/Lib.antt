@@ -2,3 +2,5 @@
 pub mod PlanParts
 pub mod Starting
 pub mod Stepping
+pub mod ByIndex
+pub mod OneFolio

@@ -1,0 +1,185 @@
+-- Tables filled from shape words that pass the check are ready, and the plan made with them is the one that is promised.
+--   stands standss shapes-stand   a shape's words stand from its start on
+--   fits-proper place-small       the positions of a shape are small
+--   node-words                    so codes, powers and masks of its nodes fit a word
+--   span-short tabled-of          what code asks of the tables
+--   ready-for ready               they are ready
+--   ready-shapes                  for the shapes that the shape words hold
+--   plan-of-tables                so the plan on words is that of the paper's construction for these shapes
+use mathlib.Core.Path.{_≡_, refl, ap, sym, _∙_, subst}
+use mathlib.Core.List.{List, [], _∷_, _++_, append-assoc}
+use mathlib.Core.Bool.{true}
+use mathlib.Core.Option.{some}
+use Prim.Native.Nat.{ℕ, zero, suc, _+_, _*_, _/_, _%_, _^_, _≤_, _<_}
+use native.Mathlib.Omega.{arith}
+use native.Mathlib.Nat.{zero-add}
+use native.Mathlib.Decide.{decLt}
+use lib.ListN.{length, getD, getElem?, length-append}
+use lib.Pow.{pow-mono}
+use lib.Seq.{sets, length-sets, getD-at}
+use Rattle.kinds.specs.Lists.{gather}
+use Rattle.kinds.specs.Positions.{Pos, code}
+use Rattle.kinds.proofs.Codes.{Proper, proper-nil, proper-cons, Small, small-code}
+use Rattle.kinds.proofs.Options.{none-not, on-bind}
+use Rattle.kinds.proofs.Places.{at-in, at-getD}
+use Rattle.term.specs.Terms.{Term, blank, node, Terms, tnil, tcons, count, span, flatten, flattens, Fits}
+use Rattle.term.specs.Places.{nth, sub, dom}
+use Rattle.folio.specs.Folio.{IsShape, shapeTerms}
+use Rattle.folio.specs.Again.{shapesGood}
+use Rattle.folio.proofs.Symbols.{GoodSymbols}
+use Rattle.folio.proofs.ShapesFound.{startsAt, length-starts, Shaped, Each}
+use Rattle.folio.proofs.GoodTables.{shapes-good-shaped}
+use Rattle.folio.proofs.Accepted.{shape-terms}
+use Rattle.automaton.specs.Exploring.{construction}
+use Rattle.automaton.specs.Paper.{paper}
+use Rattle.automaton.specs.PlanWords.{planned}
+use Rattle.term.proofs.Subterms.{child-fits, sub-depth}
+use Rattle.plan.specs.GoalWords.{Tabled, sizeOf}
+use Rattle.plan.specs.ShapeTables.{wordAt, spanFrom, spanAt, entryW, entriesFrom}
+use Rattle.plan.specs.Decoding.{roots, kidMasks, shapeAt, TableOf}
+use Rattle.plan.specs.GoodStates.{Ready}
+use Rattle.plan.specs.WordMachine.{words}
+use Rattle.plan.specs.Building.{planOf}
+use Rattle.plan.proofs.ShapeNodes.{node-of, kidsIn, length-words}
+use Rattle.plan.proofs.TableLaws.{entry-none, entry-past, entry-in, word-2}
+use Rattle.plan.proofs.TableSeek.{Stands, Standss}
+use Rattle.plan.proofs.TableTold.{table-of}
+use Rattle.plan.proofs.TableFilled.{filled-is}
+use Rattle.plan.proofs.ReductDecoded.{node-pos, kids-fit}
+use Rattle.plan.proofs.FineSound.{nth-fits}
+use Rattle.plan.proofs.WordsSimulate.{plan-of-words}
+
+-- ---- where shapes stand
+mutual
+  pub stands : (t : Term) (ws pre rest : List ℕ) (at : ℕ) → ws ≡ pre ++ (flatten t ++ rest) → length pre ≡ at → Stands ws at t
+  stands (blank w) ws pre rest at e l = ap (λ xs. wordAt xs at) e ∙ getD-at pre w rest 65535 at l
+  stands (node f ts) ws pre rest at e l = (
+    ap (λ xs. wordAt xs at) e ∙ getD-at pre f (flattens ts ++ rest) 65535 at l,
+    standss ts ws (pre ++ (f ∷ [])) rest (at + 1) (e ∙ sym (append-assoc pre (f ∷ []) (flattens ts ++ rest))) (length-append pre (f ∷ []) ∙ ap (λ x. x + 1) l),
+  )
+
+  pub standss : (ts : Terms) (ws pre rest : List ℕ) (at : ℕ) → ws ≡ pre ++ (flattens ts ++ rest) → length pre ≡ at → Standss ws at ts
+  standss tnil ws pre rest at e l = tt
+  standss (tcons t ts) ws pre rest at e l =
+      let d : ws ≡ pre ++ (flatten t ++ (flattens ts ++ rest)) = e ∙ ap (λ xs. pre ++ xs) (append-assoc (flatten t) (flattens ts) rest) in (
+        stands t ws pre (flattens ts ++ rest) at d l,
+        standss ts ws (pre ++ flatten t) rest (at + span t) (d ∙ sym (append-assoc pre (flatten t) (flattens ts ++ rest))) (length-append pre (flatten t) ∙ ap (λ x. x + length (flatten t)) l ∙ ap (λ x. at + x) (length-words t)),
+      )
+
+pub shapes-stand : (ts : List Term) (ws pre : List ℕ) (at : ℕ) → ws ≡ pre ++ gather flatten ts → length pre ≡ at → (i : ℕ) (t : Term) → getElem? ts i ≡ some t → Stands ws (getD (startsAt at ts) i 0) t
+shapes-stand [] ws pre at e l i t g = none-not g
+shapes-stand (x ∷ ts) ws pre at e l zero t g = let z : t ≡ x = cc in rw z (stands x ws pre (gather flatten ts) at e l)
+shapes-stand (x ∷ ts) ws pre at e l (suc i) t g =
+    shapes-stand ts ws (pre ++ flatten x) (at + span x) (e ∙ sym (append-assoc pre (flatten x) (gather flatten ts))) (length-append pre (flatten x) ∙ ap (λ n. n + length (flatten x)) l ∙ ap (λ n. at + n) (length-words x)) i t g
+
+-- ---- what fits a word
+module _ (ar : List ℕ) (few : (f n : ℕ) → getElem? ar f ≡ some n → n ≤ 4) where
+  pub fits-proper : (bl : ℕ) (p : Pos) (t : Term) {u : Term} → Fits ar bl t → sub t p ≡ some u → Proper p
+  fits-proper bl [] t h e = proper-nil
+  fits-proper bl (i ∷ p) (blank w) h e = none-not e
+  fits-proper bl (zero ∷ p) (node f ts) h e = none-not e
+  fits-proper bl (suc i ∷ p) (node f ts) {u} h e =
+      let c = child-fits f (suc i) ts p e in
+      let d = few f (count ts) (h .1) in
+      on-bind (nth ts i) (λ v. sub v p) e λ v ev q. proper-cons (c .0) (omega arith) (fits-proper bl p v (nth-fits ar bl ts i (h .2) ev) q)
+
+  pub place-small : (t : Term) → IsShape ar t → (p : Pos) {u : Term} → sub t p ≡ some u → Small p
+  place-small t s p {u} e = record { short = let l = sub-depth p t u e in let d = s .flat in omega arith; digits = fits-proper 65535 p t (s .fits) e }
+
+power-fits : (n : ℕ) → n ≤ 6 → 5 ^ n < 65536
+power-fits zero h = omega arith
+power-fits (suc zero) h = omega arith
+power-fits (suc (suc zero)) h = omega arith
+power-fits (suc (suc (suc zero))) h = omega arith
+power-fits (suc (suc (suc (suc zero)))) h = omega arith
+power-fits (suc (suc (suc (suc (suc zero))))) h = omega arith
+power-fits (suc (suc (suc (suc (suc (suc zero)))))) h = omega arith
+power-fits (suc (suc (suc (suc (suc (suc (suc n))))))) h = absurd (omega arith)
+
+pub node-words : (ar : List ℕ) → ((f n : ℕ) → getElem? ar f ≡ some n → n ≤ 4) → (t : Term) → IsShape ar t → (r : ℕ) → r < span t
+    → (code (getD (dom t) r []) < 65536) × (5 ^ length (getD (dom t) r []) < 65536) × (getD (kidMasks 0 t) r 0 < 65536)
+node-words ar few t s r h =
+    let o = node-of t r h in
+    let p = place-small ar few t s (o .at) (o .is) in
+    let c = small-code (o .at) p in
+    let m : getD (kidMasks 0 t) r 0 ≡ roots (kidsIn (o .under)) * 2 ^ suc r = o .mask 0 ∙ ap (λ k. roots (kidsIn (o .under)) * 2 ^ suc k) (zero-add r) in
+    let k = kids-fit t r o in
+    let l : 2 ^ span t ≤ 2 ^ 16 = pow-mono (s .small) in
+    (rw (node-pos t r o) (omega arith), rw (node-pos t r o) (power-fits (length (o .at)) (p .short)), omega (arith, m, k, l))
+
+-- ---- the tables
+pub span-short : (ar ws : List ℕ) (k at need : ℕ) → spanFrom ar ws k at need ≤ k
+unfolding spanFrom
+span-short ar ws zero at need = omega arith
+span-short ar ws (suc k) at zero = omega arith
+span-short ar ws (suc k) at (suc need) = let h = span-short ar ws k (suc at) (need + getD ar (wordAt ws at) 0) in omega arith
+
+pub tabled-of : (ar ws st tab : List ℕ) → 1280 ≤ length tab → ((k : ℕ) → k < 1280 → getD tab k 0 ≡ entryW ar ws st k) → Tabled tab
+tabled-of ar ws st tab long filled = record { long = long; sizes = λ s h. size s h (decLt ((512 + 16 * s) / 16 % 16) (length st)) (decLt ((512 + 16 * s) % 16) (spanAt ar ws (getD st ((512 + 16 * s) / 16 % 16) 0))) }
+  where
+    size : (s : ℕ) → s < 16 → Dec ((512 + 16 * s) / 16 % 16 < length st) → Dec ((512 + 16 * s) % 16 < spanAt ar ws (getD st ((512 + 16 * s) / 16 % 16) 0)) → sizeOf tab s ≤ 16
+    size s h (no a) b = let e = filled (512 + 16 * s) (omega arith) ∙ entry-none ar ws st (512 + 16 * s) (omega (arith, a)) in omega (arith, e)
+    size s h (yes a) (no b) = let e = filled (512 + 16 * s) (omega arith) ∙ entry-past ar ws st (512 + 16 * s) a (omega (arith, b)) in omega (arith, e)
+    size s h (yes a) (yes b) =
+        let at = getD st ((512 + 16 * s) / 16 % 16) 0 in
+        let x : (512 + 16 * s) / 256 ≡ 2 = omega arith in
+        let e = filled (512 + 16 * s) (omega arith) ∙ entry-in ar ws st (512 + 16 * s) a b ∙ word-2 ar ws at ((512 + 16 * s) / 256) ((512 + 16 * s) % 16) x in
+        let l = span-short ar ws 16 (at + (512 + 16 * s) % 16) 1 in
+        omega (arith, e, l)
+
+pub ready-for : (ar ws st tab : List ℕ) → GoodSymbols ar → Shaped ar ws st → 1280 ≤ length tab → ((k : ℕ) → k < 1280 → getD tab k 0 ≡ entryW ar ws st k) → Ready ar tab (length st)
+ready-for ar ws st tab g s long filled = record {
+  shapes = s .trees;
+  count = sym how-many;
+  some-shape = let h = s .some-shape in let e = how-many in omega arith;
+  few-shapes = let h = s .few-shapes in let e = how-many in omega arith;
+  few-symbols = g .few-symbols;
+  children = g .children;
+  is-shape = λ i t e. s .each t (at-in (s .trees) i e);
+  tables = λ i h. table i h;
+  tabled = tabled-of ar ws st tab long filled;
+}
+  where
+    how-many : length st ≡ length (s .trees)
+    how-many = ap length (s .begins) ∙ length-starts 0 (s .trees)
+
+    table : (i : ℕ) → i < length (s .trees) → TableOf tab i (shapeAt (s .trees) i)
+    table i h =
+        let t = shapeAt (s .trees) i in
+        let e = at-getD (s .trees) i (blank 65535) h in
+        let is = s .each t (at-in (s .trees) i e) in
+        let few = s .few-shapes in
+        let n = how-many in
+        let sy = g .few-symbols in
+        let here-is : Stands ws (getD st i 0) t = subst (λ xs. Stands ws (getD xs i 0) t) (sym (s .begins)) (shapes-stand (s .trees) ws [] 0 (s .words) refl i t e) in
+        table-of ar ws st tab (omega arith) filled i t (omega arith) (omega arith) here-is (is .fits) (is .small) (node-words ar (g .children) t is)
+
+-- the shapes are those that the shape words hold
+held : (ar ws st : List ℕ) → Shaped ar ws st → Shaped ar ws st
+held ar ws st s = record {
+  trees = shapeTerms ar ws;
+  each = subst (Each ar) is (s .each);
+  some-shape = subst (λ ts. 1 ≤ length ts) is (s .some-shape);
+  few-shapes = subst (λ ts. length ts ≤ 16) is (s .few-shapes);
+  words = s .words ∙ ap (gather flatten) is;
+  begins = s .begins ∙ ap (startsAt 0) is;
+}
+  where
+    is : s .trees ≡ shapeTerms ar ws
+    is = sym (ap (shapeTerms ar) (s .words) ∙ shape-terms ar (s .trees) (s .each) (s .few-shapes))
+
+-- as fill_tables leaves the words of l
+pub ready : (ar ws st l tab : List ℕ) → shapesGood ar ws st ≡ true → 1280 ≤ length l → tab ≡ sets l 0 (entriesFrom ar ws st 0 1280) → Ready ar tab (length st)
+ready ar ws st l tab good long e =
+    let g = shapes-good-shaped ar ws st good in
+    ready-for ar ws st tab (g .0) (held ar ws st (g .1)) (rw (e, length-sets l 0 (entriesFrom ar ws st 0 1280)) long) (λ k h. ap (λ xs. getD xs k 0) e ∙ filled-is ar ws st l 1280 k long h)
+
+pub ready-shapes : (ar ws st l tab : List ℕ) (good : shapesGood ar ws st ≡ true) (long : 1280 ≤ length l) (e : tab ≡ sets l 0 (entriesFrom ar ws st 0 1280)) → ready ar ws st l tab good long e .shapes ≡ shapeTerms ar ws
+unfolding ready ready-for held
+ready-shapes ar ws st l tab good long e = refl
+
+pub plan-of-tables : (ar ws st l tab : List ℕ) (room : ℕ) → shapesGood ar ws st ≡ true → 1280 ≤ length l → tab ≡ sets l 0 (entriesFrom ar ws st 0 1280)
+    → planned (words tab (length st)) ar (length st) room ≡ planOf ar (shapeTerms ar ws) room
+plan-of-tables ar ws st l tab room good long e =
+    let r = ready ar ws st l tab good long e in
+    plan-of-words r room ∙ ap (λ n. planned (construction (paper (r .shapes))) ar n room) (sym (r .count)) ∙ ap (λ ts. planOf ar ts room) (ready-shapes ar ws st l tab good long e)

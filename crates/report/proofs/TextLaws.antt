@@ -1,0 +1,188 @@
+-- Text written piece by piece.
+--   Put              a text stands from one place on, and ends at another
+--   put-then         a piece behind a piece
+--   text-next text-end              a text byte by byte
+--   dotted-is dotted-next dotted-end   child numbers, each behind a dot
+--   dotted-few path-few             how long they are at most
+use Prim.Native.Nat.{ℕ, zero, suc, _+_, _*_, _-_, _<_, _≤_}
+use mathlib.Core.Path.{_≡_, refl, ap, ap₂, sym, _∙_}
+use mathlib.Core.List.{List, [], _∷_, _++_, append-assoc, append-nil}
+use native.Mathlib.Omega.{arith}
+use native.Mathlib.Nat.{add-zero, zero-add}
+use mathlib.Core.Bool.{Bool, true, false, cond}
+use mathlib.Core.Option.{Option, none, some}
+use borrow.Author.Tests.{lt-leb, le-leb}
+use lib.Dec.{eqb}
+use native.Mathlib.Numerals.{add-one}
+use lib.ListN.{length, getD, drop, set, length-append, length-set}
+use lib.Seq.{sets, drop-cons, length-sets}
+use Rattle.kinds.specs.Lists.{gather}
+use Rattle.kinds.specs.Positions.{Pos}
+use Rattle.kinds.proofs.ListLaws.{sets-append, from, from-end}
+use Rattle.kinds.specs.declared.Reason.the-variants.{ShortBuffers}
+use Rattle.report.specs.Paths.{childOn, through, pathTo}
+use Rattle.report.specs.Text.{digits, digitsTo, dotted, dottedOn, pathText}
+use Rattle.kinds.specs.Reasons.{numberOf}
+use Rattle.kinds.specs.declared.Reason.{Reason}
+use Rattle.report.specs.Quoted.{bytes}
+use Rattle.report.specs.Lines.{outOf, written, firstOut, refusalOut, lineOut}
+use Rattle.report.specs.declared.Written.the-variants.{Bytes, Refused}
+use Rattle.report.proofs.DigitLaws.{digits-few}
+
+pub record Put (o₀ : List ℕ) (a : ℕ) (ws : List ℕ) (o : List ℕ) (e : ℕ) : Type 0 where
+  pub end : e ≡ a + length ws
+  pub text : o ≡ sets o₀ a ws
+
+pub put-then : {o₀ o o′ : List ℕ} {a b c : ℕ} {xs ys : List ℕ} → Put o₀ a xs o b → Put o b ys o′ c → Put o₀ a (xs ++ ys) o′ c
+put-then {o₀} {o} {o′} {a} {b} {c} {xs} {ys} p q = record {
+  end = let x = p .end in let y = q .end in let l = length-append xs ys in omega arith;
+  text = q .text ∙ ap₂ (λ l k. sets l k ys) (p .text) (p .end) ∙ sym (sets-append o₀ a xs ys);
+}
+
+-- what is left of a text from byte i on
+pub text-next : (o t : List ℕ) (at i : ℕ) → i < length t → sets o (at + i) (drop i t) ≡ sets (set o (at + i) (getD t i 0)) (at + (i + 1)) (drop (i + 1) t)
+text-next o t at i h = let z : suc (at + i) ≡ at + (i + 1) = omega arith in ap (sets o (at + i)) (from t i h) ∙ ap (λ k. sets (set o (at + i) (getD t i 0)) k (drop (i + 1) t)) z
+
+pub text-end : (o t : List ℕ) (at i : ℕ) → length t ≤ i → sets o (at + i) (drop i t) ≡ o
+text-end o t at i h = ap (sets o (at + i)) (from-end t i h)
+
+-- ---- child numbers
+pub dotted-is : (i : ℕ) (p : Pos) → pathText (i ∷ p) ≡ digits i ++ dottedOn p
+unfolding pathText dottedOn
+dotted-is i [] = sym (append-nil (digits i))
+dotted-is i (j ∷ p) = ap (λ l. digits i ++ (46 ∷ l)) (dotted-is j p)
+
+pub dotted-next : (p : Pos) (i : ℕ) → i < length p → dottedOn (drop i p) ≡ 46 ∷ (digits (getD p i 0) ++ dottedOn (drop (i + 1) p))
+unfolding dottedOn
+dotted-next p i h = ap (λ l. gather (λ j. 46 ∷ digits j) l) (from p i h)
+
+pub dotted-end : (p : Pos) (i : ℕ) → length p ≤ i → dottedOn (drop i p) ≡ []
+unfolding dottedOn
+dotted-end p i h = ap (λ l. gather (λ j. 46 ∷ digits j) l) (from-end p i h)
+
+pub digits-short : (n : ℕ) → length (digits n) ≤ 20
+unfolding digits
+digits-short n = digits-few 20 n
+
+-- what is left of child numbers from place i on
+pub record Dots (p : Pos) (o₀ : List ℕ) (a₀ : ℕ) (o : List ℕ) (a i : ℕ) : Type 0 where
+  pub long : length o ≡ length o₀
+  pub some : 1 ≤ i
+  pub inside : i ≤ length p
+  pub room : a + 21 * (length p - i) ≤ a₀ + 21 * (length p - 1)
+  pub end : a₀ + length (dottedOn (drop 1 p)) ≡ a + length (dottedOn (drop i p))
+  pub text : sets o₀ a₀ (dottedOn (drop 1 p)) ≡ sets o a (dottedOn (drop i p))
+
+pub dots-begin : (p : Pos) (o : List ℕ) (a : ℕ) → 1 ≤ length p → Dots p o a o a 1
+dots-begin p o a h = record { long = refl; some = omega arith; inside = h; room = omega arith; end = refl; text = refl }
+
+pub dots-next : {p : Pos} {o₀ o : List ℕ} {a₀ a i : ℕ} (o′ : List ℕ) (e : ℕ) → Dots p o₀ a₀ o a i → i < length p
+    → e ≡ a + 1 + length (digitsTo 20 (getD p i 0)) → o′ ≡ sets (set o a 46) (a + 1) (digitsTo 20 (getD p i 0)) → Dots p o₀ a₀ o′ e (i + 1)
+unfolding digits
+dots-next {p} {o₀} {o} {a₀} {a} {i} o′ e d h q t =
+    let s = dotted-next p i h in
+    let few = digits-few 20 (getD p i 0) in
+    let l : length (dottedOn (drop i p)) ≡ suc (length (digitsTo 20 (getD p i 0)) + length (dottedOn (drop (i + 1) p))) = ap length s ∙ ap suc (length-append (digitsTo 20 (getD p i 0)) (dottedOn (drop (i + 1) p))) in
+    let r = d .room in let n = d .end in
+    record {
+      long = ap length t ∙ length-sets (set o a 46) (a + 1) (digitsTo 20 (getD p i 0)) ∙ length-set o a 46 ∙ d .long;
+      some = omega arith;
+      inside = omega arith;
+      room = omega arith;
+      end = omega arith;
+      text = d .text ∙ ap (sets o a) s ∙ ap (λ k. sets (set o a 46) k (digitsTo 20 (getD p i 0) ++ dottedOn (drop (i + 1) p))) (sym (add-one a))
+          ∙ sets-append (set o a 46) (a + 1) (digitsTo 20 (getD p i 0)) (dottedOn (drop (i + 1) p)) ∙ ap₂ (λ x k. sets x k (dottedOn (drop (i + 1) p))) (sym t) (sym q);
+    }
+
+pub dots-end : {p : Pos} {o₀ o : List ℕ} {a₀ a i : ℕ} (z : List ℕ) (at : ℕ) → Dots p o₀ a₀ o a i → length p ≤ i
+    → a₀ ≡ at + length (digitsTo 20 (getD p 0 0)) → o₀ ≡ sets z at (digitsTo 20 (getD p 0 0)) → (a ≡ at + length (pathText p)) × (o ≡ sets z at (pathText p))
+unfolding digits
+dots-end {p} {o₀} {o} {a₀} {a} {i} z at d h q t =
+    let n : length p ≤ i = h in
+    let s = dotted-end p i n in
+    let w : pathText p ≡ digitsTo 20 (getD p 0 0) ++ dottedOn (drop 1 p) = whole p (omega (arith, d .some, d .inside)) in
+    let e = d .end in
+    let l : length (dottedOn (drop i p)) ≡ 0 = ap length s in
+    let m : length (pathText p) ≡ length (digitsTo 20 (getD p 0 0)) + length (dottedOn (drop 1 p)) = ap length w ∙ length-append (digitsTo 20 (getD p 0 0)) (dottedOn (drop 1 p)) in (
+      omega arith,
+      sym (ap (sets z at) w ∙ sets-append z at (digitsTo 20 (getD p 0 0)) (dottedOn (drop 1 p)) ∙ ap₂ (λ x k. sets x k (dottedOn (drop 1 p))) (sym t) (sym q) ∙ d .text ∙ ap (sets o a) s),
+    )
+  where
+    whole : (p : Pos) → 1 ≤ length p → pathText p ≡ digits (getD p 0 0) ++ dottedOn (drop 1 p)
+    whole [] g = absurd (omega arith)
+    whole (j ∷ r) g = dotted-is j r
+
+pub path-root : (p : Pos) (o o′ : List ℕ) (a e : ℕ) → length p ≡ 0 → (e ≡ a + 1) × (o′ ≡ sets o a (45 ∷ [])) → (e ≡ a + length (pathText p)) × (o′ ≡ sets o a (pathText p))
+unfolding pathText
+path-root [] o o′ a e z h = h
+path-root (i ∷ p) o o′ a e z h = absurd (omega arith)
+
+-- ---- a line
+pub line-short : (text o : List ℕ) → length o < 1400 → outOf (Refused ShortBuffers) o ≡ written text o
+unfolding written
+line-short text o h = rw (lt-leb 1400 (length o) h)
+
+pub line-is : {text o o′ : List ℕ} {e : ℕ} → 1400 ≤ length o → Put o 0 text o′ e → outOf (Bytes e) o′ ≡ written text o
+unfolding written
+line-is {text} {o} {o′} {e} h p = rw (le-leb 1400 (length o) h) (ap₂ (λ k l. outOf (Bytes k) l) (p .end ∙ zero-add (length text)) (p .text))
+
+-- what a call says of a piece that it wrote
+abbrev pub Wrote : List ℕ → ℕ → List ℕ → List ℕ → ℕ → Type 0
+Wrote o a ws o′ e = (e ≡ a + length ws) × (o′ ≡ sets o a ws)
+
+piece : {o o′ : List ℕ} {a e : ℕ} (ws : List ℕ) → Wrote o a ws o′ e → Put o a ws o′ e
+piece ws h = record { end = h .0; text = h .1 }
+
+number : {o o′ : List ℕ} {a e : ℕ} (n : ℕ) → Wrote o a (digitsTo 20 n) o′ e → Put o a (digits n) o′ e
+unfolding digits
+number n h = record { end = h .0; text = h .1 }
+
+-- a number takes at most twenty bytes
+pub number-end : (n a e : ℕ) → e ≡ a + length (digitsTo 20 n) → e ≤ a + 20
+number-end n a e h = let f = digits-few 20 n in omega arith
+
+pub path-few : (d : ℕ) (sp : List ℕ) (x a : ℕ) → length (pathTo d sp x a) ≤ d
+unfolding pathTo
+path-few zero sp x a = omega arith
+path-few (suc d) sp x a = go (eqb a x) (childOn sp x 4 (a + 1) 1) (path-few d sp x)
+  where
+    go : (b : Bool) (o : Option (ℕ × ℕ)) → ((c : ℕ) → length (pathTo d sp x c) ≤ d) → length (cond b [] (through o (pathTo d sp x))) ≤ suc d
+    go true o ih = omega arith
+    go false none ih = omega arith
+    go false (some c) ih = let h = ih (c .1) in omega arith
+
+pub dotted-few : (p : Pos) → length (dottedOn p) ≤ 21 * length p
+unfolding dottedOn digits
+dotted-few [] = omega arith
+dotted-few (i ∷ p) = let ih = dotted-few p in let f = digits-few 20 i in rw (length-append (46 ∷ digitsTo 20 i) (dottedOn p)) (omega arith)
+
+pub text-few : (p : Pos) → length (pathText p) ≤ 21 * length p + 1
+unfolding pathText
+text-few [] = omega arith
+text-few (i ∷ p) = let f = digits-short i in let g = dotted-few p in let e : length (pathText (i ∷ p)) ≡ length (digits i) + length (dottedOn p) = ap length (dotted-is i p) ∙ length-append (digits i) (dottedOn p) in omega arith
+
+pub path-end : (p : Pos) (a e : ℕ) → length p ≤ 64 → e ≡ a + length (pathText p) → e ≤ a + 1345
+path-end p a e l h = let f = text-few p in omega arith
+
+pub first-is : (n s m c : ℕ) (o : List ℕ) {o₁ o₂ o₃ o₄ o₅ o₆ o₇ o₈ o₉ : List ℕ} {a₁ a₂ a₃ a₄ a₅ a₆ a₇ a₈ a₉ : ℕ} → 1400 ≤ length o
+    → Wrote o 0 (bytes "nodes ") o₁ a₁ → Wrote o₁ a₁ (digitsTo 20 n) o₂ a₂ → Wrote o₂ a₂ (bytes " states ") o₃ a₃ → Wrote o₃ a₃ (digitsTo 20 s) o₄ a₄
+    → Wrote o₄ a₄ (bytes " matches ") o₅ a₅ → Wrote o₅ a₅ (digitsTo 20 m) o₆ a₆ → Wrote o₆ a₆ (bytes " clashes ") o₇ a₇ → Wrote o₇ a₇ (digitsTo 20 c) o₈ a₈
+    → Wrote o₈ a₈ (bytes "\n") o₉ a₉ → outOf (Bytes a₉) o₉ ≡ firstOut n s m c o
+first-is n s m c o room p₁ p₂ p₃ p₄ p₅ p₆ p₇ p₈ p₉ =
+    line-is room
+    (put-then (piece (bytes "nodes ") p₁) (put-then (number n p₂) (put-then (piece (bytes " states ") p₃) (put-then (number s p₄)
+    (put-then (piece (bytes " matches ") p₅) (put-then (number m p₆) (put-then (piece (bytes " clashes ") p₇) (put-then (number c p₈) (piece (bytes "\n") p₉)))))))))
+
+pub refusal-is : (r : Reason) (p : ℕ) (o : List ℕ) {o₁ o₂ o₃ o₄ o₅ : List ℕ} {a₁ a₂ a₃ a₄ a₅ k : ℕ} → 1400 ≤ length o → k ≡ numberOf r
+    → Wrote o 0 (bytes "refused ") o₁ a₁ → Wrote o₁ a₁ (digitsTo 20 k) o₂ a₂ → Wrote o₂ a₂ (bytes " at ") o₃ a₃ → Wrote o₃ a₃ (digitsTo 20 p) o₄ a₄
+    → Wrote o₄ a₄ (bytes "\n") o₅ a₅ → outOf (Bytes a₅) o₅ ≡ refusalOut r p o
+refusal-is r p o {k = k} room e p₁ p₂ p₃ p₄ p₅ =
+    line-is room (put-then (piece (bytes "refused ") p₁) (put-then (number k p₂) (put-then (piece (bytes " at ") p₃) (put-then (number p p₄) (piece (bytes "\n") p₅)))))
+    ∙ ap (λ n. written (bytes "refused " ++ (digits n ++ (bytes " at " ++ (digits p ++ bytes "\n")))) o) e
+
+pub match-is : (sp : List ℕ) (x j : ℕ) (o p : List ℕ) {o₁ o₂ o₃ o₄ o₅ o₆ : List ℕ} {a₁ a₂ a₃ a₄ a₅ a₆ : ℕ} → 1400 ≤ length o → p ≡ pathTo 64 sp x 0
+    → Wrote o 0 (digitsTo 20 x) o₁ a₁ → Wrote o₁ a₁ (bytes " ") o₂ a₂ → Wrote o₂ a₂ (digitsTo 20 j) o₃ a₃ → Wrote o₃ a₃ (bytes " ") o₄ a₄
+    → Wrote o₄ a₄ (pathText p) o₅ a₅ → Wrote o₅ a₅ (bytes "\n") o₆ a₆ → outOf (Bytes a₆) o₆ ≡ lineOut sp x j o
+match-is sp x j o p room e p₁ p₂ p₃ p₄ p₅ p₆ =
+    line-is room (put-then (number x p₁) (put-then (piece (bytes " ") p₂) (put-then (number j p₃) (put-then (piece (bytes " ") p₄) (put-then (piece (pathText p) p₅) (piece (bytes "\n") p₆))))))
+    ∙ ap (λ q. written (digits x ++ (bytes " " ++ (digits j ++ (bytes " " ++ (pathText q ++ bytes "\n"))))) o) e

@@ -1,0 +1,44 @@
+-- The lines as calls write them into a lent buffer, which must have 1,400 bytes: the longest line fits.
+--   Out           an answer, and the buffer as it is then
+--   written       the text at the buffer's start and its length, or 30 for a buffer that is too short
+--   lineOut firstOut refusalOut   a match's line, the first line, a refusal's line
+--   writtenSays   the answer in document 01's numbers
+use Prim.Native.Nat.{ℕ}
+use mathlib.Core.List.{List, [], _∷_}
+use lib.Dec.{leb}
+use lib.ListN.{length}
+use lib.Seq.{sets}
+use Rattle.kinds.specs.Lists.{unless}
+use Rattle.kinds.specs.Reasons.{Says, gives, refuses}
+use Rattle.kinds.specs.declared.Reason.{Reason}
+use Rattle.kinds.specs.declared.Reason.the-variants.{ShortBuffers}
+use Rattle.report.specs.Counting.{matchAt}
+use Rattle.report.specs.Text.{line, firstLine, refusalText}
+use Rattle.report.specs.declared.Written.{Written}
+use Rattle.report.specs.declared.Written.the-variants.{Bytes, Refused}
+
+pub record Out : Type 0 where
+  pub answer : Written
+  pub out : List ℕ
+
+abbrev pub outOf : Written → List ℕ → Out
+outOf a o = record { answer = a; out = o }
+
+abbrev pub lineRoom : ℕ
+lineRoom = 1400
+
+unfoldable pub written : List ℕ → List ℕ → Out
+written text o = unless (leb lineRoom (length o)) (outOf (Refused ShortBuffers) o) (outOf (Bytes (length text)) (sets o 0 text))
+
+abbrev pub lineOut : List ℕ → ℕ → ℕ → List ℕ → Out
+lineOut spans x j o = written (line spans (matchAt x j)) o
+
+abbrev pub firstOut : ℕ → ℕ → ℕ → ℕ → List ℕ → Out
+firstOut n s m c o = written (firstLine n s m c) o
+
+abbrev pub refusalOut : Reason → ℕ → List ℕ → Out
+refusalOut r p o = written (refusalText r p) o
+
+abbrev pub writtenSays : Written → Says
+writtenSays (Bytes n) = gives (n ∷ [])
+writtenSays (Refused r) = refuses r 0

@@ -1,0 +1,106 @@
+ghost use mathlib.Core.Path.{_≡_};
+ghost use Prim.Native.Nat.{ℕ, _+_, _*_, _-_, _<_, _≤_};
+ghost use mathlib.Core.List.{List};
+ghost use lib.ListN.{length};
+ghost use lib.Seq.{sets};
+ghost use Rattle.kinds.specs.Lists.{gather};
+ghost use Rattle.report.specs.Paths.{childOn, pathTo};
+ghost use Rattle.report.specs.Text.{digitsTo, digits, dotted, pathText, dottedOn, stepOf};
+use crate::Step;
+
+// The child number and the node of the first of at most four children, from `from` on, in whose subtree x stands.
+fn find_child(spans: &[u16], x: usize, from: usize) -> Step
+    ensures { λ r. ⌜ stepOf r ≡ childOn (now (spans .entry)) x 4 from 1 ⌝ }
+{
+    let mut here = from;
+    let mut k: u16 = 0;
+    while k < 4 {
+        if spans.len() <= here {
+            return Step::Nowhere;
+        }
+        let e = here + spans[here] as usize;
+        if x < e {
+            return Step::At(k + 1, here);
+        }
+        here = e;
+        k += 1;
+    }
+    Step::Nowhere
+}
+
+// The child numbers from the root to node x into `out`; answers how many.
+pub fn put_path(spans: &[u16], x: usize, out: &mut [u16]) -> usize
+    requires { ⌜ 64 ≤ length (now out) ⌝ }
+    ensures count { λ r. ⌜ r ≡ length (pathTo 64 (now (spans .entry)) x 0) ⌝ }
+    ensures buffer { λ r. ⌜ now (out .exit) ≡ sets (now (out .entry)) 0 (pathTo 64 (now (spans .entry)) x 0) ⌝ }
+{
+    let mut at: usize = 0;
+    let mut d: usize = 0;
+    while d < 64 {
+        if at == x {
+            return d;
+        }
+        match find_child(spans, x, at + 1) {
+            Step::Nowhere => {
+                return d;
+            }
+            Step::At(i, c) => {
+                out[d] = i;
+                at = c;
+            }
+        }
+        d += 1;
+    }
+    d
+}
+
+// The decimal digits of n, at most `left` of them, from `at` on; answers the place after them.
+pub fn put_digits(n: usize, left: usize, out: &mut [u8], at: usize) -> usize
+    requires { ⌜ at + left ≤ length (now out) ⌝ }
+    ensures count { λ r. ⌜ r ≡ at + length (digitsTo left n) ⌝ }
+    ensures buffer { λ r. ⌜ now (out .exit) ≡ sets (now (out .entry)) at (digitsTo left n) ⌝ }
+{
+    if left == 0 {
+        return at;
+    }
+    if n < 10 {
+        out[at] = (48 + n) as u8;
+        return at + 1;
+    }
+    let e = put_digits(n / 10, left - 1, out, at);
+    out[e] = (48 + n % 10) as u8;
+    e + 1
+}
+
+// A text from `at` on; answers the place after it.
+pub fn put_text(text: &[u8], out: &mut [u8], at: usize) -> usize
+    requires { ⌜ at + length (now text) ≤ length (now out) ⌝ }
+    ensures count { λ r. ⌜ r ≡ at + length (now (text .entry)) ⌝ }
+    ensures buffer { λ r. ⌜ now (out .exit) ≡ sets (now (out .entry)) at (now (text .entry)) ⌝ }
+{
+    let mut i = 0;
+    while i < text.len() {
+        out[at + i] = text[i];
+        i += 1;
+    }
+    at + i
+}
+
+// Child numbers with dots between them, the root as `-`, from `at` on; answers the place after them.
+pub fn put_dotted(path: &[u16], out: &mut [u8], at: usize) -> usize
+    requires { ⌜ at + (21 * length (now path) + 1) ≤ length (now out) ⌝ }
+    ensures count { λ r. ⌜ r ≡ at + length (pathText (now (path .entry))) ⌝ }
+    ensures buffer { λ r. ⌜ now (out .exit) ≡ sets (now (out .entry)) at (pathText (now (path .entry))) ⌝ }
+{
+    if path.len() == 0 {
+        return put_text(b"-", out, at);
+    }
+    let mut here = put_digits(path[0] as usize, 20, out, at);
+    let mut i = 1;
+    while i < path.len() {
+        out[here] = b'.';
+        here = put_digits(path[i] as usize, 20, out, here + 1);
+        i += 1;
+    }
+    here
+}

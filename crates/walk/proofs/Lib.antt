@@ -1,0 +1,14 @@
+-- What is known of a walk over words.
+pub mod LawsPairs
+pub mod LawsParts
+pub mod LawsTargets
+pub mod LawsStart
+pub mod LawsStep
+pub mod PlanRead
+pub mod MarkLaws
+pub mod NodeNumbers
+pub mod Tied
+pub mod TiedRuns
+pub mod AnyWalk
+pub mod FolioWalk
+pub mod Keeps

@@ -1,0 +1,114 @@
+-- The plan's parts and a step's, by index into the words.
+--   orZero       a number, 0 where there is none
+--   pairList     n pairs from word b on
+--   middle       where a block's successors are counted
+--   outsAt nextsAt   the announcements and the successors of the block at b
+--   blockFits    the whole block lies within the words
+--   blockStart   where the block of a state and symbol begins, if it is there and whole
+--   fine         a pair's number is below its limit, and its code leads to a node below room
+--   landed       each pair's number, and the node that its code leads to
+--   closedUp     the words from at + 2 up to end, moved down by two
+--   lookHead     the node that an item reads, and where its block begins
+--   leadsFine    each announcement is a shape's and leads to a mark, each successor is a state's and leads to a node
+--   roomLeft     the log has room for one more, the waiting words for all items after the step
+--   sighted      what a step that is not refused 34 sees: the item's node, the node read, where the block begins
+--   begins pairOf headOf sightOf   answers of the code's parts
+use mathlib.Core.List.{List, [], _∷_, map}
+use mathlib.Core.Bool.{Bool, false, _&&_}
+use mathlib.Core.Option.{Option, none, some}
+use Prim.Native.Nat.{ℕ, zero, suc, _+_, _*_, _-_}
+use lib.Dec.{ltb, leb}
+use lib.ListN.{length, getD, getElem?, take, drop}
+use lib.Seq.{sets}
+use Rattle.kinds.specs.Lists.{bind, need, all}
+use Rattle.term.specs.Spans.{target}
+use Rattle.walk.specs.PlanParts.{countsGood, labelWord}
+use Rattle.walk.specs.declared.Start.{Start}
+use Rattle.walk.specs.declared.Start.the-variants as start
+use Rattle.walk.specs.declared.Pair.{Pair}
+use Rattle.walk.specs.declared.Pair.the-variants as pair
+use Rattle.walk.specs.declared.Head.{Head}
+use Rattle.walk.specs.declared.Head.the-variants as head
+use Rattle.walk.specs.declared.Record.{Record}
+use Rattle.walk.specs.declared.Sight.{Sight}
+use Rattle.walk.specs.declared.Sight.the-variants as sight
+
+abbrev pub orZero : Option ℕ → ℕ
+orZero (some x) = x
+orZero none = 0
+
+unfoldable pub pairList : List ℕ → ℕ → ℕ → List (ℕ × ℕ)
+pairList ws b zero = []
+pairList ws b (suc n) = (getD ws b 0, getD ws (b + 1) 0) ∷ pairList ws (b + 2) n
+
+abbrev pub middle : List ℕ → ℕ → ℕ
+middle plan b = b + 1 + 2 * getD plan b 0
+
+abbrev pub outsAt : List ℕ → ℕ → List (ℕ × ℕ)
+outsAt plan b = pairList plan (b + 1) (getD plan b 0)
+
+abbrev pub nextsAt : List ℕ → ℕ → List (ℕ × ℕ)
+nextsAt plan b = pairList plan (middle plan b + 1) (getD plan (middle plan b) 0)
+
+unfoldable pub blockFits : List ℕ → ℕ → Bool
+blockFits plan b = leb (middle plan b + 1 + 2 * getD plan (middle plan b) 0) (length plan)
+
+unfoldable pub blockStart : List ℕ → ℕ → ℕ → ℕ → ℕ → Option ℕ
+blockStart plan m k s f =
+    need (ltb s m)
+    (need (ltb f k)
+    (bind (getElem? plan (4 + m + (s * k + f))) (λ b. need (blockFits plan b) (some b))))
+
+abbrev pub belowRoom : ℕ → Option ℕ → Bool
+belowRoom room (some x) = ltb x room
+belowRoom room none = false
+
+unfoldable pub fine : ℕ → ℕ → (ℕ → Option ℕ) → ℕ × ℕ → Bool
+fine limit room to x = ltb (x .0) limit && belowRoom room (to (x .1))
+
+unfoldable pub landed : (ℕ → Option ℕ) → List (ℕ × ℕ) → List (ℕ × ℕ)
+landed to ps = map (λ x. (x .0, orZero (to (x .1)))) ps
+
+abbrev pub closedUp : List ℕ → ℕ → ℕ → List ℕ
+closedUp xs at end = sets xs at (take (end - (at + 2)) (drop (at + 2) xs))
+
+unfoldable pub lookHead : List ℕ → List ℕ → List ℕ → ℕ × ℕ → Option (ℕ × ℕ)
+lookHead plan score spans it =
+    let m = getD plan 0 0 in
+    need (countsGood plan)
+    (bind (labelWord plan m (it .0)) (λ c.
+    bind (target (length score) spans (it .1) c) (λ x.
+    bind (getElem? score x) (λ f.
+    bind (blockStart plan m (getD plan 1 0) (it .0) f) (λ b. some (x, b))))))
+
+-- n is the number of score words; from the item's node; of the block at b
+unfoldable pub leadsFine : List ℕ → ℕ → List ℕ → ℕ → ℕ → ℕ → Bool
+leadsFine plan n spans from b marks = all (fine (getD plan 2 0) marks (target n spans from)) (outsAt plan b) && all (fine (getD plan 0 0) 65536 (target n spans from)) (nextsAt plan b)
+
+unfoldable pub roomLeft : List ℕ → ℕ → ℕ → ℕ → Record → Bool
+roomLeft plan b items log r = ltb (r .logged) log && leb (2 * (r .waiting - 1 + getD plan (middle plan b) 0)) items
+
+unfoldable pub sighted : List ℕ → List ℕ → List ℕ → List ℕ → ℕ → ℕ → Record → ℕ → Option (ℕ × ℕ × ℕ)
+sighted plan score spans items log marks r i =
+    let from = getD items (2 * i + 1) 0 in
+    need (leb (2 * r .waiting) (length items))
+    (bind (lookHead plan score spans (getD items (2 * i) 0, from)) (λ h.
+    need (leadsFine plan (length score) spans from (h .1) marks)
+    (need (roomLeft plan (h .1) (length items) log r)
+    (some (from, h .0, h .1)))))
+
+abbrev pub begins : Start → Option ℕ
+begins (start.At b) = some b
+begins start.Nowhere = none
+
+abbrev pub pairOf : Pair → Option (ℕ × ℕ)
+pairOf (pair.Of n p) = some (n, p .0)
+pairOf pair.Nothing = none
+
+abbrev pub headOf : Head → Option (ℕ × ℕ)
+headOf (head.At x b) = some (x .0, b)
+headOf head.Nothing = none
+
+abbrev pub sightOf : Sight → Option (ℕ × ℕ × ℕ)
+sightOf (sight.Of a) = some (a .from .0, a .node .0, a .block)
+sightOf sight.Nothing = none
