@@ -3,7 +3,7 @@
 --   pairs-list pairs-none counted-list counted-none   the reader of pairs, and of a count and that many pairs
 --   fits-out fits-middle fits-is fits-in              does a block lie within the words
 --   block-list block-none                             the reader of a block
---   pairWords-append pairWords-length pairWords-list  pairs as words
+--   pairWords-append pairWords-length pairs-words pairWords-list   pairs as words
 --   onward-length onward-words                        the waiting words after an item is taken and others are appended
 use mathlib.Core.Path.{_≡_, refl, ap, ap₂, sym, _∙_}
 use mathlib.Core.Bool.{true, false}
@@ -142,6 +142,11 @@ pairWords-append (x ∷ xs) ys = ap (λ (l : List ℕ). x .0 ∷ x .1 ∷ l) (pa
 pub pairWords-length : (xs : List (ℕ × ℕ)) → length (pairWords xs) ≡ 2 * length xs
 pairWords-length [] = refl
 pairWords-length (x ∷ xs) = let h = pairWords-length xs in omega arith
+
+pub pairs-words : (xs : List (ℕ × ℕ)) (r : List ℕ) → pairs (length xs) (pairWords xs ++ r) ≡ some (xs, r)
+unfolding pairs
+pairs-words [] r = refl
+pairs-words (x ∷ xs) r = rw (pairs-words xs r)
 
 pub pairWords-list : (n : ℕ) (ws : List ℕ) (b : ℕ) → b + 2 * n ≤ length ws → pairWords (pairList ws b n) ≡ take (2 * n) (drop b ws)
 unfolding pairList

@@ -2,6 +2,7 @@
 --   counts-of is-zero not-zero counts-last   the counts
 --   product                                  a product of two words
 --   label-state label-out label-at           a label
+--   no-label a-label                         a label that is answered, taken apart
 --   start-state start-symbol start-out start-cut start-at start-fits   a block's start
 --   block-start                              the block is what stands at its start
 --   second pair-none pair-number pair-code pair-some   a pair of a block
@@ -73,6 +74,14 @@ module _ (plan : List ℕ) (m s : ℕ) where
   pub label-at : s < m → 4 + s < length plan → labelWord plan m s ≡ some (getD plan (4 + s) 0)
   unfolding labelWord
   label-at h l = rw (lt-ltb _ _ h, getElem-some _ _ l)
+
+pub no-label : (o : Option ℕ) {r : Reason} → toLabel o ≡ label.Refused r → o ≡ none
+no-label none e = refl
+no-label (some c) e = let z : _≡_ {A = ℕ} 0 1 = cc in absurd (omega arith)
+
+pub a-label : (o : Option ℕ) {c : ℕ} → toLabel o ≡ label.At (position c) → o ≡ some c
+a-label none e = let z : _≡_ {A = ℕ} 0 1 = cc in absurd (omega arith)
+a-label (some d) {c} e = let z : position d ≡ position c = cc in ap (λ p. some (p .0)) z
 
 -- ---- a block's start
 module _ (plan : List ℕ) (m k s f : ℕ) where
@@ -177,26 +186,15 @@ module _ (plan : List ℕ) (m k : ℕ) where
   module _ (good : viewGood plan m k ≡ true) (s : ℕ) where
     pub label-none : {r : Reason} → toLabel (labelWord plan m s) ≡ label.Refused r → labelOf plan m k s ≡ label.Refused OutOfRange
     unfolding labelOf
-    label-none {r} e = rw good (go (labelWord plan m s) e)
-      where
-        go : (o : Option ℕ) → toLabel o ≡ label.Refused r → toLabel (bind o (λ c. need (codeGood c) (some c))) ≡ label.Refused OutOfRange
-        go none e = refl
-        go (some c) e = let z : _≡_ {A = ℕ} 0 1 = cc in absurd (omega arith)
-
-    word : (c : ℕ) → toLabel (labelWord plan m s) ≡ label.At (position c) → labelWord plan m s ≡ some c
-    word c e = go (labelWord plan m s) e
-      where
-        go : (o : Option ℕ) → toLabel o ≡ label.At (position c) → o ≡ some c
-        go none e = let z : _≡_ {A = ℕ} 0 1 = cc in absurd (omega arith)
-        go (some d) e = let z : position d ≡ position c = cc in ap (λ p. some (p .0)) z
+    label-none e = rw (good, no-label (labelWord plan m s) e)
 
     pub label-bad : (c : ℕ) → toLabel (labelWord plan m s) ≡ label.At (position c) → codeGood c ≡ false → labelOf plan m k s ≡ label.Refused OutOfRange
     unfolding labelOf
-    label-bad c e n = rw (good, word c e, n)
+    label-bad c e n = rw (good, a-label (labelWord plan m s) e, n)
 
     pub label-good : (c : ℕ) → toLabel (labelWord plan m s) ≡ label.At (position c) → codeGood c ≡ true → labelOf plan m k s ≡ label.At (position c)
     unfolding labelOf
-    label-good c e g = rw (good, word c e, g)
+    label-good c e g = rw (good, a-label (labelWord plan m s) e, g)
 
     module _ (f : ℕ) where
       pub lengths-none : blockStart plan m k s f ≡ none → lengthsOf plan m k s f ≡ block.Refused OutOfRange

@@ -36,7 +36,7 @@ use Rattle.walk.proofs.LawsStart.{told}
 use Rattle.walk.specs.Stepping.{targets, Found, look, marked, onward, roomy, moved, tried, orRefuse, stepped}
 use Rattle.walk.specs.ByIndex.{pairList, middle, outsAt, nextsAt, blockFits, blockStart, fine, landed, closedUp, lookHead, leadsFine, roomLeft, sighted}
 use Rattle.walk.proofs.LawsPairs.{fits-in, pairList-length, pairList-at, pairs-list, pairs-none, onward-length, onward-words}
-use Rattle.walk.proofs.LawsParts.{counts-of, block-start, start-fits}
+use Rattle.walk.proofs.LawsParts.{counts-of, no-label, a-label, block-start, start-fits}
 use Rattle.walk.proofs.LawsTargets.{target-in, all-wider, fine-split, fine-fail, fine-small, landed-length}
 
 -- ---- the refusals that need no look
@@ -95,20 +95,11 @@ module _ (plan score spans : List ℕ) (s at : ℕ) where
   module _ (good : countsGood plan ≡ true) where
     pub head-label : {r : Reason} → toLabel (labelWord plan (getD plan 0 0) s) ≡ label.Refused r → lookHead plan score spans (s, at) ≡ none
     unfolding lookHead
-    head-label {r} e = rw good (go (labelWord plan (getD plan 0 0) s) e)
-      where
-        go : (o : Option ℕ) → toLabel o ≡ label.Refused r
-            → bind o (λ c. bind (target (length score) spans at c) (λ x. bind (getElem? score x) (λ f. bind {B = ℕ × ℕ} (blockStart plan (getD plan 0 0) (getD plan 1 0) s f) (λ b. some (x, b))))) ≡ none
-        go none e = refl
-        go (some c) e = let z : _≡_ {A = ℕ} 0 1 = cc in absurd (omega arith)
+    head-label e = rw (good, no-label (labelWord plan (getD plan 0 0) s) e)
 
     module _ (c : ℕ) (l : toLabel (labelWord plan (getD plan 0 0) s) ≡ label.At (position c)) where
       word : labelWord plan (getD plan 0 0) s ≡ some c
-      word = go (labelWord plan (getD plan 0 0) s) l
-        where
-          go : (o : Option ℕ) → toLabel o ≡ label.At (position c) → o ≡ some c
-          go none e = let z : _≡_ {A = ℕ} 0 1 = cc in absurd (omega arith)
-          go (some d) e = let z : position d ≡ position c = cc in ap (λ p. some (p .0)) z
+      word = a-label (labelWord plan (getD plan 0 0) s) l
 
       pub head-nowhere : target (length score) spans at c ≡ none → lookHead plan score spans (s, at) ≡ none
       unfolding lookHead

@@ -39,18 +39,14 @@ use Rattle.automaton.proofs.Explored.{explored-numbered, label-small, out-small
 use Rattle.automaton.proofs.Invariant.{announced}
 use Rattle.automaton.proofs.Steps.{walked-invariant, new-only}
 use Rattle.automaton.proofs.Counts.{can-look, waiting-unread}
-use Rattle.walk.specs.PlanParts.{countsGood, pairs, pairWords}
+use Rattle.walk.specs.PlanParts.{countsGood, pairWords}
 use Rattle.walk.specs.Starting.{Walk}
 use Rattle.walk.specs.Stepping.{Found, look, marked, onward, roomy, moved, tried}
 use Rattle.walk.specs.OneFolio.{OneFolio, planIn}
+use Rattle.walk.proofs.LawsPairs.{pairs-words}
 use Rattle.walk.proofs.PlanRead.{outPair, succPair, counts-read, label-read, block-read}
 use Rattle.walk.proofs.MarkLaws.{Marked, marked-is, marked-length}
 use Rattle.walk.proofs.NodeNumbers.{num, num-is, num-below, num-inj, target-num, targets-of, look-of, tried-of}
-
-pairs-words : (xs : List (ℕ × ℕ)) (r : List ℕ) → pairs (length xs) (pairWords xs ++ r) ≡ some (xs, r)
-unfolding pairs
-pairs-words [] r = refl
-pairs-words (x ∷ xs) r = rw (pairs-words xs r)
 
 -- the number of a state, and a position
 abbrev pub wordItem : Term → ℕ × Pos → ℕ × ℕ
