@@ -39,3 +39,7 @@ pub mod StateLaws
 pub mod InOrder
 pub mod MeetLaws
 pub mod WordArrays
+pub mod ExploreLaws
+pub mod BlocksAgain
+pub mod WriteLaws
+pub mod BuildLaws

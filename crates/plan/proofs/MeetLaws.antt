@@ -23,6 +23,7 @@ use Rattle.kinds.proofs.Places.{find-at, at-below, Ext, ext-refl, ext-trans}
 use Rattle.automaton.specs.Goals.{Announcement}
 use Rattle.automaton.specs.Exploring.{Construction, Succ, Block, Met, stopped, met, Made, refused, made, andThen, thenBlock, thenMore, numbered, meet, meets, row, run}
 use Rattle.plan.specs.Meeting.{orElse}
+use Rattle.plan.specs.FinalBlocks.{succOf}
 
 -- ---- the first that passes
 module _ {S : Type 0} (p : S → Bool) (ss : List S) where
@@ -45,21 +46,17 @@ module _ {S : Type 0} (p : S → Bool) (ss : List S) where
       go none e l = e
 
 module _ {S : Type 0} (C : Construction S) where
-  -- the number of the state that a class lifts to, and the displacement
-  abbrev pub succOf : List S → S → Succ
-  succOf ss k = record { to = orElse (find (C .same (C .lift k)) ss 0) (length ss); by = C .gcp k }
-
   -- ---- one class
   module _ (ss : List S) (k : S) where
     pub meet-big : 32 < C .size k → meet C ss k ≡ stopped ManyGoals
     meet-big h = rw (lt-ltb 32 (C .size k) h) refl
 
     module _ (small : C .size k ≤ 32) where
-      pub meet-known : succOf ss k .to < length ss → meet C ss k ≡ met ss (succOf ss k ∷ [])
+      pub meet-known : succOf C ss k .to < length ss → meet C ss k ≡ met ss (succOf C ss k ∷ [])
       meet-known h =
           rw (le-ltb 32 (C .size k) small) (ap (λ o. numbered o ss (C .lift k) (C .gcp k)) (found-some (C .same (C .lift k)) ss h))
 
-      module _ (new : length ss ≤ succOf ss k .to) where
+      module _ (new : length ss ≤ succOf C ss k .to) where
         pub meet-full : 128 ≤ length ss → meet C ss k ≡ stopped ManyStates
         meet-full h =
             rw (le-ltb 32 (C .size k) small) (ap (λ o. numbered o ss (C .lift k) (C .gcp k)) (found-none (C .same (C .lift k)) ss new) ∙ rw (le-leb 128 (length ss) h) refl)

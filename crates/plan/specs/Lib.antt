@@ -10,3 +10,4 @@ pub mod Links
 pub mod ShapeTables
 pub mod Orders
 pub mod Meeting
+pub mod FinalBlocks

@@ -1,6 +1,7 @@
 -- States met before: their numbers, and what the code that meets them answers.
 --   orElse       a number found, or another
 --   placeOf      the number of the first state that is equal to one, their count where none is
+--   liftedW      a class lifted
 --   AllGood      each state is good
 --   wordsOf      how many words blocks take
 --   MetIs        what meeting classes answers: the states are in scratch, with two words counted for each successor; or why it stops
@@ -9,14 +10,14 @@
 use mathlib.Core.Path.{_≡_}
 use mathlib.Core.List.{List, _++_, map}
 use mathlib.Core.Option.{Option, none, some}
-use Prim.Native.Nat.{ℕ, _+_, _*_, _≤_}
+use Prim.Native.Nat.{ℕ, _+_, _*_, _<_, _≤_}
 use lib.ListN.{length}
 use Rattle.kinds.specs.Lists.{find, concat}
 use Rattle.kinds.proofs.Members.{_∈_}
 use Rattle.automaton.specs.Exploring.{Succ, Block, Met, stopped, met, Made, refused, made}
 use Rattle.automaton.specs.PlanWords.{blockWords}
 use Rattle.plan.specs.GoalWords.{GoalWords}
-use Rattle.plan.specs.WordStages.{sameStateW}
+use Rattle.plan.specs.WordStages.{sameStateW, leastCode, liftW}
 use Rattle.plan.specs.WordMachine.{statesIn, Kept}
 use Rattle.plan.specs.GoodStates.{GoodState}
 use Rattle.plan.specs.declared.Met.{Met as Going}
@@ -31,6 +32,10 @@ orElse none d = d
 unfoldable pub placeOf : List (List GoalWords) → List GoalWords → ℕ
 placeOf ss k = orElse (find (sameStateW k) ss 0) (length ss)
 
+-- a class lifted by its displacement
+abbrev pub liftedW : List GoalWords → List GoalWords
+liftedW k = map (liftW (leastCode 65535 k)) k
+
 abbrev pub AllGood : List ℕ → List ℕ → ℕ → List (List GoalWords) → Type 0
 AllGood ar tab n ss = (s : List GoalWords) → s ∈ ss → GoodState ar tab n s
 
@@ -43,7 +48,7 @@ MetIs (going.Stopped r) sc base e = e ≡ stopped r
 
 abbrev pub RowIs : Going → List ℕ → List ℕ → ℕ → List ℕ → ℕ → List Block → Made (List GoalWords) → Type 0
 RowIs (going.On m w) ar tab n sc i bs e =
-    Kept sc m × AllGood ar tab n (statesIn sc m) × ((more : List Block) × (e ≡ made (statesIn sc m) (bs ++ more)) × (w ≡ wordsOf more)) × (w ≤ 10000)
+    Kept sc m × (i < m) × AllGood ar tab n (statesIn sc m) × ((more : List Block) × (e ≡ made (statesIn sc m) (bs ++ more)) × (w ≡ wordsOf more)) × (w ≤ 10000)
 RowIs (going.Stopped r) ar tab n sc i bs e = e ≡ refused r i
 
 abbrev pub ExploredIs : Explored → List ℕ → List ℕ → ℕ → List ℕ → Made (List GoalWords) → Type 0

@@ -2,9 +2,11 @@ use kinds::Reason;
 use kinds::State;
 
 mod announce;
+pub mod building;
 mod classes;
 mod closure;
 mod derive;
+mod explore;
 mod goals;
 mod lift;
 mod order;
@@ -13,6 +15,7 @@ mod sorting;
 mod square;
 mod states;
 mod tables;
+mod writing;
 
 // How many states a plan has, and how many words.
 pub struct Size {

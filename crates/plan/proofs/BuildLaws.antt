@@ -1,0 +1,180 @@
+-- Building, step by step.
+--   Clearing clearing-…            the first words zero
+--   cleared-again                  what clearing leaves depends only on the words behind
+--   same-self                      a state is the same as itself
+--   Ended ended-is                 what exploring to the end tells: the plan's words, their number
+--   made-stopped made-long made-plan   the plan that there is, or why there is none
+--   built-bad built-short built-on     19; 23; and on
+use mathlib.Core.Path.{_≡_, refl, ap, ap₂, sym, _∙_}
+use mathlib.Core.List.{List, [], _∷_, _++_, map}
+use mathlib.Core.Bool.{Bool, true, false, cond, _&&_, _||_}
+use mathlib.Core.Logic.{_⊎_, inl, inr, ⊎-elim}
+use Prim.Native.Nat.{ℕ, zero, suc, _+_, _-_, _*_, _<_, _≤_}
+use native.Mathlib.Omega.{arith}
+use native.Mathlib.Nat.{sub-zero, mul-le-mul}
+use native.Mathlib.Numerals.{add-one}
+use borrow.Author.Tests.{lt-ltb, le-ltb, le-leb, lt-leb}
+use lib.Dec.{eqb, ltb, leb}
+use lib.ListN.{length, drop, set, replicate, length-set, length-replicate}
+use lib.Seq.{sets, drop-drop}
+use Rattle.kinds.specs.Lists.{onto, unless, concat}
+use Rattle.kinds.specs.declared.State.{State}
+use Rattle.kinds.specs.declared.Reason.{Reason}
+use Rattle.kinds.specs.declared.Reason.the-variants.{BadShapes, ShortScratch, LongPlan}
+use Rattle.kinds.proofs.Bools.{both, is-eqb, or-l, or-r}
+use Rattle.kinds.proofs.Members.{_∈_, here, there}
+use Rattle.kinds.proofs.ListLaws.{onto-sets}
+use Rattle.folio.specs.Again.{shapesGood}
+use Rattle.automaton.specs.Exploring.{Block, Made, refused, made, explored}
+use Rattle.automaton.specs.PlanWords.{Plan, halted, too-long, plan-of, planWords, toPlan, planned}
+use Rattle.plan.specs.GoalWords.{GoalWords}
+use Rattle.plan.specs.WordStages.{sameW, amongW, withinW, sameStateW}
+use Rattle.plan.specs.WordMachine.{words, statesIn, Kept}
+use Rattle.plan.specs.GoodStates.{Ready}
+use Rattle.plan.specs.Meeting.{AllGood, wordsOf, ExploredIs}
+use Rattle.plan.specs.FinalBlocks.{allBlocks, SmallOn}
+use Rattle.plan.specs.Building.{Out, cleared, size, written, planOf, buildOf, refuse}
+use Rattle.folio.specs.Folio.{shapeTerms}
+use Rattle.plan.specs.declared.Built.{Built}
+use Rattle.plan.specs.declared.Built.the-variants as built
+use Rattle.plan.specs.declared.Explored.{Explored}
+use Rattle.plan.specs.declared.Explored.the-variants as result
+use Rattle.plan.proofs.StateLaws.{states-length}
+use Rattle.plan.proofs.BlocksAgain.{explored-again}
+use Rattle.plan.proofs.WriteLaws.{plan-length}
+
+-- ---- the first k words zero
+pub record Clearing (k : ℕ) (l₀ l : List ℕ) (i : ℕ) : Type 0 where
+  pub below : i ≤ k
+  pub long : length l ≡ length l₀
+  pub is : sets l₀ 0 (replicate k 0) ≡ sets l i (replicate (k - i) 0)
+
+pub clearing-begin : (k : ℕ) (l : List ℕ) → Clearing k l l 0
+clearing-begin k l = record { below = omega arith; long = refl; is = rw (sub-zero k) refl }
+
+module _ {k : ℕ} {l₀ l : List ℕ} {i : ℕ} (s : Clearing k l₀ l i) where
+  pub clearing-on : i < k → Clearing k l₀ (set l i 0) (i + 1)
+  clearing-on h =
+      let e : k - i ≡ suc (k - (i + 1)) = omega arith in
+      record { below = omega arith; long = length-set l i 0 ∙ s .long; is = s .is ∙ rw (e, add-one i) refl }
+
+  pub clearing-end : k ≤ i → k ≤ length l₀ → l ≡ onto (replicate k 0) l₀
+  clearing-end h room =
+      let e : k - i ≡ 0 = omega arith in
+      let d : length (replicate {A = ℕ} k 0) ≤ length l₀ = rw (length-replicate {A = ℕ} k 0) room in
+      sym (onto-sets (replicate k 0) l₀ d ∙ s .is ∙ rw e refl)
+
+pub clearing-done : (l₀ l : List ℕ) → l ≡ onto (replicate 32768 0) l₀ → l ≡ cleared l₀
+unfolding cleared
+clearing-done l₀ l e = e
+
+onto-again : (k : ℕ) (xs ys : List ℕ) → drop k xs ≡ drop k ys → onto (replicate k 0) xs ≡ onto (replicate k 0) ys
+onto-again k xs ys e = ap (λ n. replicate k 0 ++ drop n xs) (length-replicate {A = ℕ} k 0) ∙ ap (λ l. replicate k 0 ++ l) e ∙ ap (λ n. replicate k 0 ++ drop n ys) (sym (length-replicate {A = ℕ} k 0))
+
+pub cleared-again : (xs ys : List ℕ) → drop 12416 xs ≡ drop 12416 ys → cleared xs ≡ cleared ys
+unfolding cleared
+cleared-again xs ys e = onto-again 32768 xs ys (sym (drop-drop 20352 12416 xs) ∙ ap (drop 20352) e ∙ drop-drop 20352 12416 ys)
+
+-- ---- a state is the same as itself
+same-goal : (g : GoalWords) → sameW g g ≡ true
+same-goal g = both {a = eqb (g .sh) (g .sh)} (is-eqb (g .sh) (g .sh) refl) (both {a = eqb (g .an) (g .an)} (is-eqb (g .an) (g .an) refl) (is-eqb (g .mask) (g .mask) refl))
+
+among-in : (g : GoalWords) (hs : List GoalWords) → g ∈ hs → amongW g hs ≡ true
+unfolding amongW
+among-in g (h ∷ hs) (here e) = or-l (amongW g hs) (ap (sameW g) (sym e) ∙ same-goal g)
+among-in g (h ∷ hs) (there m) = or-r (sameW g h) (among-in g hs m)
+
+within-in : (gs hs : List GoalWords) → ((g : GoalWords) → g ∈ gs → g ∈ hs) → withinW gs hs ≡ true
+unfolding withinW
+within-in [] hs h = refl
+within-in (g ∷ gs) hs h = both {a = amongW g hs} (among-in g hs (h g (here refl))) (within-in gs hs (λ x m. h x (there m)))
+
+pub same-self : (gs : List GoalWords) → sameStateW gs gs ≡ true
+same-self gs = both {a = withinW gs gs} (within-in gs gs (λ g m. m)) (within-in gs gs (λ g m. m))
+
+pub few-starts : (m k : ℕ) → m ≤ 128 → k ≤ 32 → m * k ≤ 4096
+few-starts m k h g = mul-le-mul {n₁ = m} {m₁ = k} {n₂ = 128} {m₂ = 32} h g
+
+-- ---- exploring to the end
+module _ (ar tab : List ℕ) (n : ℕ) where
+  abbrev pub planOn : List ℕ → ℕ → List ℕ
+  planOn sc m = planWords (words tab n) (length ar) n (statesIn sc m) (allBlocks (words tab n) (statesIn sc m) ar)
+
+  pub record Ended (sc : List ℕ) (m w : ℕ) : Type 0 where
+    pub kept : Kept sc m
+    pub good : AllGood ar tab n (statesIn sc m)
+    pub small : (s : List GoalWords) → s ∈ statesIn sc m → SmallOn (words tab n) s 0 ar
+    pub total : 4 + m + m * length ar + w ≡ length (planOn sc m)
+    pub room : w ≤ 1280000
+    pub is : (buffer : ℕ) → planned (words tab n) ar n buffer ≡ cond (ltb buffer (length (planOn sc m)) || ltb 65535 (length (planOn sc m))) too-long (plan-of m (planOn sc m))
+
+  pub ended-is : (r : Explored) (m w : ℕ) (sc : List ℕ) → r ≡ result.Made m w → ExploredIs r ar tab n sc (explored (words tab n) ar) → Ended sc m w
+  ended-is r m w sc e x = go (rw e at x)
+    where
+      go : ExploredIs (result.Made m w) ar tab n sc (explored (words tab n) ar) → Ended sc m w
+      go t =
+          let bs = t .2 .0 in
+          let long = states-length sc m in
+          let few = t .0 .few in
+          let again = explored-again (words tab n) same-self ar (statesIn sc m) bs (t .2 .1) (rw long few) in
+          let many : w ≡ wordsOf (allBlocks (words tab n) (statesIn sc m) ar) = t .2 .2 ∙ ap wordsOf (again .0) in
+          record {
+            kept = t .0;
+            good = t .1;
+            small = again .1;
+            total = sym (plan-length ar tab n sc m ∙ ap₂ (λ x y. 4 + x + x * length ar + y) long (sym many));
+            room = t .3;
+            is = λ buffer. ap (toPlan (words tab n) buffer (length ar) n) (t .2 .1 ∙ ap (made (statesIn sc m)) (again .0))
+                ∙ ap (λ x. cond (ltb buffer (length (planOn sc m)) || ltb 65535 (length (planOn sc m))) too-long (plan-of x (planOn sc m))) long;
+          }
+
+  pub made-stopped : (r : Explored) (why : Reason) (at : State) (sc plan scratch : List ℕ) → r ≡ result.Stopped why at → ExploredIs r ar tab n sc (explored (words tab n) ar)
+      → (built.Stopped why at ≡ written (planned (words tab n) ar n (length plan)) plan scratch .answer) × (plan ≡ written (planned (words tab n) ar n (length plan)) plan scratch .plan)
+  made-stopped r why at sc plan scratch e x =
+      let is : planned (words tab n) ar n (length plan) ≡ halted why (at .0) = ap (toPlan (words tab n) (length plan) (length ar) n) (rw e at x) in
+      (sym (ap (λ p. written p plan scratch .answer) is), sym (ap (λ p. written p plan scratch .plan) is))
+
+  module _ {sc : List ℕ} {m w : ℕ} (e : Ended sc m w) (plan scratch : List ℕ) (total : ℕ) (t : total ≡ 4 + m + m * length ar + w) where
+    size-is : total ≡ length (planOn sc m)
+    size-is = t ∙ e .total
+
+    pub made-long : (length plan < total) ⊎ (65535 < total)
+        → (built.Refused LongPlan ≡ written (planned (words tab n) ar n (length plan)) plan scratch .answer) × (plan ≡ written (planned (words tab n) ar n (length plan)) plan scratch .plan)
+    made-long h =
+        let over : (ltb (length plan) (length (planOn sc m)) || ltb 65535 (length (planOn sc m))) ≡ true =
+        ⊎-elim (λ l. or-l (ltb 65535 (length (planOn sc m))) (lt-ltb (length plan) (length (planOn sc m)) (rw size-is at l)))
+        (λ l. or-r (ltb (length plan) (length (planOn sc m))) (lt-ltb 65535 (length (planOn sc m)) (rw size-is at l))) h in
+        let is : planned (words tab n) ar n (length plan) ≡ too-long = e .is (length plan) ∙ ap (λ b. cond b too-long (plan-of m (planOn sc m))) over in
+        (sym (ap (λ p. written p plan scratch .answer) is), sym (ap (λ p. written p plan scratch .plan) is))
+
+    pub made-plan : total ≤ length plan → total ≤ 65535 → (plan′ : List ℕ) → plan′ ≡ sets plan 0 (planOn sc m)
+        → (built.Plan (size m total) ≡ written (planned (words tab n) ar n (length plan)) plan scratch .answer) × (plan′ ≡ written (planned (words tab n) ar n (length plan)) plan scratch .plan)
+    made-plan a b plan′ d =
+        let within : (ltb (length plan) (length (planOn sc m)) || ltb 65535 (length (planOn sc m))) ≡ false =
+        ap₂ (λ x y. x || y) (le-ltb (length plan) (length (planOn sc m)) (rw size-is at a)) (le-ltb 65535 (length (planOn sc m)) (rw size-is at b)) in
+        let is : planned (words tab n) ar n (length plan) ≡ plan-of m (planOn sc m) = e .is (length plan) ∙ ap (λ c. cond c too-long (plan-of m (planOn sc m))) within in
+        (ap (λ k. built.Plan (size m k)) size-is ∙ sym (ap (λ p. written p plan scratch .answer) is), d ∙ sym (ap (λ p. written p plan scratch .plan) is))
+
+-- ---- the whole
+passed : (a b : Bool) (x y z : Out) → a ≡ true → b ≡ true → unless a x (unless b y z) ≡ z
+passed a b x y z e d = rw (e, d) refl
+
+module _ (ar ws st plan scratch : List ℕ) where
+  pub built-bad : shapesGood ar ws st ≡ false → buildOf ar ws st plan scratch ≡ refuse BadShapes plan scratch
+  unfolding buildOf
+  built-bad e = rw e refl
+
+  pub built-short : shapesGood ar ws st ≡ true → length scratch < 32768 → buildOf ar ws st plan scratch ≡ refuse ShortScratch plan scratch
+  unfolding buildOf
+  built-short e h = rw (e, lt-leb 32768 (length scratch) h) refl
+
+  pub built-on : shapesGood ar ws st ≡ true → 32768 ≤ length scratch → (p : Plan) → p ≡ planOf ar (shapeTerms ar ws) (length plan) → buildOf ar ws st plan scratch ≡ written p plan scratch
+  unfolding buildOf
+  built-on e h p d =
+      passed (shapesGood ar ws st) (leb 32768 (length scratch)) (refuse BadShapes plan scratch) (refuse ShortScratch plan scratch) (written (planOf ar (shapeTerms ar ws) (length plan)) plan scratch) e (le-leb 32768 (length scratch) h)
+      ∙ ap (λ q. written q plan scratch) (sym d)
+
+pub written-clears : (p : Plan) (plan scratch : List ℕ) → written p plan scratch .scratch ≡ cleared scratch
+written-clears (halted r i) plan scratch = refl
+written-clears too-long plan scratch = refl
+written-clears (plan-of m ws) plan scratch = refl

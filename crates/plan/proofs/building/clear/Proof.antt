@@ -1,0 +1,63 @@
+use Rattle.plan.proofs.BuildLaws.{Clearing, clearing-begin, clearing-on, clearing-end, clearing-done}
+use lib.ListN.{length}
+use Prim.Native.Nat.{ℕ, _≤_, _<_, _+_, _-_, _*_, _/_, _%_}
+use mathlib.Core.Path.{_≡_, refl, ap, ap₂, sym, _∙_}
+use native.Mathlib.Omega.{arith}
+use borrow.Author.Needs.{needs}
+use Rattle.plan.proofs.building.clear.Statement.{statement}
+use Rattle.plan.proofs.building.clear.Tie as tie
+use Rattle.plan.proofs.building.clear.Reads as reads
+use Rattle.plan.proofs.building.clear.Lts as lts
+
+abbrev Inv-loop : tie.InvT-loop
+Inv-loop scratch₀ i₀ scratch i = Clearing 32768 scratch₀ scratch i
+
+abbrev μ-loop : tie.MeasureT-loop
+μ-loop scratch₀ i₀ scratch i = 32768 - i
+
+-- src/building.rt:68:5
+loop-holds : tie.Need-loop-holds Inv-loop μ-loop
+loop-holds c = clearing-begin 32768 (c .args .scratch .now)
+
+-- src/building.rt:69:9
+mul-scratch : tie.Need-mul-scratch Inv-loop μ-loop
+mul-scratch c = omega (arith, c .loop-test .taken)
+
+-- src/building.rt:69:9
+slice-write-scratch : tie.Need-slice-write-scratch Inv-loop μ-loop
+slice-write-scratch c = omega (arith, c .loop-test .taken, c .before .loop .inv .long, c .before .before .pre)
+
+-- src/building.rt:70:9
+add-i : tie.Need-add-i Inv-loop μ-loop
+add-i c = omega (arith, c .loop-test .taken)
+
+-- src/building.rt:68:5
+loop-less : tie.Need-loop-less Inv-loop μ-loop
+loop-less c = omega (arith, c .loop-test .taken)
+
+-- src/building.rt:68:5
+loop-again : tie.Need-loop-again Inv-loop μ-loop
+loop-again c = clearing-on (c .before .loop .inv) (c .loop-test .taken)
+
+-- src/building.rt:63:1
+same-length : tie.Need-same-length Inv-loop μ-loop
+same-length c = c .before .loop .inv .long
+
+-- src/building.rt:63:1
+returns : tie.Need-returns Inv-loop μ-loop
+returns c = clearing-done (c .before .before .args .scratch .now) (c .before .loop .scratch) (clearing-end (c .before .loop .inv) (c .loop-test .left) (c .before .before .pre))
+
+pub clear-spec : {M : Type 1} → statement M
+clear-spec =
+    tie.close
+    (tie.spec
+    Inv-loop
+    μ-loop
+    loop-holds
+    mul-scratch
+    slice-write-scratch
+    add-i
+    loop-less
+    loop-again
+    same-length
+    returns)

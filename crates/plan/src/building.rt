@@ -1,0 +1,78 @@
+use crate::Built;
+use crate::Explored;
+use crate::Size;
+use crate::explore::explore;
+use crate::tables::fill_tables;
+use crate::writing::write_plan;
+use folio::checking::shapes_good;
+use kinds::Reason;
+ghost use mathlib.Core.Path.{_≡_};
+ghost use Prim.Native.Nat.{ℕ, _≤_};
+ghost use lib.ListN.{length, drop};
+ghost use Rattle.automaton.specs.PlanWords.{planned};
+ghost use Rattle.plan.specs.WordMachine.{words as machine};
+ghost use Rattle.plan.specs.GoodStates.{Ready};
+ghost use Rattle.plan.specs.Building.{buildOf, written, cleared};
+
+// Builds the plan of the shapes into `plan`, or refuses and leaves it as it was; the first 32,768 scratch words are zero afterwards, but for 19 and 23.
+pub fn build(
+    symbols: &[u8],
+    words: &[u16],
+    starts: &[u16],
+    plan: &mut [u16],
+    scratch: &mut [u16],
+) -> Built
+    ensures answer { λ r. ⌜ r ≡ buildOf (now (symbols .entry)) (now (words .entry)) (now (starts .entry)) (now (plan .entry)) (now (scratch .entry)) .answer ⌝ }
+    ensures plan { λ r. ⌜ now (plan .exit) ≡ buildOf (now (symbols .entry)) (now (words .entry)) (now (starts .entry)) (now (plan .entry)) (now (scratch .entry)) .plan ⌝ }
+    ensures scratch { λ r. ⌜ now (scratch .exit) ≡ buildOf (now (symbols .entry)) (now (words .entry)) (now (starts .entry)) (now (plan .entry)) (now (scratch .entry)) .scratch ⌝ }
+{
+    if shapes_good(symbols, words, starts) {
+        if scratch.len() < 32768 {
+            return Built::Refused(Reason::ShortScratch);
+        }
+        let mut tab = [0u16; 1280];
+        fill_tables(symbols, words, starts, &mut tab);
+        let answer = make(&tab, symbols, starts.len(), plan, scratch);
+        clear(scratch);
+        return answer;
+    }
+    Built::Refused(Reason::BadShapes)
+}
+
+// The plan from the shapes' tables.
+fn make(tab: &[u16], symbols: &[u8], shapes: usize, plan: &mut [u16], scratch: &mut [u16]) -> Built
+    requires { ⌜ Ready (now symbols) (now tab) shapes × (32768 ≤ length (now scratch)) ⌝ }
+    ensures answer { λ r. ⌜ r ≡ written (planned (machine (now (tab .entry)) shapes) (now (symbols .entry)) shapes (length (now (plan .entry)))) (now (plan .entry)) (now (scratch .entry)) .answer ⌝ }
+    ensures plan { λ r. ⌜ now (plan .exit) ≡ written (planned (machine (now (tab .entry)) shapes) (now (symbols .entry)) shapes (length (now (plan .entry)))) (now (plan .entry)) (now (scratch .entry)) .plan ⌝ }
+    ensures behind { λ r. ⌜ drop 12416 (now (scratch .exit)) ≡ drop 12416 (now (scratch .entry)) ⌝ }
+{
+    match explore(tab, symbols, shapes, scratch) {
+        Explored::Stopped(reason, state) => Built::Stopped(reason, state),
+        Explored::Made(m, blocks) => {
+            let total = 4 + m + m * symbols.len() + blocks;
+            if plan.len() < total {
+                return Built::Refused(Reason::LongPlan);
+            }
+            if 65535 < total {
+                return Built::Refused(Reason::LongPlan);
+            }
+            write_plan(tab, symbols, shapes, scratch, m, total, plan);
+            Built::Plan(Size {
+                states: m,
+                words: total,
+            })
+        }
+    }
+}
+
+// The first 32,768 words zero.
+fn clear(scratch: &mut [u16])
+    requires { ⌜ 32768 ≤ length (now scratch) ⌝ }
+    ensures { λ r. ⌜ now (scratch .exit) ≡ cleared (now (scratch .entry)) ⌝ }
+{
+    let mut i = 0;
+    while i < 32768 {
+        scratch[i] = 0;
+        i += 1;
+    }
+}
