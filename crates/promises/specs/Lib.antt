@@ -1,3 +1,6 @@
 -- What is promised.
 pub mod Computing
 pub mod Sample
+pub mod OneFile
+pub mod Demand2
+pub mod Demand3

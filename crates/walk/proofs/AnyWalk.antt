@@ -9,7 +9,7 @@
 --   same-marks            two finished walks have the same marks, word by word
 --   waits-unread          no more wait than are unread
 --   ends-read steps-end   none waits exactly if all nodes are logged, which is after as many accepted steps as the score has nodes
---   log-once log-all      no node is in the log twice, and at the end each is in it
+--   log-nodes log-once log-all   the log holds nodes, none twice, and at the end each
 --   same-walk             the walk over words is a walk over positions, item by item, log entry by log entry, bit by bit
 use mathlib.Core.Path.{_≡_, refl, ap, sym, _∙_, subst}
 use mathlib.Core.List.{List, [], _∷_, _++_, map}
@@ -36,8 +36,8 @@ use Rattle.walk.specs.declared.Record.{Record}
 use Rattle.walk.specs.declared.Walked.the-variants.{On, Refused}
 use Rattle.walk.specs.Starting.{Walk, Out, refuse, begun}
 use Rattle.walk.specs.Stepping.{Found, look}
-use Rattle.walk.specs.OneFolio.{OneFolio, planIn, scoreIn, spansIn, Lent, stepIn, walkIn, accepted}
-use Rattle.walk.proofs.NodeNumbers.{num, num-is, num-inj}
+use Rattle.walk.specs.OneFolio.{OneFolio, planIn, scoreIn, spansIn, Lent, stepIn, walkIn, acceptedIn}
+use Rattle.walk.proofs.NodeNumbers.{num, num-is, num-below, num-inj}
 use Rattle.walk.proofs.Tied.{posItem, Tied}
 use Rattle.walk.proofs.TiedRuns.{begun-tied, Stepping, moves, refuses, stepping, run-tied, run-logged}
 
@@ -180,10 +180,10 @@ module _ {C : Scored} (F : OneFolio C) where
     pub ends-read : (walkIn F choices w .count .waiting ≡ 0) ↔ (walkIn F choices w .count .logged ≡ span t)
     ends-read = (λ e. same-walk .logged-is ∙ (walks.ends-read C (finished e)) .0 refl, λ e. let h = waits-unread in omega arith)
 
-    pub accepted-logged : accepted F choices (begun (length (scoreIn F)) w) ≡ walkIn F choices w .count .logged
+    pub accepted-logged : acceptedIn F choices w ≡ walkIn F choices w .count .logged
     accepted-logged = let h = run-logged F choices (begun (length (scoreIn F)) w) (begun-tied F w lent) in omega arith
 
-    pub steps-end : (walkIn F choices w .count .waiting ≡ 0) ↔ (accepted F choices (begun (length (scoreIn F)) w) ≡ span t)
+    pub steps-end : (walkIn F choices w .count .waiting ≡ 0) ↔ (acceptedIn F choices w ≡ span t)
     steps-end = let e = ends-read in (λ h. accepted-logged ∙ e .0 h, λ h. e .1 (sym accepted-logged ∙ h))
 
     pub log-once : Distinct (take (walkIn F choices w .count .logged) (walkIn F choices w .log))
@@ -194,6 +194,9 @@ module _ {C : Scored} (F : OneFolio C) where
             let u = stands a i in
             let v = stands b j in
             num-inj t a b (u .0) (v .0) (u .1) (v .1) e
+
+    pub log-nodes : (m : ℕ) → m ∈ take (walkIn F choices w .count .logged) (walkIn F choices w .log) → m < span t
+    log-nodes m i = on-map (num t) (same-walk .read) (rw (same-walk .logged-is, same-walk .log-are) at i) λ q k d. let u = stands q k in rw d (num-below t q (u .0) (u .1))
 
     pub log-all : walkIn F choices w .count .waiting ≡ 0 → (n : ℕ) → n < span t → n ∈ take (walkIn F choices w .count .logged) (walkIn F choices w .log)
     log-all done n h =

@@ -29,8 +29,8 @@ use Rattle.automaton.specs.Walking.{Scored, calculus, begin}
 use Rattle.automaton.proofs.Numbered.{Numbered}
 use Rattle.automaton.proofs.Explored.{explored-numbered}
 use Rattle.walk.specs.Starting.{Walk, refuse, goOn, begun}
-use Rattle.walk.specs.Stepping.{stepped, run}
-use Rattle.walk.specs.OneFolio.{OneFolio, planIn, scoreIn, spansIn, Lent, stepIn, one, accepted}
+use Rattle.walk.specs.Stepping.{stepped, run, one, accepted}
+use Rattle.walk.specs.OneFolio.{OneFolio, planIn, scoreIn, spansIn, Lent, stepIn}
 use Rattle.walk.proofs.NodeNumbers.{num, num-root, num-below}
 use Rattle.walk.proofs.Tied.{Tied, Next, step-tied}
 
@@ -111,7 +111,7 @@ module _ {C : Scored} (F : OneFolio C) where
   run-tied [] v T = T
   run-tied (i ∷ is) v T = run-tied is (stepIn F i v .walk) (step-stays v T i)
 
-  pub run-logged : (is : List ℕ) (v : Walk) → Tied F v → run (planIn F) (scoreIn F) (spansIn F) is v .count .logged ≡ v .count .logged + accepted F is v
+  pub run-logged : (is : List ℕ) (v : Walk) → Tied F v → run (planIn F) (scoreIn F) (spansIn F) is v .count .logged ≡ v .count .logged + accepted (planIn F) (scoreIn F) (spansIn F) is v
   unfolding run accepted
   run-logged [] v T = sym (add-zero (v .count .logged))
   run-logged (i ∷ is) v T =

@@ -3,11 +3,11 @@
 --   planIn scoreIn spansIn  the words lent
 --   Lent                    buffers such as starting accepts
 --   stepIn walkIn           one step; any choices, one after the other, from the start
---   accepted                how many of the choices are accepted
+--   acceptedIn              how many of the choices are accepted
 use mathlib.Core.Path.{_≡_}
 use mathlib.Core.Bool.{true}
-use mathlib.Core.List.{List, [], _∷_}
-use Prim.Native.Nat.{ℕ, _+_, _≤_}
+use mathlib.Core.List.{List}
+use Prim.Native.Nat.{ℕ, _≤_}
 use lib.ListN.{length}
 use Rattle.kinds.specs.Positions.{Pos}
 use Rattle.term.specs.Terms.{span, flatten, sizes}
@@ -15,10 +15,8 @@ use Rattle.automaton.specs.Goals.{State}
 use Rattle.automaton.specs.Exploring.{construction, Block, made, explored}
 use Rattle.automaton.specs.PlanWords.{planWords}
 use Rattle.automaton.specs.Walking.{Scored, calculus}
-use Rattle.walk.specs.declared.Walked.{Walked}
-use Rattle.walk.specs.declared.Walked.the-variants.{On, Refused}
 use Rattle.walk.specs.Starting.{Walk, Out, begun, roomFor}
-use Rattle.walk.specs.Stepping.{stepped, run}
+use Rattle.walk.specs.Stepping.{stepped, run, accepted}
 
 pub record OneFolio (C : Scored) : Type 0 where
   pub few-symbols : length (C .setting .counts) ≤ 32
@@ -26,10 +24,6 @@ pub record OneFolio (C : Scored) : Type 0 where
   pub states : List (State Pos)
   pub blocks : List Block
   pub is-explored : explored (construction (calculus (C .setting))) (C .setting .counts) ≡ made states blocks
-
-abbrev pub one : Walked → ℕ
-one (On c) = 1
-one (Refused r) = 0
 
 module _ {C : Scored} (F : OneFolio C) where
   abbrev pub planIn : List ℕ
@@ -50,6 +44,5 @@ module _ {C : Scored} (F : OneFolio C) where
   abbrev pub walkIn : List ℕ → Walk → Walk
   walkIn choices w = run planIn scoreIn spansIn choices (begun (length scoreIn) w)
 
-  unfoldable pub accepted : List ℕ → Walk → ℕ
-  accepted [] w = 0
-  accepted (i ∷ is) w = one (stepIn i w .answer) + accepted is (stepIn i w .walk)
+  abbrev pub acceptedIn : List ℕ → Walk → ℕ
+  acceptedIn choices w = accepted planIn scoreIn spansIn choices (begun (length scoreIn) w)

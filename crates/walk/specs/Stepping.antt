@@ -9,6 +9,7 @@
 --   tried     the step where no condition of 34 fails
 --   stepped   32 before 34; a refusal changes nothing
 --   run       any choices, one after the other
+--   accepted  how many of them are accepted
 --   runBy     by a rule of choice on the number waiting, until none waits
 use Prim.Native.Nat.{ℕ, zero, suc, _+_, _*_}
 use mathlib.Core.List.{List, [], _∷_, _++_}
@@ -20,6 +21,8 @@ use Rattle.kinds.specs.Lists.{bind, need, all, onto}
 use Rattle.kinds.specs.Bits.{withBit}
 use Rattle.kinds.specs.declared.Reason.the-variants.{NoSuchItem, OutOfRange}
 use Rattle.term.specs.Spans.{target}
+use Rattle.walk.specs.declared.Walked.{Walked}
+use Rattle.walk.specs.declared.Walked.the-variants.{On, Refused}
 use Rattle.walk.specs.PlanParts.{countsGood, pairs, pairWords, labelWord, blockOf}
 use Rattle.walk.specs.Starting.{Walk, Out, walkOf, counting, refuse, goOn}
 
@@ -85,6 +88,14 @@ stepped plan score spans i w =
 unfoldable pub run : List ℕ → List ℕ → List ℕ → List ℕ → Walk → Walk
 run plan score spans [] w = w
 run plan score spans (i ∷ is) w = run plan score spans is (stepped plan score spans i w .walk)
+
+abbrev pub one : Walked → ℕ
+one (On c) = 1
+one (Refused r) = 0
+
+unfoldable pub accepted : List ℕ → List ℕ → List ℕ → List ℕ → Walk → ℕ
+accepted plan score spans [] w = 0
+accepted plan score spans (i ∷ is) w = one (stepped plan score spans i w .answer) + accepted plan score spans is (stepped plan score spans i w .walk)
 
 unfoldable pub runBy : (ℕ → ℕ) → List ℕ → List ℕ → List ℕ → ℕ → Walk → Walk
 runBy rule plan score spans zero w = w

@@ -1,0 +1,174 @@
+-- Demand 3 holds of every file that opens and whose build is accepted.
+--   distinct-at    where a list has nothing twice, equal entries stand at one place
+--   bits-alike     the marks of two finished walks, node by node
+use mathlib.Core.Path.{_≡_, refl, ap, ap₂, sym, _∙_, subst}
+use mathlib.Core.List.{List, [], _∷_, _++_}
+use mathlib.Core.Option.{some}
+use mathlib.Core.Logic.{_↔_}
+use Prim.Native.Nat.{ℕ, zero, suc, _+_, _<_, _≤_}
+use native.Mathlib.Omega.{arith}
+use lib.ListN.{length, getD, getElem?, take}
+use lib.Seq.{ext-getD}
+use Rattle.kinds.specs.Bits.{bit}
+use Rattle.kinds.specs.declared.Reason.the-variants.{NoSuchItem, OutOfRange}
+use Rattle.kinds.proofs.BitLaws.{bits-same}
+use Rattle.kinds.proofs.Members.{_∈_, here, there, Distinct}
+use Rattle.kinds.proofs.Places.{on-in, at-below, at-getD, getD-at, getD-in}
+use Rattle.term.specs.Terms.{Term, span, sizes}
+use Rattle.term.specs.Places.{Matches, number}
+use Rattle.term.proofs.Numbers.{node-at}
+use Rattle.term.proofs.Sizes.{length-sizes}
+use Rattle.report.specs.Counting.{total}
+use Rattle.report.specs.Clashes.{clash, clashNumber}
+use Rattle.report.specs.Text.{firstLine, lines, report}
+use Rattle.walk.specs.Starting.{Walk, Out, refuse}
+use Rattle.walk.specs.declared.Walked.the-variants.{On, Refused}
+use Rattle.walk.specs.OneFolio.{walkIn}
+use Rattle.walk.proofs.AnyWalk as any-walk
+use Rattle.promises.specs.OneFile.{OneFile, shapesIn, scoreIn, spansIn, after, stepAfter, acceptedIn, reported}
+use Rattle.promises.specs.Demand2.{Demand2}
+use Rattle.promises.specs.Demand3.{Demand3}
+use Rattle.promises.proofs.Setting.{score-spans, told, same-shapes, same-score, same-spans, same-states}
+use Rattle.promises.proofs.Demand2.{demand-2}
+
+pub distinct-at : (xs : List ℕ) → Distinct xs → (i k : ℕ) → i < length xs → k < length xs → getD xs i 0 ≡ getD xs k 0 → i ≡ k
+distinct-at [] d i k hi hk e = absurd (omega arith)
+distinct-at (x ∷ xs) d zero zero hi hk e = refl
+distinct-at (x ∷ xs) d zero (suc k) hi hk e = absurd (d .0 (rw e (getD-in xs k 0 (omega arith))))
+distinct-at (x ∷ xs) d (suc i) zero hi hk e = absurd (d .0 (rw (← e) (getD-in xs i 0 (omega arith))))
+distinct-at (x ∷ xs) d (suc i) (suc k) hi hk e = ap suc (distinct-at xs (d .1) i k (omega arith) (omega arith) e)
+
+getD-take : (n : ℕ) (xs : List ℕ) (i : ℕ) → i < n → getD (take n xs) i 0 ≡ getD xs i 0
+getD-take zero xs i h = absurd (omega arith)
+getD-take (suc n) [] i h = refl
+getD-take (suc n) (x ∷ xs) zero h = refl
+getD-take (suc n) (x ∷ xs) (suc i) h = getD-take n xs i (omega arith)
+
+length-take-in : (n : ℕ) (xs : List ℕ) → n ≤ length xs → length (take n xs) ≡ n
+length-take-in zero xs h = refl
+length-take-in (suc n) [] h = absurd (omega arith)
+length-take-in (suc n) (x ∷ xs) h = ap suc (length-take-in n xs (omega arith))
+
+-- the first n entries, as a list and by place
+module _ (n : ℕ) (xs : List ℕ) (long : n ≤ length xs) where
+  pub once-at : Distinct (take n xs) → (i k : ℕ) → i < n → k < n → getD xs i 0 ≡ getD xs k 0 → i ≡ k
+  once-at d i k hi hk e =
+      let l = length-take-in n xs long in
+      distinct-at (take n xs) d i k (omega arith) (omega arith) (getD-take n xs i hi ∙ e ∙ sym (getD-take n xs k hk))
+
+  pub found-at : {y : ℕ} → y ∈ take n xs → (i : ℕ) × (i < n) × (getD xs i 0 ≡ y)
+  found-at m = on-in m λ i e.
+      let l = length-take-in n xs long in
+      let b = at-below (take n xs) i e in
+      let h : i < n = omega arith in
+      (i, h, sym (getD-take n xs i h) ∙ getD-at (take n xs) i 0 e)
+
+module _ {file : List ℕ} (S : OneFile file) (choices : List ℕ) where
+  abbrev F-after : Walk
+  F-after = walkIn (told S .folio) choices (S .walk)
+
+  abbrev is : after S choices ≡ F-after
+  is = told S .after-is choices
+
+  marks-long : span (scoreIn S) ≤ length (after S choices .marks)
+  marks-long = subst (λ (v : Walk). span (scoreIn S) ≤ length (v .marks)) (sym is) (any-walk.same-walk (told S .folio) (S .walk) (told S .lent) choices .marks-room)
+
+  log-long : after S choices .count .logged ≤ length (after S choices .log)
+  log-long = subst (λ (v : Walk). v .count .logged ≤ length (v .log)) (sym is)
+      (let r = any-walk.same-walk (told S .folio) (S .walk) (told S .lent) choices .log-room in
+      let w = any-walk.waits-unread (told S .folio) (S .walk) (told S .lent) choices in
+      omega arith)
+
+  on-after {κ} : (P : Walk → Type κ) → P F-after → P (after S choices)
+  on-after P h = subst P (sym is) h
+
+  waiting-is : after S choices .count .waiting ≡ F-after .count .waiting
+  waiting-is = ap (λ (v : Walk). v .count .waiting) is
+
+  logged-is : after S choices .count .logged ≡ F-after .count .logged
+  logged-is = ap (λ (v : Walk). v .count .logged) is
+
+  never-34 : (i : ℕ) → stepAfter S choices i .answer ≡ Refused OutOfRange → ⊥
+  never-34 i e = any-walk.never-34 (told S .folio) (S .walk) (told S .lent) choices i (sym (ap (λ (o : Out). o .answer) (told S .step-is choices i)) ∙ e)
+
+  refused : (i : ℕ) → after S choices .count .waiting ≤ i → stepAfter S choices i ≡ refuse NoSuchItem (after S choices)
+  refused i h =
+      told S .step-is choices i ∙ any-walk.refused-32 (told S .folio) (S .walk) (told S .lent) choices i (rw waiting-is at h)
+      ∙ ap (refuse NoSuchItem) (sym is)
+
+  taken : (i : ℕ) → i < after S choices .count .waiting
+      → (stepAfter S choices i .answer ≡ On (stepAfter S choices i .walk .count)) × (stepAfter S choices i .walk .count .logged ≡ suc (after S choices .count .logged))
+  taken i h =
+      let d = told S .step-is choices i in
+      let l = rw waiting-is at h in (
+        ap (λ (o : Out). o .answer) d ∙ any-walk.taken (told S .folio) (S .walk) (told S .lent) choices i l ∙ ap (λ (o : Out). On (o .walk .count)) (sym d),
+        ap (λ (o : Out). o .walk .count .logged) d ∙ any-walk.one-logged (told S .folio) (S .walk) (told S .lent) choices i l ∙ ap suc (sym logged-is),
+      )
+
+  steps : (acceptedIn S choices ≡ after S choices .count .logged) × (acceptedIn S choices ≤ span (scoreIn S)) × ((after S choices .count .waiting ≡ 0) ↔ (acceptedIn S choices ≡ span (scoreIn S)))
+  steps =
+      let a = told S .accepted-is choices in
+      let b = any-walk.accepted-logged (told S .folio) (S .walk) (told S .lent) choices in
+      let u = any-walk.waits-unread (told S .folio) (S .walk) (told S .lent) choices in
+      let e = any-walk.steps-end (told S .folio) (S .walk) (told S .lent) choices in
+      (a ∙ b ∙ sym logged-is, omega (arith, a, b, u), (λ h. a ∙ e .0 (sym waiting-is ∙ h), λ h. waiting-is ∙ e .1 (sym a ∙ h)))
+
+  log-nodes : (i : ℕ) → i < after S choices .count .logged → getD (after S choices .log) i 0 < span (scoreIn S)
+  log-nodes i h =
+      let n = after S choices .count .logged in
+      let l = length-take-in n (after S choices .log) log-long in
+      let m : getD (after S choices .log) i 0 ∈ take n (after S choices .log) = rw (← getD-take n (after S choices .log) i h) (getD-in (take n (after S choices .log)) i 0 (omega arith)) in
+      any-walk.log-nodes (told S .folio) (S .walk) (told S .lent) choices (getD (after S choices .log) i 0)
+      (subst (λ (v : Walk). getD (after S choices .log) i 0 ∈ take (v .count .logged) (v .log)) is m)
+
+  log-all : after S choices .count .waiting ≡ 0 → (n : ℕ) → n < span (scoreIn S) → (i : ℕ) × (i < after S choices .count .logged) × (getD (after S choices .log) i 0 ≡ n)
+  log-all done n h =
+      let m : n ∈ take (after S choices .count .logged) (after S choices .log) = on-after (λ (v : Walk). n ∈ take (v .count .logged) (v .log)) (any-walk.log-all (told S .folio) (S .walk) (told S .lent) choices (sym waiting-is ∙ done) n h) in
+      found-at (after S choices .count .logged) (after S choices .log) log-long m
+
+-- ---- two finished walks
+module _ {file : List ℕ} (S T : OneFile file) (c d : List ℕ) (c-done : after S c .count .waiting ≡ 0) (d-done : after T d .count .waiting ≡ 0) where
+  bit-over : (j n : ℕ) → n < span (scoreIn S) → bit (getD (after S c .marks) n 0) j ≡ 1 → bit (getD (after T d .marks) n 0) j ≡ 1
+  bit-over j n h b =
+      let ℓ = demand-2 S .no-other c j n h b in
+      let p = node-at (scoreIn S) n h in
+      let m = demand-2 S .exactly c c-done j (ℓ .0) (ℓ .1) n (p .0) (p .1) .0 b in
+      demand-2 T .exactly d d-done j (ℓ .0) (ap (λ xs. getElem? xs j) (sym (same-shapes S T)) ∙ ℓ .1) n (p .0) (ap (λ t. number t (p .0)) (sym (same-score S T)) ∙ p .1) .1
+      (subst (λ t. Matches (ℓ .0) t (p .0)) (same-score S T) m)
+
+module _ {file : List ℕ} (S T : OneFile file) (c d : List ℕ) (c-done : after S c .count .waiting ≡ 0) (d-done : after T d .count .waiting ≡ 0) where
+  pub same-marks : take (span (scoreIn S)) (after S c .marks) ≡ take (span (scoreIn S)) (after T d .marks)
+  same-marks =
+      let n = span (scoreIn S) in
+      let nodes : span (scoreIn T) ≡ n = ap span (sym (same-score S T)) in
+      let a = length-take-in n (after S c .marks) (marks-long S c) in
+      let b = length-take-in n (after T d .marks) (rw nodes at (marks-long T d)) in
+      ext-getD 0 _ _ (a ∙ sym b) λ i h.
+      let l : i < n = omega arith in
+      getD-take n (after S c .marks) i l
+      ∙ bits-same _ _ (λ j. (bit-over S T c d c-done d-done j i l, bit-over T S d c d-done c-done j i (rw nodes l)))
+      ∙ sym (getD-take n (after T d .marks) i l)
+
+  pub same-text : reported S c ≡ reported T d
+  unfolding report
+  same-text =
+      let k : length (spansIn S) ≡ span (scoreIn S) = ap length (score-spans S) ∙ length-sizes (scoreIn S) in
+      let m : take (length (spansIn S)) (after S c .marks) ≡ take (length (spansIn S)) (after T d .marks) = rw k same-marks in
+      ap (λ ms. firstLine (length (spansIn S)) (S .size .states) (total ms) (clashNumber (clash (spansIn S)) ms) ++ lines (spansIn S) ms) m
+      ∙ ap₂ (λ sp st. report sp st (after T d .marks)) (same-spans S T) (same-states S T)
+
+pub demand-3 : {file : List ℕ} (S : OneFile file) → Demand3 S
+demand-3 S = record {
+  never-34 = never-34 S;
+  refused = refused S;
+  taken = taken S;
+  steps = steps S;
+  log-nodes = log-nodes S;
+  log-once = λ choices i k hi hk e.
+      once-at (after S choices .count .logged) (after S choices .log) (log-long S choices)
+      (on-after S choices (λ (v : Walk). Distinct (take (v .count .logged) (v .log))) (any-walk.log-once (told S .folio) (S .walk) (told S .lent) choices)) i k hi hk e;
+  log-all = log-all S;
+  waits = λ choices. on-after S choices (λ (v : Walk). v .count .waiting + v .count .logged ≤ span (scoreIn S)) (any-walk.waits-unread (told S .folio) (S .walk) (told S .lent) choices);
+  same-marks = λ T c d. same-marks S T c d;
+  same-text = λ T c d. same-text S T c d;
+}

@@ -1,0 +1,5 @@
+-- What is promised, proved.
+pub mod Answers
+pub mod Setting
+pub mod Demand2
+pub mod Demand3

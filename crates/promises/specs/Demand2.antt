@@ -1,0 +1,31 @@
+-- Demand 2: "the plan is the one that the paper's construction gives, and after a finished walk a shape is reported at a place exactly if it matches there".
+--   is-folio        what opening read is a folio: the limits of document 01 hold of its symbols, shapes and score
+--   shape-words …   the tables that opening wrote are the preorder words, the shapes' starts and the nodes' spans
+--   plan            the words that building wrote are the plan of the paper's construction with document 01's choices
+--   exactly         a bit is set exactly if the shape matches at the node, by the paper's definition
+--   no-other        no other bit is set
+use mathlib.Core.Path.{_≡_}
+use mathlib.Core.List.{List}
+use mathlib.Core.Option.{some}
+use mathlib.Core.Logic.{_↔_}
+use Prim.Native.Nat.{ℕ, _<_}
+use lib.ListN.{length, getD, getElem?}
+use Rattle.kinds.specs.Bits.{bit}
+use Rattle.kinds.specs.Lists.{gather}
+use Rattle.kinds.specs.Positions.{Pos}
+use Rattle.term.specs.Terms.{Term, span, flatten, sizes}
+use Rattle.term.specs.Places.{Matches, number}
+use Rattle.folio.specs.Folio.{Folio}
+use Rattle.automaton.specs.PlanWords.{plan-of}
+use Rattle.plan.specs.Building.{planOf}
+use Rattle.promises.specs.OneFile.{OneFile, symbolsIn, wordsIn, nodesIn, spansIn, shapesIn, scoreIn, planIn, after}
+
+pub record Demand2 {file : List ℕ} (S : OneFile file) : Type 0 where
+  pub is-folio : Folio (symbolsIn S) (shapesIn S) (scoreIn S)
+  pub shape-words : wordsIn S ≡ gather flatten (shapesIn S)
+  pub score-words : nodesIn S ≡ flatten (scoreIn S)
+  pub score-spans : spansIn S ≡ sizes (scoreIn S)
+  pub plan : planOf (symbolsIn S) (shapesIn S) (length (S .plan)) ≡ plan-of (S .size .states) (planIn S)
+  pub exactly : (choices : List ℕ) → after S choices .count .waiting ≡ 0 → (j : ℕ) (ℓ : Term) → getElem? (shapesIn S) j ≡ some ℓ → (n : ℕ) (p : Pos) → number (scoreIn S) p ≡ some n
+      → (bit (getD (after S choices .marks) n 0) j ≡ 1) ↔ Matches ℓ (scoreIn S) p
+  pub no-other : (choices : List ℕ) (j n : ℕ) → n < span (scoreIn S) → bit (getD (after S choices .marks) n 0) j ≡ 1 → (ℓ : Term) × (getElem? (shapesIn S) j ≡ some ℓ)

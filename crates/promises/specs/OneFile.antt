@@ -1,0 +1,96 @@
+-- The setting of demands 2 and 3: one file that opens, whose build is accepted, and a walk over it that is started; the buffers lent are any.
+--   symbolsIn …     what opening wrote, each by the count answered
+--   OneFile         the three calls, each with what the one before it wrote
+--   shapesIn scoreIn   the terms that opening read
+--   planIn begunIn  the plan that building wrote; the walk that starting began
+--   after           the walk after any choices, each step "lent the same buffers and record as the one before left them"
+--   stepAfter       one more step then
+--   acceptedIn      how many of the choices were accepted
+--   reported        the text that find prints
+use mathlib.Core.Path.{_≡_}
+use mathlib.Core.List.{List}
+use mathlib.Core.Option.{some}
+use Prim.Native.Nat.{ℕ, _<_}
+use lib.ListN.{getElem?, take}
+use Rattle.term.specs.Terms.{Term}
+use Rattle.folio.specs.Opening.{Lent, opened}
+use Rattle.folio.specs.Folio.{shapeTerms, scoreTerm}
+use Rattle.folio.specs.declared.Counts.{Counts}
+use Rattle.folio.specs.declared.Opened.the-variants as opening
+use Rattle.plan.specs.Building.{buildOf}
+use Rattle.plan.specs.declared.Size.{Size}
+use Rattle.plan.specs.declared.Built.the-variants as building
+use Rattle.walk.specs.Starting.{Walk, Out, started}
+use Rattle.walk.specs.Stepping.{stepped, run, accepted}
+use Rattle.walk.specs.declared.Record.{Record}
+use Rattle.walk.specs.declared.Walked.the-variants as walking
+use Rattle.report.specs.Text.{report}
+
+module _ (file : List ℕ) (tables : Lent) (counts : Counts) where
+  abbrev pub symbolsOf : List ℕ
+  symbolsOf = take (counts .symbols) file
+
+  abbrev pub wordsOf : List ℕ
+  wordsOf = take (counts .words) (opened file tables .tables .words)
+
+  abbrev pub startsOf : List ℕ
+  startsOf = take (counts .shapes) (opened file tables .tables .starts)
+
+  abbrev pub nodesOf : List ℕ
+  nodesOf = take (counts .nodes) (opened file tables .tables .score)
+
+  abbrev pub spansOf : List ℕ
+  spansOf = take (counts .nodes) (opened file tables .tables .spans)
+
+pub record OneFile (file : List ℕ) : Type 0 where
+  pub bytes : (i b : ℕ) → getElem? file i ≡ some b → b < 256
+  pub tables : Lent
+  pub counts : Counts
+  pub opens : opened file tables .answer ≡ opening.Folio counts
+  pub plan : List ℕ
+  pub scratch : List ℕ
+  pub size : Size
+  pub builds : buildOf (symbolsOf file tables counts) (wordsOf file tables counts) (startsOf file tables counts) plan scratch .answer ≡ building.Plan size
+  pub walk : Walk
+  pub first : Record
+  pub starts : started (symbolsOf file tables counts) (nodesOf file tables counts) (spansOf file tables counts) walk .answer ≡ walking.On first
+
+module _ {file : List ℕ} (S : OneFile file) where
+  abbrev pub symbolsIn : List ℕ
+  symbolsIn = symbolsOf file (S .tables) (S .counts)
+
+  abbrev pub wordsIn : List ℕ
+  wordsIn = wordsOf file (S .tables) (S .counts)
+
+  abbrev pub startsIn : List ℕ
+  startsIn = startsOf file (S .tables) (S .counts)
+
+  abbrev pub nodesIn : List ℕ
+  nodesIn = nodesOf file (S .tables) (S .counts)
+
+  abbrev pub spansIn : List ℕ
+  spansIn = spansOf file (S .tables) (S .counts)
+
+  abbrev pub shapesIn : List Term
+  shapesIn = shapeTerms symbolsIn wordsIn
+
+  abbrev pub scoreIn : Term
+  scoreIn = scoreTerm symbolsIn nodesIn
+
+  abbrev pub planIn : List ℕ
+  planIn = take (S .size .words) (buildOf symbolsIn wordsIn startsIn (S .plan) (S .scratch) .plan)
+
+  abbrev pub begunIn : Walk
+  begunIn = started symbolsIn nodesIn spansIn (S .walk) .walk
+
+  abbrev pub after : List ℕ → Walk
+  after choices = run planIn nodesIn spansIn choices begunIn
+
+  abbrev pub stepAfter : List ℕ → ℕ → Out
+  stepAfter choices i = stepped planIn nodesIn spansIn i (after choices)
+
+  abbrev pub acceptedIn : List ℕ → ℕ
+  acceptedIn choices = accepted planIn nodesIn spansIn choices begunIn
+
+  abbrev pub reported : List ℕ → List ℕ
+  reported choices = report spansIn (S .size .states) (after choices .marks)
