@@ -1,7 +1,5 @@
 -- An accepted file is one list of shapes and one score within the limits of a folio, and the tables hold their words, starts and spans.
 --   Meaning one-meaning         what the sections of a file mean, and only that
---   Room                        the four tables have room
---   answered                    what is answered and written for a folio
 --   Accepted accepted           an accepted file has a meaning, which the tables hold
 --   made                        and a file that has one is accepted
 --   shape-terms score-term      the terms that the tables' words hold
@@ -17,9 +15,9 @@ use lib.Seq.{sets}
 use Rattle.kinds.specs.Lists.{unless, gather}
 use Rattle.kinds.specs.declared.Reason.{Reason}
 use Rattle.kinds.specs.declared.Reason.the-variants as reason
-use Rattle.kinds.proofs.Members.{_∈_, here, there, in-none}
+use Rattle.kinds.proofs.Members.{in-take, in-drop}
 use Rattle.kinds.proofs.Places.{at-in, on-in}
-use Rattle.kinds.proofs.ListLaws.{onto-sets, take-onto}
+use Rattle.kinds.proofs.ListLaws.{stored-back}
 use Rattle.term.specs.Terms.{Term, span, flatten, sizes}
 use Rattle.term.specs.Spans.{spansOf}
 use Rattle.term.proofs.OneTerm.{once}
@@ -28,9 +26,9 @@ use Rattle.term.proofs.TermWhole.{parse-flatten, parse-all}
 use Rattle.folio.specs.Bytes.{wordsOf}
 use Rattle.folio.specs.Sections.{trailerOf, sectionsOf}
 use Rattle.folio.specs.Tables.{blankWord, noBlank, shapeLevels, scoreLevels, Row, shapesOf, scoreOf}
-use Rattle.folio.specs.Opening.{Lent, Out, lent, out, refuse, counts, stored, onScore, onShapes, held, onSections, opened}
+use Rattle.folio.specs.Opening.{Lent, Room, Out, lent, out, refuse, counts, stored, onScore, onShapes, held, onSections, opened}
 use Rattle.folio.specs.Folio as folio
-use Rattle.folio.specs.Folio.{IsScore, shapeTerms, orBlank, scoreTerm}
+use Rattle.folio.specs.Folio.{GoodSymbols, startsAt, answered, IsScore, shapeTerms, orBlank, scoreTerm}
 use Rattle.folio.specs.declared.Places.{Places}
 use Rattle.folio.specs.declared.Sections.{Sections}
 use Rattle.folio.specs.declared.Sections.the-variants as sections
@@ -42,8 +40,8 @@ use Rattle.folio.specs.declared.Counts.{Counts}
 use Rattle.folio.specs.declared.Opened.the-variants.{Folio, Refused}
 use Rattle.folio.proofs.LawsSections.{sections-in, sections-good}
 use Rattle.folio.proofs.LawsOpening.{stored-all, held-on, opened-at}
-use Rattle.folio.proofs.Symbols.{GoodSymbols, symbols-is, symbols-of}
-use Rattle.folio.proofs.ShapesFound.{startsAt, length-starts, Each, found-shapes, shapes-found, all-once}
+use Rattle.folio.proofs.Symbols.{symbols-is, symbols-of}
+use Rattle.folio.proofs.ShapesFound.{length-starts, Each, found-shapes, shapes-found, all-once}
 use Rattle.folio.proofs.ScoreWhole.{Below, words-below, score-is, score-of}
 
 -- ---- what a file means
@@ -64,21 +62,10 @@ one-meaning file p m n = (
 )
 
 -- ---- what is answered and written
-pub record Room (l : Lent) (ws st sc : List ℕ) : Type 0 where
-  pub words : length ws ≤ length (l .words)
-  pub starts : length st ≤ length (l .starts)
-  pub score : length sc ≤ length (l .score)
-  pub spans : length sc ≤ length (l .spans)
-
 abbrev full : List ℕ → List ℕ → List ℕ → List ℕ → Lent → Out
 full ar ws st sc l =
     out (Folio (counts (length ar) (length st) (length ws) (length sc)))
     (lent (sets (l .words) 0 ws) (sets (l .starts) 0 st) (sets (l .score) 0 sc) (sets (l .spans) 0 (spansOf ar sc)))
-
-abbrev pub answered : List ℕ → List Term → Term → Lent → Out
-answered ar ss t l =
-    out (Folio (counts (length ar) (length ss) (length (gather flatten ss)) (span t)))
-    (lent (sets (l .words) 0 (gather flatten ss)) (sets (l .starts) 0 (startsAt 0 ss)) (sets (l .score) 0 (flatten t)) (sets (l .spans) 0 (sizes t)))
 
 full-answered : (ar : List ℕ) (ss : List Term) (t : Term) (l : Lent) → folio.Folio ar ss t → full ar (gather flatten ss) (startsAt 0 ss) (flatten t) l ≡ answered ar ss t l
 full-answered ar ss t l f =
@@ -95,7 +82,7 @@ on-room {κ} : {C : Type κ} (b : Bool) (l : Lent) (o : Out) (k : Counts) → un
 on-room true l o k e c = c refl e
 on-room false l o k e c = never-folio e
 
-stored-room : (ar ws st sc : List ℕ) (l : Lent) (k : Counts) → stored ar ws st sc l .answer ≡ Folio k → Room l ws st sc
+stored-room : (ar ws st sc : List ℕ) (l : Lent) (k : Counts) → stored ar ws st sc l .answer ≡ Folio k → Room l (length ws) (length st) (length sc)
 unfolding stored
 stored-room ar ws st sc l k e =
     on-room (leb (length ws) (length (l .words))) l _ k e λ a e₁.
@@ -109,7 +96,7 @@ record Held (ar ws sc : List ℕ) (l : Lent) : Type 0 where
   number : ℕ
   shaped : shapesOf ar blankWord ws .answer ≡ shapes.Found number
   whole : scoreOf ar sc ≡ score.Whole
-  room : Room l ws (shapesOf ar blankWord ws .starts) sc
+  room : Room l (length ws) (length (shapesOf ar blankWord ws .starts)) (length sc)
 
 held-in : (ar ws sc : List ℕ) (at : ℕ) (l : Lent) (k : Counts) → held ar ws sc at l .answer ≡ Folio k → Held ar ws sc l
 unfolding held
@@ -121,26 +108,14 @@ held-in ar ws sc at l k e = go (shapesOf ar blankWord ws .answer) refl (scoreOf 
     go (shapes.Found n) ea (score.Refused r i) eb e = never-folio e
     go (shapes.Found n) ea score.Whole eb e = record { number = n; shaped = ea; whole = eb; room = stored-room ar ws (shapesOf ar blankWord ws .starts) sc l k e }
 
--- a number of a part is one of the whole
-in-take : (n : ℕ) (xs : List ℕ) {x : ℕ} → x ∈ take n xs → x ∈ xs
-in-take zero xs m = in-none m
-in-take (suc n) [] m = m
-in-take (suc n) (y ∷ xs) (here e) = here e
-in-take (suc n) (y ∷ xs) (there m) = there (in-take n xs m)
-
-in-drop : (n : ℕ) (xs : List ℕ) {x : ℕ} → x ∈ drop n xs → x ∈ xs
-in-drop zero xs m = m
-in-drop (suc n) [] m = m
-in-drop (suc n) (y ∷ xs) m = there (in-drop n xs m)
-
 pub record Accepted (file : List ℕ) (l : Lent) : Type 0 where
   pub places : Places
   pub placed : sectionsOf file ≡ sections.At places
   pub meaning : Meaning file places
-  pub room : Room l (gather flatten (meaning .shapes)) (startsAt 0 (meaning .shapes)) (flatten (meaning .score))
+  pub room : Room l (length (gather flatten (meaning .shapes))) (length (meaning .shapes)) (span (meaning .score))
   pub is : opened file l ≡ answered (take (places .shapes) file) (meaning .shapes) (meaning .score) l
 
-pub made-held : (file : List ℕ) (p : Places) (m : Meaning file p) (l : Lent) → sectionsOf file ≡ sections.At p → Room l (gather flatten (m .shapes)) (startsAt 0 (m .shapes)) (flatten (m .score))
+pub made-held : (file : List ℕ) (p : Places) (m : Meaning file p) (l : Lent) → sectionsOf file ≡ sections.At p → Room l (length (gather flatten (m .shapes))) (length (m .shapes)) (span (m .score))
     → opened file l ≡ answered (take (p .shapes) file) (m .shapes) (m .score) l
 made-held file p m l e room =
     let ar : List ℕ = take (p .shapes) file in
@@ -151,7 +126,7 @@ made-held file p m l e room =
     ∙ ap₂ (λ (x y : List ℕ). held ar x y (p .shapes) l) (m .shape-words) (m .score-words)
     ∙ held-on ar ws sc (p .shapes) l (ap (λ (x : Row). x .answer) r) (score-of ar (m .score) (m .limits .is-score))
     ∙ ap (λ (x : Row). stored ar ws (x .starts) sc l) r
-    ∙ stored-all ar ws (startsAt 0 (m .shapes)) sc l (room .words) (room .starts) (room .score) (room .spans)
+    ∙ stored-all ar ws (startsAt 0 (m .shapes)) sc l (room .words) (rw (length-starts 0 (m .shapes)) (room .starts)) (rw (length-flatten (m .score)) (room .score)) (rw (length-flatten (m .score)) (room .spans))
     ∙ full-answered ar (m .shapes) (m .score) l (m .limits)
 
 pub folio-of : (ar : List ℕ) (ss : List Term) (t : Term) → GoodSymbols ar → Each ar ss → 1 ≤ length ss → length ss ≤ 16 → IsScore ar t → folio.Folio ar ss t
@@ -171,11 +146,11 @@ accepted file l k small e = go (sectionsOf file) refl e
         let s = score-is ar (wordsOf bs) (words-below bs (λ w m. small w (in-drop (p .score) file (in-take (p .end - p .score) (drop (p .score) file) m)))) (h .whole) in
         let g = symbols-is ar (sections-in file p ep .1) in
         let m : Meaning file p = record { shapes = f .trees; score = s .tree; limits = folio-of ar (f .trees) (s .tree) g (f .each) (f .some-shape) (f .few-shapes) (s .is); shape-words = f .words; score-words = s .words } in
-        let r : Room l (gather flatten (f .trees)) (startsAt 0 (f .trees)) (flatten (s .tree)) = record {
+        let r : Room l (length (gather flatten (f .trees))) (length (f .trees)) (span (s .tree)) = record {
           words = omega (arith, h .room .words, ap length (f .words));
-          starts = omega (arith, h .room .starts, ap length (f .begins));
-          score = omega (arith, h .room .score, ap length (s .words));
-          spans = omega (arith, h .room .spans, ap length (s .words));
+          starts = omega (arith, h .room .starts, ap length (f .begins), length-starts 0 (f .trees));
+          score = omega (arith, h .room .score, ap length (s .words), length-flatten (s .tree));
+          spans = omega (arith, h .room .spans, ap length (s .words), length-flatten (s .tree));
         } in
         record { places = p; placed = ep; meaning = m; room = r; is = made-held file p m l ep r }
 
@@ -184,7 +159,7 @@ accepted file l k small e = go (sectionsOf file) refl e
     go (sections.At p) es e = built p es (held-in (take (p .shapes) file) (wordsOf (take (p .score - p .shapes) (drop (p .shapes) file))) (wordsOf (take (p .end - p .score) (drop (p .score) file))) (p .shapes) l k e)
 
 -- a file that passes 1 to 4, and whose sections are those of a folio
-pub made : (file : List ℕ) (p : Places) (m : Meaning file p) (l : Lent) → trailerOf file ≡ sections.At p → Room l (gather flatten (m .shapes)) (startsAt 0 (m .shapes)) (flatten (m .score))
+pub made : (file : List ℕ) (p : Places) (m : Meaning file p) (l : Lent) → trailerOf file ≡ sections.At p → Room l (length (gather flatten (m .shapes))) (length (m .shapes)) (span (m .score))
     → opened file l ≡ answered (take (p .shapes) file) (m .shapes) (m .score) l
 made file p m l e room =
     let g : GoodSymbols (take (p .shapes) file) = record { some-symbol = m .limits .some-symbol; few-symbols = m .limits .few-symbols; children = m .limits .children } in
@@ -198,9 +173,6 @@ pub score-term : (ar : List ℕ) (t : Term) → IsScore ar t → scoreTerm ar (f
 score-term ar t s =
     let h = s .flat in
     ap (λ (x : List ℕ). scoreTerm ar x) (sym (append-nil (flatten t))) ∙ ap orBlank (parse-flatten ar noBlank t scoreLevels [] (s .fits) (omega arith))
-
-pub stored-back : (ws l : List ℕ) → length ws ≤ length l → take (length ws) (sets l 0 ws) ≡ ws
-stored-back ws l h = ap (take (length ws)) (sym (onto-sets ws l h)) ∙ take-onto ws l
 
 module _ (file : List ℕ) (l : Lent) (a : Accepted file l) where
   abbrev symbols : List ℕ
@@ -217,5 +189,5 @@ module _ (file : List ℕ) (l : Lent) (a : Accepted file l) where
   table-score =
       ap (λ (o : Out). scoreTerm symbols (take (span (a .meaning .score)) (o .tables .score))) (a .is)
       ∙ ap (λ (n : ℕ). scoreTerm symbols (take n (sets (l .score) 0 (flatten (a .meaning .score))))) (sym (length-flatten (a .meaning .score)))
-      ∙ ap (scoreTerm symbols) (stored-back (flatten (a .meaning .score)) (l .score) (a .room .score))
+      ∙ ap (scoreTerm symbols) (stored-back (flatten (a .meaning .score)) (l .score) (rw (length-flatten (a .meaning .score)) (a .room .score)))
       ∙ score-term symbols (a .meaning .score) (a .meaning .limits .is-score)

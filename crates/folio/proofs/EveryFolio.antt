@@ -11,17 +11,18 @@ use lib.ListN.{length, getD, take, drop, length-append}
 use lib.Seq.{take-at, drop-at, getD-drop}
 use Rattle.kinds.specs.Lists.{gather}
 use Rattle.kinds.proofs.Members.{here, there}
-use Rattle.term.specs.Terms.{Term, flatten}
+use Rattle.term.specs.Terms.{Term, flatten, span}
 use Rattle.term.proofs.Sizes.{length-flatten}
 use Rattle.folio.specs.Bytes.{wordAt, wordsOf}
 use Rattle.folio.specs.Sections.{places, distancesOf, trailerOf}
-use Rattle.folio.specs.Opening.{Lent, opened}
+use Rattle.folio.specs.Opening.{Lent, Room, opened}
 use Rattle.folio.specs.Folio as folio
+use Rattle.folio.specs.Folio.{startsAt, answered}
 use Rattle.folio.specs.declared.Places.{Places}
 use Rattle.folio.specs.declared.Sections.the-variants.{At}
 use Rattle.folio.proofs.LawsSections.{trailer-to, distances-at}
-use Rattle.folio.proofs.ShapesFound.{startsAt, Each}
-use Rattle.folio.proofs.Accepted.{Meaning, Room, answered, each-shape, made}
+use Rattle.folio.proofs.ShapesFound.{Each}
+use Rattle.folio.proofs.Accepted.{Meaning, each-shape, made}
 
 -- ---- bytes
 abbrev pub bytesOf : List ℕ → List ℕ
@@ -141,6 +142,6 @@ module _ (ar : List ℕ) (ss : List Term) (t : Term) (f : folio.Folio ar ss t) w
     score-words = ap wordsOf score-part ∙ words-bytes sc;
   }
 
-  pub every-folio : (l : Lent) → Room l ws (startsAt 0 ss) sc → opened (fileOf ar ss t) l ≡ answered ar ss t l
+  pub every-folio : (l : Lent) → Room l (length ws) (length ss) (span t) → opened (fileOf ar ss t) l ≡ answered ar ss t l
   unfolding meaning-of
   every-folio l r = made (fileOf ar ss t) at meaning-of l trailer-of r ∙ ap (λ (x : List ℕ). answered x ss t l) symbols-part

@@ -15,9 +15,9 @@ use Rattle.term.proofs.Sizes.{spans-are}
 use Rattle.folio.specs.Tables.{blankWord, noBlank, Row, shapesOf, scoreOf}
 use Rattle.folio.specs.Again.{shapesGood, scoreGood}
 use Rattle.folio.specs.Folio as folio
-use Rattle.folio.specs.Folio.{IsScore}
-use Rattle.folio.proofs.Symbols.{GoodSymbols, symbols-is, symbols-of}
-use Rattle.folio.proofs.ShapesFound.{startsAt, Shaped, found-shapes, shapes-found}
+use Rattle.folio.specs.Folio.{startsAt, Shaped, GoodScore, GoodSymbols, IsScore}
+use Rattle.folio.proofs.Symbols.{symbols-is, symbols-of}
+use Rattle.folio.proofs.ShapesFound.{found-shapes, shapes-found}
 use Rattle.folio.proofs.ScoreWhole.{Below, score-is, score-of}
 use Rattle.folio.proofs.LawsAgain.{shapes-good-is, shapes-good-of, score-good-is, score-good-of}
 use Rattle.folio.proofs.Accepted.{each-shape}
@@ -35,12 +35,6 @@ shaped-good ar ws st g s =
     shapes-good-of ar ws st (record { symbols = symbols-of ar g; number = 0 + length (s .trees); found = ap (λ (x : Row). x .answer) r; starts = s .begins ∙ sym (ap (λ (x : Row). x .starts) r) })
 
 -- ---- 31
-pub record GoodScore (ar ws sp : List ℕ) : Type 0 where
-  pub tree : Term
-  pub is : IsScore ar tree
-  pub words : ws ≡ flatten tree
-  pub spans : sp ≡ sizes tree
-
 sizes-are : (ar : List ℕ) (t : Term) → GoodSymbols ar → IsScore ar t → spansOf ar (flatten t) ≡ sizes t
 sizes-are ar t g s = let few = g .few-symbols in spans-are ar noBlank t (omega arith) (s .fits)
 

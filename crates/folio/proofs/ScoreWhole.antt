@@ -24,7 +24,7 @@ use Rattle.term.proofs.TermWhole.{read-back}
 use Rattle.folio.specs.Bytes.{wordsOf}
 use Rattle.folio.specs.declared.Score.the-variants as score
 use Rattle.folio.specs.Tables.{noBlank, scoreLimits, scoreLevels, alone, scoreOf}
-use Rattle.folio.specs.Folio.{IsScore}
+use Rattle.folio.specs.Folio.{IsScore, Scored}
 use Rattle.folio.proofs.LawsTables.{score-whole}
 
 -- each number is below n
@@ -46,11 +46,6 @@ mutual
   wholes-of : (ar : List ℕ) (ts : Terms) → Fitss ar noBlank ts → Below 65536 (flattens ts) → Wholes ts
   wholes-of ar tnil f h = tt
   wholes-of ar (tcons t ts) f h = (whole-of ar t (f .0) (λ w m. h w (∈-left (flattens ts) m)), wholes-of ar ts (f .1) (λ w m. h w (∈-right (flatten t) m)))
-
-pub record Scored (ar ws : List ℕ) : Type 0 where
-  pub tree : Term
-  pub is : IsScore ar tree
-  pub words : ws ≡ flatten tree
 
 pub score-is : (ar ws : List ℕ) → Below 65536 ws → scoreOf ar ws ≡ score.Whole → Scored ar ws
 unfolding scoreOf

@@ -1,5 +1,5 @@
 -- Shapes that are found are shapes, and the shapes there are are found.
---   startsAt length-starts        where each begins, back to back
+--   length-starts                 as many begin as there are
 --   ShapesAt shapes-at            the words from an index on are those of shapes, and their starts are such
 --   found-shapes shapes-found     all of them
 --   all-once                      shapes' words determine the shapes
@@ -28,12 +28,8 @@ use Rattle.term.proofs.OneTerm.{once}
 use Rattle.term.proofs.Sizes.{length-flatten, span-pos}
 use Rattle.folio.specs.declared.Shapes.the-variants as shapes
 use Rattle.folio.specs.Tables.{blankWord, shapeLimits, shapeLevels, row, push, shape, shapesFrom, shapesOf}
-use Rattle.folio.specs.Folio.{isBlank, IsShape}
+use Rattle.folio.specs.Folio.{isBlank, IsShape, startsAt, Shaped}
 use Rattle.folio.proofs.LawsTables.{never-found, shapes-done, shapes-some, found-from}
-
-abbrev pub startsAt : ℕ → List Term → List ℕ
-startsAt at [] = []
-startsAt at (t ∷ ts) = at ∷ startsAt (at + span t) ts
 
 pub length-starts : (at : ℕ) (ts : List Term) → length (startsAt at ts) ≡ length ts
 length-starts at [] = refl
@@ -52,7 +48,7 @@ no-shapes : (ar ws : List ℕ) (at : ℕ) → ltb at (length ws) ≡ false → S
 no-shapes ar ws at e = record { trees = []; each = λ t m. in-none m; words = drop-of-length-le ws (ltb-false at (length ws) e); begins = refl }
 
 -- what begins with a word that is no blank is no blank
-solid : (ar ws : List ℕ) (d at e : ℕ) (r : TermAt ar ws blankWord d at e) → at < length ws → getD ws at 0 < blankWord → isBlank (r .tree) ≡ false
+pub solid : (ar ws : List ℕ) (d at e : ℕ) (r : TermAt ar ws blankWord d at e) → at < length ws → getD ws at 0 < blankWord → isBlank (r .tree) ≡ false
 solid ar ws d at e r h g = go (r .tree) (r .fits) (r .words)
   where
     go : (t : Term) → Fits ar blankWord t → drop at ws ≡ flatten t ++ drop e ws → isBlank t ≡ false
@@ -98,15 +94,6 @@ shapes-at ar ws (suc c) n at k e =
         let s : IsShape ar (a .tree) = record { fits = a .fits; flat = omega (arith, a .flat); small = omega (arith, w .few, a .size); solid = solid ar ws shapeLevels at (m .end) a (ltb-true at (length ws) eb) (leb-false blankWord (getD ws at 0) el) } in
         join (m .end) a s (shapesFrom ar blankWord ws c (n + 1) (m .end) .starts) (ih (m .end) e)
 
--- what is found
-pub record Shaped (ar ws st : List ℕ) : Type 0 where
-  pub trees : List Term
-  pub each : Each ar trees
-  pub some-shape : 1 ≤ length trees
-  pub few-shapes : length trees ≤ 16
-  pub words : ws ≡ gather flatten trees
-  pub begins : st ≡ startsAt 0 trees
-
 pub found-shapes : (ar ws : List ℕ) (k : ℕ) → shapesOf ar blankWord ws .answer ≡ shapes.Found k → Shaped ar ws (shapesOf ar blankWord ws .starts)
 unfolding shapesOf
 found-shapes ar ws k e = go (ltb 0 (length ws)) refl e
@@ -131,7 +118,7 @@ found-shapes ar ws k e = go (ltb 0 (length ws)) refl e
     go false eb e = never-found e
 
 -- ---- the way back
-head-word : (ar ws : List ℕ) (at : ℕ) (t : Term) (r : List ℕ) → IsShape ar t → drop at ws ≡ flatten t ++ r → (at < length ws) × (getD ws at 0 < blankWord)
+pub head-word : (ar ws : List ℕ) (at : ℕ) (t : Term) (r : List ℕ) → IsShape ar t → drop at ws ≡ flatten t ++ r → (at < length ws) × (getD ws at 0 < blankWord)
 head-word ar ws at (blank w) r s e = false-true (sym (s .solid))
 head-word ar ws at (node f ts) r s e =
     let h = first ws at f _ e in

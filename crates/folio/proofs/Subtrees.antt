@@ -21,8 +21,8 @@ use Rattle.term.proofs.FollowTree.{words-stand}
 use Rattle.folio.specs.Tables.{blankWord, shapeLimits, shapeLevels, scoreLimits, scoreLevels}
 use Rattle.folio.specs.Again.{pieceAt, subtreeAt}
 use Rattle.folio.specs.declared.Asked.the-variants as asked
-use Rattle.folio.specs.Folio.{IsScore}
-use Rattle.folio.proofs.Symbols.{GoodSymbols, symbols-of}
+use Rattle.folio.specs.Folio.{GoodSymbols, IsScore}
+use Rattle.folio.proofs.Symbols.{symbols-of}
 use Rattle.folio.proofs.LawsAgain.{piece-some, subtree-some}
 
 module _ (ar ws : List ℕ) (l : Limits) (levels at : ℕ) where

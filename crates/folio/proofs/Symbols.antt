@@ -15,14 +15,10 @@ use Rattle.kinds.proofs.Options.{none-not}
 use Rattle.kinds.specs.declared.Reason.{Reason}
 use Rattle.kinds.specs.declared.Reason.the-variants.{Symbols, Children}
 use Rattle.folio.specs.Sections.{overAt, symbolsOf}
+use Rattle.folio.specs.Folio.{GoodSymbols}
 use Rattle.folio.specs.declared.Verdict.{Verdict}
 use Rattle.folio.specs.declared.Verdict.the-variants.{Good, Bad}
 use Rattle.folio.proofs.LawsSections.{never-bad, symbols-each}
-
-pub record GoodSymbols (ar : List ℕ) : Type 0 where
-  pub some-symbol : 1 ≤ length ar
-  pub few-symbols : length ar ≤ 32
-  pub children : (f n : ℕ) → getElem? ar f ≡ some n → n ≤ 4
 
 on-test {κ} : {C : Type κ} (b : Bool) (r : Reason) (p : ℕ) (v : Verdict) → unless b (Bad r p) v ≡ Good → (b ≡ true → v ≡ Good → C) → C
 on-test true r p v e k = k refl e

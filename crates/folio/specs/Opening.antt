@@ -1,11 +1,12 @@
 -- Opening a folio: "Order: 1 to 6, then shapes, then score, then 18." "A refusal writes nothing. Words past those an answer writes keep their values."
 --   Lent Out      the four tables lent; an answer and the tables as they are then
+--   Room          each table holds what it must
 --   refuse        a refusal writes nothing
 --   stored        18; then each table begins with what it must hold and keeps the words past it
 --   held          7 to 18: the shapes' first word is at byte `at`, the score's behind their last
 --   opened        1 to 18
 --   openedSays    the answer in document 01's numbers
-use Prim.Native.Nat.{ℕ, _+_, _*_, _-_}
+use Prim.Native.Nat.{ℕ, _+_, _*_, _-_, _≤_}
 use mathlib.Core.List.{List, [], _∷_}
 use lib.Dec.{leb}
 use lib.ListN.{length, take, drop}
@@ -37,6 +38,13 @@ pub record Lent : Type 0 where
 pub record Out : Type 0 where
   pub answer : Opened
   pub tables : Lent
+
+-- "shorter than the shape words, shapes, n or n it must hold": not so
+pub record Room (l : Lent) (w s n : ℕ) : Type 0 where
+  pub words : w ≤ length (l .words)
+  pub starts : s ≤ length (l .starts)
+  pub score : n ≤ length (l .score)
+  pub spans : n ≤ length (l .spans)
 
 abbrev pub lent : List ℕ → List ℕ → List ℕ → List ℕ → Lent
 lent w st sc sp = record { words = w; starts = st; score = sc; spans = sp }

@@ -2,8 +2,8 @@ use kinds::Node;
 use kinds::Reason;
 
 pub mod opening; // the call that opens a folio
-pub mod finding; // where its sections are: 1 to 6
-pub mod reading; // its shapes and its score: 7 to 17
+mod finding; // where its sections are: 1 to 6
+mod reading; // its shapes and its score: 7 to 17
 pub mod checking; // the tables lent to later calls
 pub mod showing; // the words of one subtree
 

@@ -95,6 +95,10 @@ length-onto new ws h = ap length (onto-sets new ws h) ∙ length-sets ws 0 new
 pub take-onto : (new ws : List ℕ) → take (length new) (onto new ws) ≡ new
 take-onto new ws = take-append-seam new (drop (length new) ws)
 
+-- words stored at a list's start
+pub stored-back : (ws l : List ℕ) → length ws ≤ length l → take (length ws) (sets l 0 ws) ≡ ws
+stored-back ws l h = ap (take (length ws)) (sym (onto-sets ws l h)) ∙ take-onto ws l
+
 pub drop-onto : (new ws : List ℕ) → drop (length new) (onto new ws) ≡ drop (length new) ws
 drop-onto new ws = drop-append-seam new (drop (length new) ws)
 

@@ -9,6 +9,7 @@
 --   filter-split filter-le filter-at-most gather-length   how many
 --   Perm perm-refl perm-sym perm-length perm-in insert-perm sort-perm sort-in in-sort   the same elements, each as often
 --   range-in in-range length-range distinct-below       numbers in a row
+--   in-take in-drop                              in a part
 use mathlib.Core.Path.{_≡_, refl, ap, sym, _∙_}
 use mathlib.Core.Bool.{Bool, true, false, cond, not, false≢true}
 use mathlib.Core.List.{List, [], _∷_, _++_, map}
@@ -17,7 +18,7 @@ use Prim.Native.Nat.{ℕ, zero, suc, _+_, _*_, _<_, _≤_}
 use native.Mathlib.Omega.{arith}
 use native.Mathlib.Nat.{eq-or-lt-of-le}
 use lib.Dec.{eqb}
-use lib.ListN.{length, length-append}
+use lib.ListN.{length, take, drop, length-append}
 use Rattle.kinds.specs.Lists.{same, filter, any, all, gather, range, insert, sort}
 use Rattle.kinds.proofs.Bools.{and-l, and-r, both, or-l, or-r, or-case, neither, eqb-is, is-eqb}
 
@@ -245,3 +246,15 @@ gather-length f c (x ∷ xs) h = rw (length-append, h x, gather-length f c xs h)
   where
     mul-suc : (n c : ℕ) → c + n * c ≡ suc n * c
     mul-suc n c = omega arith
+
+-- a member of a part is one of the whole
+pub in-take : {A : Type 0} (n : ℕ) (xs : List A) {x : A} → x ∈ take n xs → x ∈ xs
+in-take zero xs m = in-none m
+in-take (suc n) [] m = m
+in-take (suc n) (y ∷ xs) (here e) = here e
+in-take (suc n) (y ∷ xs) (there m) = there (in-take n xs m)
+
+pub in-drop : {A : Type 0} (n : ℕ) (xs : List A) {x : A} → x ∈ drop n xs → x ∈ xs
+in-drop zero xs m = m
+in-drop (suc n) [] m = m
+in-drop (suc n) (y ∷ xs) m = there (in-drop n xs m)

@@ -24,10 +24,9 @@ use Rattle.kinds.proofs.Options.{none-not, on-bind}
 use Rattle.kinds.proofs.Places.{at-in, at-getD}
 use Rattle.term.specs.Terms.{Term, blank, node, Terms, tnil, tcons, count, span, flatten, flattens, Fits}
 use Rattle.term.specs.Places.{nth, sub, dom}
-use Rattle.folio.specs.Folio.{IsShape, shapeTerms}
+use Rattle.folio.specs.Folio.{IsShape, GoodSymbols, Shaped, startsAt, shapeTerms}
 use Rattle.folio.specs.Again.{shapesGood}
-use Rattle.folio.proofs.Symbols.{GoodSymbols}
-use Rattle.folio.proofs.ShapesFound.{startsAt, length-starts, Shaped, Each}
+use Rattle.folio.proofs.ShapesFound.{length-starts, Each}
 use Rattle.folio.proofs.GoodTables.{shapes-good-shaped}
 use Rattle.folio.proofs.Accepted.{shape-terms}
 use Rattle.automaton.specs.Exploring.{construction}

@@ -19,7 +19,7 @@ use Rattle.kinds.specs.declared.Reason.the-variants.{BadScore, ShortBuffers}
 use Rattle.kinds.proofs.Bools.{test, ltb-not}
 use Rattle.folio.specs.Folio.{shapeTerms}
 use Rattle.folio.specs.Again.{shapesGood, scoreGood}
-use Rattle.folio.proofs.Accepted.{stored-back}
+use Rattle.kinds.proofs.ListLaws.{stored-back}
 use Rattle.automaton.specs.Paper.{paper}
 use Rattle.automaton.specs.Exploring.{Construction, Block, Made, refused, made, explored, construction}
 use Rattle.automaton.specs.PlanWords.{Plan, halted, too-long, plan-of, planWords, toPlan, planned}

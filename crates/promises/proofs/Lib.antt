@@ -1,5 +1,11 @@
 -- What is promised, proved.
+pub mod TrailerRows
+pub mod ShapeRows
+pub mod ScoreRows
+pub mod OpenExactly
 pub mod Answers
 pub mod Setting
+pub mod Demand1
 pub mod Demand2
 pub mod Demand3
+pub mod Determined

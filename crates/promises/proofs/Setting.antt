@@ -9,6 +9,7 @@ use mathlib.Core.List.{List, [], _∷_}
 use Prim.Native.Nat.{ℕ, zero, suc, _-_}
 use lib.ListN.{length, take, drop}
 use Rattle.kinds.specs.Lists.{gather}
+use Rattle.kinds.proofs.ListLaws.{stored-back}
 use Rattle.kinds.proofs.Places.{on-in}
 use Rattle.term.specs.Terms.{Term, span, flatten, sizes}
 use Rattle.term.proofs.Sizes.{length-flatten, length-sizes}
@@ -20,10 +21,10 @@ use Rattle.folio.specs.declared.Opened.the-variants as opening
 use Rattle.folio.specs.declared.Places.{Places}
 use Rattle.folio.specs.Opening.{opened, counts}
 use Rattle.folio.specs.Opening.{Out as Opening}
-use Rattle.folio.specs.Folio.{Folio, shapeTerms, scoreTerm}
+use Rattle.folio.specs.Folio.{Folio, startsAt, answered, shapeTerms, scoreTerm}
 use Rattle.folio.proofs.ScoreWhole.{Below}
-use Rattle.folio.proofs.ShapesFound.{startsAt, length-starts}
-use Rattle.folio.proofs.Accepted.{Accepted, accepted, answered, each-shape, shape-terms, score-term, stored-back}
+use Rattle.folio.proofs.ShapesFound.{length-starts}
+use Rattle.folio.proofs.Accepted.{Accepted, accepted, each-shape, shape-terms, score-term}
 use Rattle.automaton.specs.Paper.{paper}
 use Rattle.automaton.specs.Exploring.{construction}
 use Rattle.automaton.specs.PlanWords.{plan-of}
@@ -78,19 +79,19 @@ module _ {file : List ℕ} (S : OneFile file) where
   starts-are =
       ap₂ (λ (c : Counts) (o : Opening). take (c .shapes) (o .tables .starts)) counted (acc .is)
       ∙ ap (λ n. take n (answered (take (p .shapes) file) ss t (S .tables) .tables .starts)) (sym (length-starts 0 ss))
-      ∙ stored-back (startsAt 0 ss) (S .tables .starts) (acc .room .starts)
+      ∙ stored-back (startsAt 0 ss) (S .tables .starts) (rw (length-starts 0 ss) (acc .room .starts))
 
   nodes-are : nodesIn S ≡ flatten t
   nodes-are =
       ap₂ (λ (c : Counts) (o : Opening). take (c .nodes) (o .tables .score)) counted (acc .is)
       ∙ ap (λ n. take n (answered (take (p .shapes) file) ss t (S .tables) .tables .score)) (sym (length-flatten t))
-      ∙ stored-back (flatten t) (S .tables .score) (acc .room .score)
+      ∙ stored-back (flatten t) (S .tables .score) (rw (length-flatten t) (acc .room .score))
 
   spans-are : spansIn S ≡ sizes t
   spans-are =
       ap₂ (λ (c : Counts) (o : Opening). take (c .nodes) (o .tables .spans)) counted (acc .is)
       ∙ ap (λ n. take n (answered (take (p .shapes) file) ss t (S .tables) .tables .spans)) (sym (length-sizes t))
-      ∙ stored-back (sizes t) (S .tables .spans) (rw (length-sizes t, ← length-flatten t) (acc .room .spans))
+      ∙ stored-back (sizes t) (S .tables .spans) (rw (length-sizes t) (acc .room .spans))
 
   shapes-are : shapesIn S ≡ ss
   shapes-are = ap₂ shapeTerms symbols-are words-are ∙ shape-terms (take (p .shapes) file) ss (each-shape _ _ _ (acc .meaning .limits)) (acc .meaning .limits .few-shapes)

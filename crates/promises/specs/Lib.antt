@@ -1,6 +1,8 @@
 -- What is promised.
 pub mod Computing
 pub mod Sample
+pub mod Refusals
+pub mod Demand1
 pub mod OneFile
 pub mod Demand2
 pub mod Demand3

@@ -4,6 +4,7 @@ pub mod LawsSpans
 pub mod LawsFollowing
 pub mod WholeTerm
 pub mod TermWhole
+pub mod FirstFault
 pub mod OneTerm
 pub mod Sizes
 pub mod Numbers

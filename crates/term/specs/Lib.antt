@@ -2,5 +2,6 @@
 pub mod Terms
 pub mod Places
 pub mod Reading
+pub mod Faults
 pub mod Spans
 pub mod Following

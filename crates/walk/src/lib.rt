@@ -6,9 +6,9 @@ use kinds::State;
 
 pub mod starting; // a walk begins
 pub mod stepping; // one step of it
-pub mod queueing; // what a step writes
-pub mod aiming; // pairs of a number and a code, and the nodes that they lead to
-pub mod parts; // header, labels and block starts of a plan
+mod queueing; // what a step writes
+mod aiming; // pairs of a number and a code, and the nodes that they lead to
+mod parts; // header, labels and block starts of a plan
 pub mod readers; // labels, announcements and successors for other callers
 pub mod viewing; // the same over a view of the plan
 

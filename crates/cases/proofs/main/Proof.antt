@@ -27,6 +27,9 @@ loop-less c = search needs
 loop-again : tie.Need-loop-again Inv-loop μ-loop
 loop-again c = tt
 
+show-sample-requires : tie.Need-show-sample-requires Inv-loop μ-loop
+show-sample-requires c κs = search needs
+
 returns : tie.Need-returns Inv-loop μ-loop
 returns c = search needs
 
@@ -42,4 +45,5 @@ main-spec =
     add-i
     loop-less
     loop-again
+    show-sample-requires
     returns)

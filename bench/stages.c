@@ -1,0 +1,83 @@
+// Times the finder's calls on one folio: each stage 200 times over.
+#include <stdint.h>
+#include <stdio.h>
+#include <stdlib.h>
+#include <time.h>
+
+#define BYTES(a, n) (const uint8_t *)(a), (size_t)(n)
+#define WORDS(a, n) (uint16_t *)(a), (size_t)(n)
+
+size_t stage_open(const uint8_t *, size_t, uint16_t *, size_t, uint16_t *, size_t, uint16_t *, size_t, uint16_t *, size_t);
+size_t stage_build(const uint8_t *, size_t, const uint16_t *, size_t, const uint16_t *, size_t, uint16_t *, size_t, uint16_t *, size_t);
+size_t stage_start(const uint8_t *, size_t, const uint16_t *, size_t, const uint16_t *, size_t, uint16_t *, size_t, uint16_t *, size_t,
+                   uint16_t *, size_t);
+size_t stage_step(const uint16_t *, size_t, const uint16_t *, size_t, const uint16_t *, size_t, uint16_t *, size_t, uint16_t *, size_t,
+                  uint16_t *, size_t, size_t, size_t, size_t);
+size_t stage_count(const uint8_t *, size_t, const uint16_t *, size_t, const uint16_t *, size_t, const uint16_t *, size_t);
+
+enum { ROUNDS = 200 };
+
+static uint8_t file[8745];
+static uint16_t words[256], starts[16], score[4096], spans[4096], plan[32768], scratch[32768], waiting[8192], logged[4096], marks[4096];
+static size_t length, symbols, shape_words, nodes, plan_words;
+
+static size_t open_file(void) { return stage_open(BYTES(file, length), WORDS(words, 256), WORDS(starts, 16), WORDS(score, 4096), WORDS(spans, 4096)); }
+
+static size_t build_plan(void) {
+    return stage_build(BYTES(file, symbols), WORDS(words, shape_words), WORDS(starts, 16), WORDS(plan, 32768), WORDS(scratch, 32768));
+}
+
+// The last item is taken each time, as in find.
+static size_t walk_score(void) {
+    size_t more = stage_start(BYTES(file, symbols), WORDS(score, nodes), WORDS(spans, nodes), WORDS(waiting, 8192), WORDS(logged, 4096), WORDS(marks, 4096));
+    size_t done = 0;
+    while (more > 1) {
+        more = stage_step(WORDS(plan, plan_words), WORDS(score, nodes), WORDS(spans, nodes), WORDS(waiting, 8192), WORDS(logged, 4096), WORDS(marks, 4096),
+                          more - 1, done, more - 2);
+        done++;
+    }
+    return more == 1 ? done : 0;
+}
+
+static size_t count_marks(void) { return stage_count(BYTES(file, symbols), WORDS(score, nodes), WORDS(spans, nodes), WORDS(marks, 4096)); }
+
+static double now(void) {
+    struct timespec t;
+    clock_gettime(CLOCK_MONOTONIC, &t);
+    return (double)t.tv_sec * 1e6 + (double)t.tv_nsec / 1e3;
+}
+
+static int earlier(const void *a, const void *b) { return *(const double *)a < *(const double *)b ? -1 : *(const double *)a > *(const double *)b; }
+
+// One row: the least and the median time in microseconds, and what the stage answers.
+static size_t row(const char *name, size_t (*stage)(void), const char *what) {
+    static double took[ROUNDS];
+    size_t answer = 0;
+    for (int i = 0; i < ROUNDS; i++) {
+        double begun = now();
+        answer = stage();
+        took[i] = now() - begun;
+    }
+    if (answer == 0) {
+        fprintf(stderr, "stages: %s is refused\n", name);
+        exit(1);
+    }
+    qsort(took, ROUNDS, sizeof took[0], earlier);
+    printf("%-6s %12.1f %12.1f   %zu %s\n", name, took[0], took[ROUNDS / 2], answer, what);
+    return answer;
+}
+
+int main(void) {
+    length = fread(file, 1, sizeof file, stdin);
+    if (length < 8) return 1;
+    uint8_t *trailer = file + length - 8;
+    size_t a = trailer[0] + 256u * trailer[1], b = trailer[2] + 256u * trailer[3], c = trailer[4] + 256u * trailer[5];
+    symbols = a - b;
+    shape_words = (b - c) / 2;
+    printf("%-6s %12s %12s   answer\n", "stage", "least us", "median us");
+    nodes = row("open", open_file, "nodes");
+    plan_words = row("build", build_plan, "plan words");
+    row("walk", walk_score, "steps");
+    row("count", count_marks, "matches");
+    return 0;
+}

@@ -1,0 +1,172 @@
+-- Opening refuses exactly by the table.
+--   refused-given given-refused   a refusal has its row; a row has its refusal
+--   refused-exactly               so a number is given exactly when its row says
+use mathlib.Core.Path.{_≡_, refl, ap, ap₂, sym, _∙_}
+use mathlib.Core.Logic.{_↔_}
+use mathlib.Core.List.{List}
+use Prim.Native.Nat.{ℕ, _+_, _-_, _*_, _%_, _/_, _<_, _≤_}
+use native.Mathlib.Omega.{arith}
+use native.Mathlib.Decide.{decLt}
+use lib.ListN.{length, take, drop, length-drop}
+use lib.Seq.{length-take-le}
+use Rattle.kinds.specs.declared.Reason.{Reason}
+use Rattle.kinds.specs.declared.Reason.the-variants as reason
+use Rattle.kinds.proofs.Members.{in-take, in-drop}
+use Rattle.term.specs.Terms.{span}
+use Rattle.term.proofs.Sizes.{length-flatten}
+use Rattle.folio.specs.Bytes.{wordsOf}
+use Rattle.folio.specs.Sections.{trailerOf, symbolsOf, sectionsOf}
+use Rattle.folio.specs.Tables.{blankWord, Row, shapesOf, scoreOf}
+use Rattle.folio.specs.Opening.{Lent, Room, Out, refuse, stored, held, opened}
+use Rattle.folio.specs.Folio.{GoodSymbols, Scored, startsAt}
+use Rattle.folio.specs.declared.Places.{Places}
+use Rattle.folio.specs.declared.Sections.{Sections}
+use Rattle.folio.specs.declared.Sections.the-variants as sections
+use Rattle.folio.specs.declared.Verdict.{Verdict}
+use Rattle.folio.specs.declared.Verdict.the-variants as verdict
+use Rattle.folio.specs.declared.Shapes.{Shapes}
+use Rattle.folio.specs.declared.Shapes.the-variants as shapes
+use Rattle.folio.specs.declared.Score.{Score}
+use Rattle.folio.specs.declared.Score.the-variants as score
+use Rattle.folio.specs.declared.Counts.{Counts}
+use Rattle.folio.specs.declared.Opened.the-variants as opening
+use Rattle.folio.proofs.LawsBytes.{length-words}
+use Rattle.folio.proofs.LawsSections.{Placed, trailer-in, sections-trailer, sections-symbols, sections-good}
+use Rattle.folio.proofs.LawsOpening.{stored-words, stored-starts, stored-score, stored-spans, stored-all, held-shapes, held-score, held-on, opened-refused, opened-at}
+use Rattle.folio.proofs.Symbols.{symbols-is, symbols-of}
+use Rattle.folio.proofs.ScoreWhole.{Below, words-below, score-is, score-of}
+use Rattle.folio.proofs.ShapesFound.{length-starts}
+use Rattle.promises.specs.Refusals.{symbolsAt, shapesAt, scoreAt, Framed, ShapesPass, Given, in-trailer, in-symbols, in-shapes, in-score, row-18}
+use Rattle.promises.proofs.TrailerRows.{trailer-row, row-trailer, trailer-framed, framed-trailer, symbol-row, row-symbol}
+use Rattle.promises.proofs.ShapeRows.{shape-row, row-shape, shapes-pass, pass-shapes}
+use Rattle.promises.proofs.ScoreRows.{score-row, row-score}
+
+same-refusal {κ} : {C : Type κ} {r s : Reason} {p q : ℕ} → opening.Refused r p ≡ opening.Refused s q → (r ≡ s → p ≡ q → C) → C
+same-refusal {r = r} {s = s} {p = p} {q = q} e k = let a : r ≡ s = cc in let b : p ≡ q = cc in k a b
+
+no-refusal {κ} : {C : Type κ} {c : Counts} {r : Reason} {p : ℕ} → opening.Folio c ≡ opening.Refused r p → C
+no-refusal e = let z : _≡_ {A = ℕ} 0 1 = cc in absurd (omega arith)
+
+module _ (file : List ℕ) (l : Lent) where
+  -- the score's first byte, behind the shapes' words
+  score-begins : (q : Places) → Placed file q → q .shapes + 2 * length (shapesAt file q) ≡ q .score
+  score-begins q d =
+      let k = d .all - d .nodes in
+      let a = d .first in
+      let b = d .second in
+      let long : length (take (q .score - q .shapes) (drop (q .shapes) file)) ≡ 2 * k =
+      length-take-le (q .score - q .shapes) (drop (q .shapes) file) (omega (arith, length-drop (q .shapes) file, d .size)) ∙ (let z : q .score - q .shapes ≡ 2 * k = omega (arith, d .words, d .score-words) in z) in
+      omega (arith, length-words k (take (q .score - q .shapes) (drop (q .shapes) file)) long, d .words, d .score-words)
+
+  -- ---- a refusal has its row
+  module _ (small : Below 256 file) (r : Reason) (p : ℕ) (e : opened file l .answer ≡ opening.Refused r p) where
+    told : (o : Out) → opened file l ≡ o → o .answer ≡ opening.Refused r p
+    told o d = sym (ap (λ (x : Out). x .answer) d) ∙ e
+
+    module _ (q : Places) (eq : trailerOf file ≡ sections.At q) (good : symbolsOf (symbolsAt file q) ≡ verdict.Good) where
+      abbrev ar : List ℕ
+      ar = symbolsAt file q
+
+      abbrev ws : List ℕ
+      ws = shapesAt file q
+
+      abbrev sc : List ℕ
+      sc = scoreAt file q
+
+      whole : opened file l ≡ held ar ws sc (q .shapes) l
+      whole = opened-at file l q (sections-good file q eq good)
+
+      no-room : (s : ShapesPass ar ws) (t : Scored ar sc) → stored ar ws (startsAt 0 (s .shapes)) sc l .answer ≡ opening.Refused r p → Given file l r p
+      no-room s t d = go (decLt (length (l .words)) (length ws)) (decLt (length (l .starts)) (length (startsAt 0 (s .shapes)))) (decLt (length (l .score)) (length sc)) (decLt (length (l .spans)) (length sc))
+        where
+          n-is : length sc ≡ span (t .tree)
+          n-is = ap length (t .words) ∙ length-flatten (t .tree)
+
+          given : (Room l (length ws) (length (s .shapes)) (span (t .tree)) → ⊥) → stored ar ws (startsAt 0 (s .shapes)) sc l ≡ refuse reason.Tables 0 l → Given file l r p
+          given n x = same-refusal (sym (ap (λ (o : Out). o .answer) x) ∙ d) λ a b. row-18 q (trailer-framed file q eq) (symbols-is ar good) s t n (sym a) (sym b)
+
+          go : Dec (length (l .words) < length ws) → Dec (length (l .starts) < length (startsAt 0 (s .shapes))) → Dec (length (l .score) < length sc) → Dec (length (l .spans) < length sc) → Given file l r p
+          go (yes a) b c d = given (λ x. let y = x .words in omega arith) (stored-words ar ws (startsAt 0 (s .shapes)) sc l a)
+          go (no a) (yes b) c d = given (λ x. let y = x .starts in omega (arith, b, length-starts 0 (s .shapes))) (stored-starts ar ws (startsAt 0 (s .shapes)) sc l (omega arith) b)
+          go (no a) (no b) (yes c) d = given (λ x. let y = x .score in omega (arith, c, n-is)) (stored-score ar ws (startsAt 0 (s .shapes)) sc l (omega arith) (omega arith) c)
+          go (no a) (no b) (no c) (yes d) = given (λ x. let y = x .spans in omega (arith, d, n-is)) (stored-spans ar ws (startsAt 0 (s .shapes)) sc l (omega arith) (omega arith) (omega arith) d)
+          go (no a) (no b) (no c) (no x) = no-refusal (sym (ap (λ (o : Out). o .answer) (stored-all ar ws (startsAt 0 (s .shapes)) sc l (omega arith) (omega arith) (omega arith) (omega arith))) ∙ d)
+
+      on-score : (n : ℕ) → shapesOf ar blankWord ws .answer ≡ shapes.Found n → (x : Score) → scoreOf ar sc ≡ x → Given file l r p
+      on-score n es (score.Refused s i) ex =
+          same-refusal (told _ (whole ∙ held-score ar ws sc (q .shapes) l es ex)) λ a b.
+          in-score q (trailer-framed file q eq) (symbols-is ar good) (shapes-pass ar ws n es) i (score-row ar sc r i (ex ∙ ap (λ y. score.Refused y i) a))
+          (sym b ∙ ap (λ y. y + 2 * i) (score-begins q (trailer-in file q eq)))
+      on-score n es score.Whole ex =
+          let s = shapes-pass ar ws n es in
+          let t = score-is ar sc (words-below _ (λ w m. small w (in-drop (q .score) file (in-take (q .end - q .score) (drop (q .score) file) m)))) ex in
+          no-room s t (sym (ap (λ (x : Row). stored ar ws (x .starts) sc l .answer) (pass-shapes ar ws s)) ∙ rw-told (held-on ar ws sc (q .shapes) l es ex))
+        where
+          rw-told : {o : Out} → held ar ws sc (q .shapes) l ≡ o → o .answer ≡ opening.Refused r p
+          rw-told d = told _ (whole ∙ d)
+
+      on-shapes : (x : Shapes) → shapesOf ar blankWord ws .answer ≡ x → Given file l r p
+      on-shapes (shapes.Refused s i) ex =
+          same-refusal (told _ (whole ∙ held-shapes ar ws sc (q .shapes) l ex)) λ a b.
+          in-shapes q (trailer-framed file q eq) (symbols-is ar good) i (shape-row ar ws r i (ex ∙ ap (λ y. shapes.Refused y i) a)) (sym b)
+      on-shapes (shapes.Found n) ex = on-score n ex (scoreOf ar sc) refl
+
+    on-symbols : (q : Places) → trailerOf file ≡ sections.At q → (v : Verdict) → symbolsOf (symbolsAt file q) ≡ v → Given file l r p
+    on-symbols q eq (verdict.Bad s i) ev =
+        same-refusal (told _ (opened-refused file l (sections-symbols file q eq ev))) λ a b.
+        in-symbols q (trailer-framed file q eq) (symbol-row (symbolsAt file q) r p (ev ∙ ap₂ verdict.Bad a b))
+    on-symbols q eq verdict.Good ev = on-shapes q eq ev (shapesOf (symbolsAt file q) blankWord (shapesAt file q) .answer) refl
+
+    on-trailer : (s : Sections) → trailerOf file ≡ s → Given file l r p
+    on-trailer (sections.Refused s i) es =
+        same-refusal (told _ (opened-refused file l (sections-trailer file es))) λ a b.
+        in-trailer (trailer-row file r p (es ∙ ap₂ sections.Refused a b))
+    on-trailer (sections.At q) es = on-symbols q es (symbolsOf (symbolsAt file q)) refl
+
+    pub refused-given : Given file l r p
+    refused-given = on-trailer (trailerOf file) refl
+
+  -- ---- a row has its refusal
+  framed-at : (q : Places) → Framed file q → GoodSymbols (symbolsAt file q) → opened file l ≡ held (symbolsAt file q) (shapesAt file q) (scoreAt file q) (q .shapes) l
+  framed-at q f g = opened-at file l q (sections-good file q (framed-trailer file q f) (symbols-of (symbolsAt file q) g))
+
+  pub given-refused : {r : Reason} {p : ℕ} → Given file l r p → opened file l ≡ refuse r p l
+  given-refused (in-trailer x) = opened-refused file l (sections-trailer file (row-trailer file x))
+  given-refused (in-symbols q f x) = opened-refused file l (sections-symbols file q (framed-trailer file q f) (row-symbol (symbolsAt file q) x))
+  given-refused {r} {p} (in-shapes q f g i x e) =
+      framed-at q f g ∙ held-shapes (symbolsAt file q) (shapesAt file q) (scoreAt file q) (q .shapes) l (row-shape (symbolsAt file q) (shapesAt file q) x) ∙ ap (λ y. refuse r y l) (sym e)
+  given-refused {r} {p} (in-score q f g s i x e) =
+      framed-at q f g
+      ∙ held-score (symbolsAt file q) (shapesAt file q) (scoreAt file q) (q .shapes) l (ap (λ (y : Row). y .answer) (pass-shapes (symbolsAt file q) (shapesAt file q) s)) (row-score (symbolsAt file q) (scoreAt file q) x)
+      ∙ ap (λ y. refuse r (y + 2 * i) l) (score-begins q (trailer-in file q (framed-trailer file q f))) ∙ ap (λ y. refuse r y l) (sym e)
+  given-refused {r} {p} (row-18 q f g s t n er ep) =
+      framed-at q f g
+      ∙ held-on ar ws sc (q .shapes) l (ap (λ (y : Row). y .answer) (pass-shapes ar ws s)) (ap (scoreOf ar) (t .words) ∙ score-of ar (t .tree) (t .is))
+      ∙ ap (λ (y : Row). stored ar ws (y .starts) sc l) (pass-shapes ar ws s)
+      ∙ go (decLt (length (l .words)) (length ws)) (decLt (length (l .starts)) (length st)) (decLt (length (l .score)) (length sc)) (decLt (length (l .spans)) (length sc))
+      ∙ ap₂ (λ x y. refuse x y l) (sym er) (sym ep)
+    where
+      ar : List ℕ
+      ar = symbolsAt file q
+
+      ws : List ℕ
+      ws = shapesAt file q
+
+      sc : List ℕ
+      sc = scoreAt file q
+
+      st : List ℕ
+      st = startsAt 0 (s .shapes)
+
+      n-is : length sc ≡ span (t .tree)
+      n-is = ap length (t .words) ∙ length-flatten (t .tree)
+
+      go : Dec (length (l .words) < length ws) → Dec (length (l .starts) < length st) → Dec (length (l .score) < length sc) → Dec (length (l .spans) < length sc) → stored ar ws st sc l ≡ refuse reason.Tables 0 l
+      go (yes a) b c d = stored-words ar ws st sc l a
+      go (no a) (yes b) c d = stored-starts ar ws st sc l (omega arith) b
+      go (no a) (no b) (yes c) d = stored-score ar ws st sc l (omega arith) (omega arith) c
+      go (no a) (no b) (no c) (yes d) = stored-spans ar ws st sc l (omega arith) (omega arith) (omega arith) d
+      go (no a) (no b) (no c) (no d) = absurd (n (record { words = omega arith; starts = omega (arith, b, length-starts 0 (s .shapes)); score = omega (arith, c, n-is); spans = omega (arith, d, n-is) }))
+
+  pub refused-exactly : Below 256 file → (r : Reason) (p : ℕ) → (opened file l .answer ≡ opening.Refused r p) ↔ Given file l r p
+  refused-exactly small r p = (refused-given small r p, λ x. ap (λ (o : Out). o .answer) (given-refused x))

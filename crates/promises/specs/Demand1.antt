@@ -1,0 +1,106 @@
+-- Demand 1: "every file, table and list handed to a public call gets its answer or one numbered refusal, and the call ends". For each call a table: a row has when it
+-- applies, what is answered then, and every buffer as it is then. The call's outcome is the one that the table gives, for any arguments.
+--   OpenRow     1 to 18, by `Refusals`; or a folio
+--   BuildRow    19, 23; 20 or 21; 22; or a plan
+--   StartRow    31, 30; or a walk that is begun
+--   StepRow     32, 34; or a step
+--   CountRow    31, 30; or a number, for matches and for clashes
+--   By          an outcome has a row, and every row that applies gives this outcome
+use mathlib.Core.Path.{_≡_}
+use mathlib.Core.List.{List}
+use mathlib.Core.Option.{none, some}
+use Prim.Native.Nat.{ℕ, _*_, _<_, _≤_}
+use lib.ListN.{length, getElem?, take}
+use lib.Seq.{sets}
+use Rattle.kinds.specs.Lists.{gather}
+use Rattle.kinds.specs.declared.Reason.{Reason}
+use Rattle.kinds.specs.declared.Reason.the-variants.{BadShapes, ShortScratch, LongPlan, ShortBuffers, BadScore, NoSuchItem, OutOfRange}
+use Rattle.term.specs.Terms.{Term, span, flatten}
+use Rattle.folio.specs.Opening.{Lent, Room, refuse, opened}
+use Rattle.folio.specs.Opening.{Out as Opening}
+use Rattle.folio.specs.Folio.{Folio, GoodSymbols, Shaped, GoodScore, shapeTerms, answered}
+use Rattle.folio.specs.declared.Places.{Places}
+use Rattle.automaton.specs.PlanWords.{halted, too-long, plan-of}
+use Rattle.plan.specs.Building.{scratchWords, cleared, size, stateNumber, planOf, buildOf}
+use Rattle.plan.specs.Building.{Out as Building, refuse as refuseBuild}
+use Rattle.plan.specs.declared.Built.the-variants as built
+use Rattle.walk.specs.Starting.{Walk, goOn, begun, started}
+use Rattle.walk.specs.Starting.{Out as Walking, refuse as refuseWalk}
+use Rattle.walk.specs.Stepping.{tried, stepped}
+use Rattle.report.specs.Counting.{counted, total}
+use Rattle.report.specs.Clashes.{clashNumber, clash}
+use Rattle.report.specs.declared.Counted.{Counted}
+use Rattle.report.specs.declared.Counted.the-variants as count
+use Rattle.promises.specs.Refusals.{Given, Framed, symbolsAt, shapesAt, scoreAt}
+
+abbrev pub By : {A : Type 0} → (A → Type 0) → A → Type 0
+By {A} Row outcome = Row outcome × ((o : A) → Row o → outcome ≡ o)
+
+-- numbers as a slice of bytes, or of words, holds them
+abbrev pub Below : ℕ → List ℕ → Type 0
+Below n l = (i w : ℕ) → getElem? l i ≡ some w → w < n
+
+-- ---- opening
+-- the folio that a file means
+pub record Means (file : List ℕ) : Type 0 where
+  pub at : Places
+  pub framed : Framed file at
+  pub shapes : List Term
+  pub score : Term
+  pub limits : Folio (symbolsAt file at) shapes score
+  pub shape-words : shapesAt file at ≡ gather flatten shapes
+  pub score-words : scoreAt file at ≡ flatten score
+
+pub data OpenRow (file : List ℕ) (l : Lent) : Opening → Type 0 where
+  refused : (r : Reason) (p : ℕ) → Given file l r p → OpenRow file l (refuse r p l)
+  opens : (m : Means file) → Room l (length (gather flatten (m .shapes))) (length (m .shapes)) (span (m .score)) → OpenRow file l (answered (symbolsAt file (m .at)) (m .shapes) (m .score) l)
+
+-- ---- building
+module _ (ar ws st plan scratch : List ℕ) where
+  -- "such as opening writes or accepts"
+  abbrev pub GoodShapes : Type 0
+  GoodShapes = GoodSymbols ar × Shaped ar ws st
+
+  pub data BuildRow : Building → Type 0 where
+    build-19 : (GoodShapes → ⊥) → BuildRow (refuseBuild BadShapes plan scratch)
+    build-23 : GoodShapes → length scratch < scratchWords → BuildRow (refuseBuild ShortScratch plan scratch)
+    build-20-21 : GoodShapes → scratchWords ≤ length scratch → (r : Reason) (i : ℕ) → planOf ar (shapeTerms ar ws) (length plan) ≡ halted r i
+        → BuildRow (record { answer = built.Stopped r (stateNumber i); plan = plan; scratch = cleared scratch })
+    build-22 : GoodShapes → scratchWords ≤ length scratch → planOf ar (shapeTerms ar ws) (length plan) ≡ too-long
+        → BuildRow (record { answer = built.Refused LongPlan; plan = plan; scratch = cleared scratch })
+    builds : GoodShapes → scratchWords ≤ length scratch → (m : ℕ) (w : List ℕ) → planOf ar (shapeTerms ar ws) (length plan) ≡ plan-of m w
+        → BuildRow (record { answer = built.Plan (size m (length w)); plan = sets plan 0 w; scratch = cleared scratch })
+
+-- ---- starting
+module _ (ar score spans : List ℕ) where
+  -- "such as opening writes for the symbols lent"
+  abbrev pub Good : Type 0
+  Good = GoodSymbols ar × GoodScore ar score spans
+
+  abbrev pub Roomy : Walk → Type 0
+  Roomy w = (2 * length score ≤ length (w .items)) × (length score ≤ length (w .log)) × (length score ≤ length (w .marks))
+
+  pub data StartRow (w : Walk) : Walking → Type 0 where
+    start-31 : (Good → ⊥) → StartRow w (refuseWalk BadScore w)
+    start-30 : Good → (Roomy w → ⊥) → StartRow w (refuseWalk ShortBuffers w)
+    starts : Good → Roomy w → StartRow w (goOn (begun (length score) w))
+
+  -- ---- counting what f counts in the first n marks
+  pub data CountRow (f : List ℕ → ℕ) (marks : List ℕ) : Counted → Type 0 where
+    count-31 : (Good → ⊥) → CountRow f marks (count.Refused BadScore)
+    count-30 : Good → length marks < length score → CountRow f marks (count.Refused ShortBuffers)
+    counts : Good → length score ≤ length marks → CountRow f marks (count.Number (f (take (length score) marks)))
+
+-- ---- stepping
+pub data StepRow (plan score spans : List ℕ) (i : ℕ) (w : Walk) : Walking → Type 0 where
+  step-32 : w .count .waiting ≤ i → StepRow plan score spans i w (refuseWalk NoSuchItem w)
+  step-34 : i < w .count .waiting → tried plan score spans i w ≡ none → StepRow plan score spans i w (refuseWalk OutOfRange w)
+  takes : i < w .count .waiting → (v : Walk) → tried plan score spans i w ≡ some v → StepRow plan score spans i w (goOn v)
+
+pub record Demand1 : Type 0 where
+  pub opening : (file : List ℕ) (l : Lent) → Below 256 file → By (OpenRow file l) (opened file l)
+  pub building : (ar ws st plan scratch : List ℕ) → By (BuildRow ar ws st plan scratch) (buildOf ar ws st plan scratch)
+  pub starting : (ar score spans : List ℕ) (w : Walk) → Below 65536 score → By (StartRow ar score spans w) (started ar score spans w)
+  pub stepping : (plan score spans : List ℕ) (i : ℕ) (w : Walk) → By (StepRow plan score spans i w) (stepped plan score spans i w)
+  pub matches : (ar score spans marks : List ℕ) → Below 65536 score → By (CountRow ar score spans total marks) (counted total ar score spans marks)
+  pub clashes : (ar score spans marks : List ℕ) → Below 65536 score → By (CountRow ar score spans (clashNumber (clash spans)) marks) (counted (clashNumber (clash spans)) ar score spans marks)

@@ -1,0 +1,321 @@
+// Opens each folio that it is given by name, builds its plan and holds it against the stored one, which is named behind the folio. Then the
+// score is walked with the built plan: taking the first item, the last, and items by a fixed pseudo-random row, each time with a refused choice
+// before every step. Printed are the accepted steps, what waits, what is logged, the refusal of the step after the end, the log where it has at
+// most ten nodes, and the marks.
+use folio::Opened;
+use folio::opening::open;
+use kinds::number;
+use libc::STDOUT_FILENO;
+use plan::Built;
+use plan::Size;
+use plan::building::build;
+use walk::Record;
+use walk::Walked;
+use walk::starting::start;
+use walk::stepping::step;
+ghost use Rattle.io.specs.Counts.{Counts};
+
+fn main() {
+    for i in 1..os::arg_count() {
+        if i % 2 == 1 {
+            walk_folio(i, i + 1);
+        }
+    }
+}
+
+fn walk_folio(i: usize, j: usize) {
+    let mut file = [0u8; 8745];
+    let n = read_named(i, &mut file);
+    let mut text = [0u8; 196608];
+    let t = read_named(j, &mut text);
+    let mut stored = [0u16; 32768];
+    let p = put_numbers(&text[..t], &mut stored);
+    walk_file(&file[..n], first(&stored, p));
+}
+
+// The bytes of the file that argument i names.
+fn read_named(i: usize, bytes: &mut [u8]) -> usize
+    ensures { λ r. ⌜ Counts r (now (bytes .exit)) ⌝ }
+{
+    let mut name = io::buffer();
+    let n = os::arg(i, &mut name);
+    let path = &name[..n];
+    io::write_all(STDOUT_FILENO, path);
+    io::write_all(STDOUT_FILENO, b" ");
+    let fd = os::open_read(path);
+    let read = io::read_full(fd, bytes);
+    libc::close(fd);
+    read
+}
+
+// The numbers of a text, each with a space or the line's end behind it; how many they are.
+fn put_numbers(text: &[u8], words: &mut [u16]) -> usize {
+    let mut at: usize = 0;
+    let mut value: u32 = 0;
+    for i in 0..text.len() {
+        at = put_number(words, at, value, text[i]);
+        value = with_digit(value, text[i]);
+    }
+    at
+}
+
+// A space or a line's end ends a number; where the next one goes.
+fn put_number(words: &mut [u16], at: usize, value: u32, end: u8) -> usize {
+    if 48 <= end {
+        return at;
+    }
+    if words.len() <= at {
+        return at;
+    }
+    words[at] = (value % 65536) as u16;
+    at + 1
+}
+
+fn with_digit(value: u32, digit: u8) -> u32 {
+    if digit < 48 {
+        return 0;
+    }
+    if 65535 < value {
+        return value;
+    }
+    value * 10 + ((digit - 48) as u32)
+}
+
+// The first n words, or all where there are fewer.
+fn first<'a>(words: &'a [u16], n: usize) -> &'a [u16] {
+    if words.len() < n {
+        return words;
+    }
+    &words[..n]
+}
+
+fn first_bytes<'a>(bytes: &'a [u8], n: usize) -> &'a [u8] {
+    if bytes.len() < n {
+        return bytes;
+    }
+    &bytes[..n]
+}
+
+fn walk_file(file: &[u8], stored: &[u16]) {
+    let mut words = [0u16; 256];
+    let mut starts = [0u16; 16];
+    let mut score = [0u16; 4096];
+    let mut spans = [0u16; 4096];
+    match open(file, &mut words, &mut starts, &mut score, &mut spans) {
+        Opened::Refused(reason, place) => {
+            show(b"refused ", number(reason) as usize);
+        }
+        Opened::Folio(c) => {
+            walk_opened(
+                first_bytes(file, c.symbols),
+                first(&words, c.words),
+                first(&starts, c.shapes),
+                first(&score, c.nodes),
+                first(&spans, c.nodes),
+                stored,
+            );
+        }
+    }
+}
+
+fn walk_opened(
+    symbols: &[u8],
+    words: &[u16],
+    starts: &[u16],
+    score: &[u16],
+    spans: &[u16],
+    stored: &[u16],
+) {
+    let mut plan = [9u16; 32768];
+    let mut scratch = [9u16; 32768];
+    match build(symbols, words, starts, &mut plan, &mut scratch) {
+        Built::Plan(size) => {
+            let built = first(&plan, size.words);
+            show_plan(size, same_words(built, stored));
+            walk_ways(symbols, built, score, spans);
+        }
+        Built::Refused(reason) => {
+            show(b"no plan ", number(reason) as usize);
+        }
+        Built::Stopped(reason, state) => {
+            show(b"no plan ", number(reason) as usize);
+        }
+    }
+}
+
+fn show_plan(size: Size, same: bool) {
+    if same {
+        show(b"plan ", size.states);
+        show(b" states ", size.words);
+        io::write_all(STDOUT_FILENO, b" words as stored\n");
+    } else {
+        io::write_all(STDOUT_FILENO, b"plan differs\n");
+    }
+}
+
+fn walk_ways(symbols: &[u8], plan: &[u16], score: &[u16], spans: &[u16]) {
+    let mut marks = [9u16; 4096];
+    walk_whole(symbols, plan, score, spans, &mut marks, 0);
+    show_marks(&marks, score.len());
+    walk_again(symbols, plan, score, spans, &marks, 1);
+    walk_again(symbols, plan, score, spans, &marks, 2);
+}
+
+fn walk_again(
+    symbols: &[u8],
+    plan: &[u16],
+    score: &[u16],
+    spans: &[u16],
+    before: &[u16],
+    way: usize,
+) {
+    let mut marks = [9u16; 4096];
+    walk_whole(symbols, plan, score, spans, &mut marks, way);
+    if same_words(before, &marks) {
+        io::write_all(STDOUT_FILENO, b" the same marks\n");
+    } else {
+        show_marks(&marks, score.len());
+    }
+}
+
+fn walk_whole(
+    symbols: &[u8],
+    plan: &[u16],
+    score: &[u16],
+    spans: &[u16],
+    marks: &mut [u16],
+    way: usize,
+) {
+    let mut waiting = [0u16; 8192];
+    let mut log = [0u16; 4096];
+    match start(symbols, score, spans, &mut waiting, &mut log, marks) {
+        Walked::On(r) => {
+            take_steps(plan, score, spans, &mut waiting, &mut log, marks, r, way);
+        }
+        Walked::Refused(reason) => {
+            show(b"no start ", number(reason) as usize);
+        }
+    }
+}
+
+// Steps until one is refused.
+fn take_steps(
+    plan: &[u16],
+    score: &[u16],
+    spans: &[u16],
+    waiting: &mut [u16],
+    log: &mut [u16],
+    marks: &mut [u16],
+    begun: Record,
+    way: usize,
+) {
+    let mut record = begun;
+    let mut turn: u32 = 1;
+    for taken in 0..5000 {
+        turn = next(turn);
+        let choice = choose(way, record.waiting, turn);
+        match take(plan, score, spans, waiting, log, marks, record, choice) {
+            Walked::On(r) => {
+                record = r;
+            }
+            Walked::Refused(reason) => {
+                show_end(taken, record, number(reason), log);
+                return;
+            }
+        }
+    }
+}
+
+// A step, after one with a choice that has to be refused.
+fn take(
+    plan: &[u16],
+    score: &[u16],
+    spans: &[u16],
+    waiting: &mut [u16],
+    log: &mut [u16],
+    marks: &mut [u16],
+    record: Record,
+    choice: usize,
+) -> Walked {
+    let past = record.waiting;
+    show_taken(step(plan, score, spans, waiting, log, marks, record, past));
+    step(plan, score, spans, waiting, log, marks, record, choice)
+}
+
+fn show_taken(answer: Walked) {
+    match answer {
+        Walked::On(r) => {
+            show(b" a wrong choice taken, waiting ", r.waiting);
+        }
+        Walked::Refused(reason) => {
+            if number(reason) != 32 {
+                show(b" a wrong choice refused ", number(reason) as usize);
+            }
+        }
+    }
+}
+
+fn next(turn: u32) -> u32 {
+    ((turn % 65537) * 75 + 74) % 65537
+}
+
+fn choose(way: usize, waiting: usize, turn: u32) -> usize {
+    if waiting == 0 {
+        return 0;
+    }
+    if way == 0 {
+        return 0;
+    }
+    if way == 1 {
+        return waiting - 1;
+    }
+    (turn as usize) % waiting
+}
+
+fn show_end(taken: usize, record: Record, why: u16, log: &[u16]) {
+    show(b"steps ", taken);
+    show(b" waiting ", record.waiting);
+    show(b" logged ", record.logged);
+    show(b" then refused ", why as usize);
+    if record.logged <= 10 {
+        io::write_all(STDOUT_FILENO, b" log");
+        show_log(first(log, record.logged));
+    }
+}
+
+fn show_log(log: &[u16]) {
+    for i in 0..log.len() {
+        show(b" ", log[i] as usize);
+    }
+}
+
+fn same_words(a: &[u16], b: &[u16]) -> bool {
+    if a.len() != b.len() {
+        return false;
+    }
+    for i in 0..a.len() {
+        if a[i] != b[i] {
+            return false;
+        }
+    }
+    true
+}
+
+// The nodes among the first n that have a mark, each with its mark.
+fn show_marks(marks: &[u16], n: usize) {
+    io::write_all(STDOUT_FILENO, b" marks");
+    for i in 0..marks.len() {
+        if i < n {
+            if marks[i] != 0 {
+                show(b" ", i);
+                show(b":", marks[i] as usize);
+            }
+        }
+    }
+    io::write_all(STDOUT_FILENO, b"\n");
+}
+
+fn show(text: &[u8], n: usize) {
+    io::write_all(STDOUT_FILENO, text);
+    io::print_decimal(STDOUT_FILENO, n as u64);
+}
