@@ -3,6 +3,7 @@ use kinds::Reason;
 
 pub mod opening; // the call that opens a folio
 mod finding; // where its sections are: 1 to 6
+mod storing; // what opening writes
 mod reading; // its shapes and its score: 7 to 17
 pub mod checking; // the tables lent to later calls
 pub mod showing; // the words of one subtree

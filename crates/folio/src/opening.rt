@@ -12,9 +12,9 @@ use crate::finding::fill;
 use crate::finding::find_sections;
 use crate::reading::read_score;
 use crate::reading::read_shapes;
+use crate::storing::put;
+use crate::storing::put_spans;
 use kinds::Reason;
-use kinds::slices::put;
-use term::spans::put_spans;
 
 // Opens a folio: writes its shape words, their starts, its score and the score's spans, or refuses it and writes nothing.
 pub fn open(

@@ -15,7 +15,6 @@ use Rattle.kinds.proofs.Position.is_good.Reads as is-good
 use Rattle.kinds.proofs.Position.length.Reads as length
 use Rattle.kinds.proofs.number.Reads as number
 use Rattle.kinds.proofs.slices.equal.Reads as equal
-use Rattle.kinds.proofs.slices.put.Reads as put
 use Rattle.plan.proofs.building.build.Reads as build
 use Rattle.report.proofs.counting.clashes.Reads as clashes
 use Rattle.report.proofs.counting.matches.Reads as matches
@@ -24,7 +23,7 @@ use Rattle.report.proofs.lines.put_line.Reads as put-line
 use Rattle.report.proofs.lines.put_refusal.Reads as put-refusal
 use Rattle.term.proofs.following.follow.Reads as follow
 use Rattle.term.proofs.reader.read_term.Reads as read-term
-use Rattle.term.proofs.spans.put_spans.Reads as put-spans
+use Rattle.term.proofs.spans.count.Reads as count
 use Rattle.term.proofs.spans.skip.Reads as skip
 use Rattle.term.proofs.spans.spans_are.Reads as spans-are
 use Rattle.walk.proofs.readers.announcement_of.Reads as announcement-of
@@ -125,11 +124,8 @@ put-refusal-determined κs a r r′ e e′ h h′ = let x = h ∙ sym h′ in (a
 pub put-first-determined : (κs : _) (a : _) (r r′ : _) (e e′ : _) → put-first.Learnt κs a r e → put-first.Learnt κs a r′ e′ → (r ≡ r′) × (now (e .1 .1 .1 .1 .0) ≡ now (e′ .1 .1 .1 .1 .0))
 put-first-determined κs a r r′ e e′ h h′ = let x = h ∙ sym h′ in (ap (λ (o : Line). o .answer) x, ap (λ (o : Line). o .out) x)
 
-pub put-spans-determined : (κs : _) (a : _) (r r′ : _) (e e′ : _) → put-spans.Learnt κs a r e → put-spans.Learnt κs a r′ e′ → (now (e .1 .1 .0) ≡ now (e′ .1 .1 .0))
-put-spans-determined κs a r r′ e e′ h h′ = h ∙ sym h′
-
-pub put-determined : (κs : _) (a : _) (r r′ : _) (e e′ : _) → put.Learnt κs a r e → put.Learnt κs a r′ e′ → (now (e .0) ≡ now (e′ .0))
-put-determined κs a r r′ e e′ h h′ = h ∙ sym h′
+pub count-determined : (κs : _) (a : _) (r r′ : _) (e e′ : _) → count.Learnt κs a r e → count.Learnt κs a r′ e′ → r ≡ r′
+count-determined κs a r r′ e e′ h h′ = h ∙ sym h′
 
 -- ---- the view's calls
 -- The checker reads no contract off a call that takes or gives a view: here each clause itself is shown to be one equation for the result.

@@ -3,10 +3,10 @@ use Prim.Native.Nat.{_≤_, _-_}
 use mathlib.Core.Path.{_≡_, refl, sym, _∙_}
 use lib.Seq.{sets}
 use lib.ListN.{length, drop, length-set}
 use Rattle.kinds.proofs.ListLaws.{run-next, run-end}
 use borrow.Author.Needs.{needs}
-use Rattle.kinds.proofs.slices.put.Statement.{statement}
-use Rattle.kinds.proofs.slices.put.Tie as tie
+use Rattle.folio.proofs.storing.put.Statement.{statement}
+use Rattle.folio.proofs.storing.put.Tie as tie
 
 abbrev Inv-loop : tie.InvT-loop
 Inv-loop out₀ words i₀ out i = (i ≤ length words) × (length out ≡ length out₀) × (sets out₀ 0 words ≡ sets out i (drop i words))

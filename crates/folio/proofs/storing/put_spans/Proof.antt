@@ -4,11 +4,11 @@ use Prim.Native.Nat.{ℕ, _≤_, _+_, _-_}
 use mathlib.Core.Path.{_≡_, refl, ap, _∙_}
 use lib.Seq.{sets}
 use lib.ListN.{length, drop, length-set}
 use Rattle.term.specs.Spans.{spansOf}
 use Rattle.term.proofs.LawsSpans.{write-end, write-fits, write-next, write-start}
 use borrow.Author.Needs.{needs}
-use Rattle.term.proofs.spans.put_spans.Statement.{statement}
-use Rattle.term.proofs.spans.put_spans.Tie as tie
+use Rattle.folio.proofs.storing.put_spans.Statement.{statement}
+use Rattle.folio.proofs.storing.put_spans.Tie as tie
 
 abbrev Inv-loop : tie.InvT-loop
 Inv-loop arity words spans₀ n i₀ spans i = (i ≤ n) × (length spans ≡ length spans₀) × (spans ≡ sets spans₀ i (spansOf arity (drop i words)))
