@@ -1,203 +1,222 @@
--- The blocks of what is explored, from its states alone: each successor is the first of ALL states that is equal to the lifted class.
---   placeIn            where a state is found, the number of states where it is not
---   succOf blockOf rowOf blocksOf   a class's successor; the block of a state and symbol; the blocks of a state; all of them
---   blocks-again       what is explored has these blocks
+-- The blocks that exploring makes, made again from the final states alone, for any construction in which a state is the same as itself.
+--   Found meet-found meets-found   what meeting classes adds
+--   meets-again                    their successors
+--   RowAgain row-again             a state's blocks
+--   RunAgain run-again             the blocks of the states from one on
+--   blocks-again                   all blocks; and each class is of at most 32 goals
 use mathlib.Core.Path.{_≡_, refl, ap, ap₂, sym, _∙_}
-use mathlib.Core.Bool.{Bool, true, false, cond}
 use mathlib.Core.List.{List, [], _∷_, _++_, map, append-assoc, append-nil}
+use mathlib.Core.Bool.{Bool, true, false, cond}
 use mathlib.Core.Option.{Option, none, some}
+use mathlib.Core.Logic.{_⊎_, inl, inr, ⊎-elim}
 use Prim.Native.Nat.{ℕ, zero, suc, _+_, _<_, _≤_}
 use native.Mathlib.Omega.{arith}
 use native.Mathlib.Nat.{add-zero, zero-add}
 use lib.Dec.{ltb, leb}
 use lib.ListN.{length, getD, drop, length-append, drop-of-length-le}
 use lib.Seq.{drop-cons}
-use Rattle.kinds.specs.Lists.{find, gather}
-use Rattle.kinds.specs.declared.Reason.{Reason}
+use Rattle.kinds.specs.Lists.{find, gather, orElse}
 use Rattle.kinds.specs.declared.Reason.the-variants.{ManyGoals, ManyStates}
 use Rattle.kinds.proofs.Bools.{ltb-is, ltb-not, leb-not}
 use Rattle.kinds.proofs.Options.{none-not}
-use Rattle.kinds.proofs.ListLaws.{map-append}
-use Rattle.kinds.proofs.Places.{Ext, ext-refl, ext-trans, ext-length, getD-ext}
+use Rattle.kinds.proofs.Members.{_∈_, here, there, in-one, ∈-append}
+use Rattle.kinds.proofs.Places.{find-more, find-new, Ext, ext-refl, ext-trans, ext-length, getD-ext}
 use Rattle.automaton.specs.Exploring.{Construction, Succ, Block, Met, stopped, met, Made, refused, made, andThen, thenBlock, thenMore, numbered, meet, meets, row, run, explored}
+use Rattle.automaton.specs.FinalBlocks.{succOf, blocksOf, allBlocks, SmallOn}
 
-abbrev pub placeIn : Option ℕ → ℕ → ℕ
-placeIn none n = n
-placeIn (some i) n = i
-
-module _ {S : Type 0} (C : Construction S) (ss : List S) where
-  abbrev pub succOf : S → Succ
-  succOf k = record { to = placeIn (find (C .same (C .lift k)) ss 0) (length ss); by = C .gcp k }
-
-  abbrev pub blockOf : S → ℕ → ℕ → Block
-  blockOf s f n = record { out = C .outputs s f n; succs = map succOf (C .classes s f n) }
-
-  abbrev pub rowOf : S → ℕ → List ℕ → List Block
-  rowOf s f [] = []
-  rowOf s f (n ∷ ns) = blockOf s f n ∷ rowOf s (suc f) ns
-
-  abbrev pub blocksOf : List ℕ → List S → List Block
-  blocksOf ar sts = gather (λ s. rowOf s 0 ar) sts
-
--- ---- the first that passes stays the first
-module _ {A : Type 0} (p : A → Bool) where
-  find-grows : (xs more : List A) (c i : ℕ) → find p xs c ≡ some i → find p (xs ++ more) c ≡ some i
-  find-grows [] more c i e = none-not e
-  find-grows (x ∷ xs) more c i e = go (p x) e (find-grows xs more (suc c) i)
-    where
-      go : (b : Bool) → cond b (some c) (find p xs (suc c)) ≡ some i → (find p xs (suc c) ≡ some i → find p (xs ++ more) (suc c) ≡ some i) → cond b (some c) (find p (xs ++ more) (suc c)) ≡ some i
-      go true d ih = d
-      go false d ih = ih d
-
-  find-new : (xs more : List A) (k : A) (c : ℕ) → find p xs c ≡ none → p k ≡ true → find p (xs ++ (k ∷ more)) c ≡ some (c + length xs)
-  find-new [] more k c e t = rw t (ap some (sym (add-zero c)))
-  find-new (x ∷ xs) more k c e t = go (p x) e (find-new xs more k (suc c))
-    where
-      go : (b : Bool) → cond b (some c) (find p xs (suc c)) ≡ none → (find p xs (suc c) ≡ none → p k ≡ true → find p (xs ++ (k ∷ more)) (suc c) ≡ some (suc c + length xs)) → cond b (some c) (find p (xs ++ (k ∷ more)) (suc c)) ≡ some (c + suc (length xs))
-      go true d ih = none-not (sym d)
-      go false d ih = let z : suc c + length xs ≡ c + suc (length xs) = omega arith in rw (← z) (ih d t)
-
-never : {S : Type 0} {C : Type 0} {r : Reason} {ss : List S} {xs : List Succ} → stopped r ≡ met ss xs → C
-never e = let z : _≡_ {A = ℕ} 0 1 = cc in absurd (omega arith)
-
-never-made : {S : Type 0} {C : Type 0} {r : Reason} {i : ℕ} {ss : List S} {bs : List Block} → refused r i ≡ made ss bs → C
-never-made e = let z : _≡_ {A = ℕ} 0 1 = cc in absurd (omega arith)
-
-on-andThen {κ} : {S : Type 0} {C : Type κ} (m : Met S) (f : List S → List Succ → Met S) (ss : List S) (xs : List Succ)
-    → andThen m f ≡ met ss xs → ((a : List S) (b : List Succ) → m ≡ met a b → f a b ≡ met ss xs → C) → C
-on-andThen (stopped r) f ss xs e k = absurd (never e)
-on-andThen (met a b) f ss xs e k = k a b refl e
-
-module _ {S : Type 0} (C : Construction S) (self : (s : S) → C .same s s ≡ true) where
-  -- states are added at the end, and the successors are those of any longer list
-  record Meets (ss ks ss′ : List S) (xs : List Succ) : Type 0 where
+module _ {S : Type 0} (C : Construction S) where
+  -- ---- what meeting classes adds
+  pub record Found (ss ks ss′ : List S) (xs : List Succ) : Type 0 where
     pub ext : Ext ss ss′
     pub few : length ss ≤ 128 → length ss′ ≤ 128
-    pub succs : (all : List S) → Ext ss′ all → xs ≡ map (succOf C all) ks
+    pub count : length xs ≡ length ks
+    pub from : (s : S) → s ∈ ss′ → (s ∈ ss) ⊎ ((k : S) × (k ∈ ks) × (s ≡ C .lift k))
+    pub small : (k : S) → k ∈ ks → C .size k ≤ 32
 
-  meet-again : (ss : List S) (k : S) (ss′ : List S) (xs : List Succ) → meet C ss k ≡ met ss′ xs → Meets ss (k ∷ []) ss′ xs
-  meet-again ss k ss′ xs e = big (ltb 32 (C .size k)) e
+  module _ (ss : List S) (k : S) (ss′ : List S) (xs : List Succ) where
+    pub meet-found : meet C ss k ≡ met ss′ xs → Found ss (k ∷ []) ss′ xs
+    meet-found e = big (ltb 32 (C .size k)) refl e
+      where
+        new : C .size k ≤ 32 → (b : Bool) → leb 128 (length ss) ≡ b → cond b (stopped ManyStates) (met (ss ++ (C .lift k ∷ [])) (record { to = length ss; by = C .gcp k } ∷ [])) ≡ met ss′ xs → Found ss (k ∷ []) ss′ xs
+        new small true h d = let z : _≡_ {A = ℕ} 0 1 = cc in absurd (omega arith)
+        new small false h d =
+            let a : ss ++ (C .lift k ∷ []) ≡ ss′ = cc in
+            let b : record { to = length ss; by = C .gcp k } ∷ [] ≡ xs = cc in
+            rw (← a, ← b) (record {
+              ext = record { more = C .lift k ∷ []; eq = refl };
+              few = λ l. rw length-append (let z = leb-not 128 (length ss) h in omega arith);
+              count = refl;
+              from = λ s m. ⊎-elim inl (λ i. inr (k, here refl, in-one i)) (∈-append ss m);
+              small = λ x m. rw (in-one m) small;
+            })
+
+        placed : C .size k ≤ 32 → (o : Option ℕ) → numbered o ss (C .lift k) (C .gcp k) ≡ met ss′ xs → Found ss (k ∷ []) ss′ xs
+        placed small none d = new small (leb 128 (length ss)) refl d
+        placed small (some i) d =
+            let a : ss ≡ ss′ = cc in
+            let b : record { to = i; by = C .gcp k } ∷ [] ≡ xs = cc in
+            rw (← a, ← b) (record { ext = ext-refl ss; few = λ l. l; count = refl; from = λ s m. inl m; small = λ x m. rw (in-one m) small })
+
+        big : (b : Bool) → ltb 32 (C .size k) ≡ b → cond b (stopped ManyGoals) (numbered (find (C .same (C .lift k)) ss 0) ss (C .lift k) (C .gcp k)) ≡ met ss′ xs → Found ss (k ∷ []) ss′ xs
+        big true h d = let z : _≡_ {A = ℕ} 0 1 = cc in absurd (omega arith)
+        big false h d = placed (ltb-not 32 (C .size k) h) (find (C .same (C .lift k)) ss 0) d
+
+  pub meets-found : (ks ss ss′ : List S) (xs : List Succ) → meets C ss ks ≡ met ss′ xs → Found ss ks ss′ xs
+  meets-found [] ss ss′ xs e =
+      let a : ss ≡ ss′ = cc in
+      let b : _≡_ {A = List Succ} [] xs = cc in
+      rw (← a, ← b) (record { ext = ext-refl ss; few = λ l. l; count = refl; from = λ s m. inl m; small = λ x m. elim m [ ] })
+  meets-found (k ∷ ks) ss ss′ xs e = go (meet C ss k) refl e (meets-found ks)
     where
-      p : S → Bool
-      p = C .same (C .lift k)
+      join : (ss₁ : List S) (ys : List Succ) (zs : List Succ) → Found ss (k ∷ []) ss₁ ys → Found ss₁ ks ss′ zs → Found ss (k ∷ ks) ss′ (ys ++ zs)
+      join ss₁ ys zs a b = record {
+        ext = ext-trans (a .ext) (b .ext);
+        few = λ l. b .few (a .few l);
+        count = let x = a .count in let y = b .count in length-append ys zs ∙ omega arith;
+        from = λ s m. ⊎-elim (λ i. ⊎-elim inl (λ r. inr (r .0, here (in-one (r .1)), r .2)) (a .from s i)) (λ r. inr (r .0, there (r .1), r .2)) (b .from s m);
+        small = small;
+      }
+        where
+          small : (x : S) → x ∈ (k ∷ ks) → C .size x ≤ 32
+          small x (here i) = a .small x (here i)
+          small x (there i) = b .small x i
 
-      new : find (C .same (C .lift k)) ss 0 ≡ none → (b : Bool) → leb 128 (length ss) ≡ b
-          → cond b (stopped ManyStates) (met (ss ++ (C .lift k ∷ [])) (record { to = length ss; by = C .gcp k } ∷ [])) ≡ met ss′ xs → Meets ss (k ∷ []) ss′ xs
-      new is true h d = never d
-      new is false h d =
+      last : (ss₁ : List S) (ys : List Succ) → Found ss (k ∷ []) ss₁ ys → (m : Met S) → meets C ss₁ ks ≡ m → andThen m (λ ss₂ zs. met ss₂ (ys ++ zs)) ≡ met ss′ xs
+          → ((ss ss′ : List S) (xs : List Succ) → meets C ss ks ≡ met ss′ xs → Found ss ks ss′ xs) → Found ss (k ∷ ks) ss′ xs
+      last ss₁ ys a (stopped r) h d ih = let z : _≡_ {A = ℕ} 0 1 = cc in absurd (omega arith)
+      last ss₁ ys a (met ss₂ zs) h d ih =
+          let x : ss₂ ≡ ss′ = cc in
+          let y : ys ++ zs ≡ xs = cc in
+          rw (← y) (join ss₁ ys zs a (ih ss₁ ss′ zs (h ∙ ap (λ l. met l zs) x)))
+
+      go : (m : Met S) → meet C ss k ≡ m → andThen m (λ ss₁ ys. andThen (meets C ss₁ ks) (λ ss₂ zs. met ss₂ (ys ++ zs))) ≡ met ss′ xs
+          → ((ss ss′ : List S) (xs : List Succ) → meets C ss ks ≡ met ss′ xs → Found ss ks ss′ xs) → Found ss (k ∷ ks) ss′ xs
+      go (stopped r) h d ih = let z : _≡_ {A = ℕ} 0 1 = cc in absurd (omega arith)
+      go (met ss₁ ys) h d ih = last ss₁ ys (meet-found ss k ss₁ ys h) (meets C ss₁ ks) refl d ih
+
+module _ {S : Type 0} (C : Construction S) (alike : (s : S) → C .same s s ≡ true) where
+  -- ---- one class
+  meet-again : (ss : List S) (k : S) (ss′ : List S) (xs : List Succ) → meet C ss k ≡ met ss′ xs → (t : List S) → Ext ss′ t → xs ≡ succOf C t k ∷ []
+  meet-again ss k ss′ xs e t x = big (ltb 32 (C .size k)) e
+    where
+      new : find (C .same (C .lift k)) ss 0 ≡ none → (b : Bool) → cond b (stopped ManyStates) (met (ss ++ (C .lift k ∷ [])) (record { to = length ss; by = C .gcp k } ∷ [])) ≡ met ss′ xs → xs ≡ succOf C t k ∷ []
+      new none-is true d = let z : _≡_ {A = ℕ} 0 1 = cc in absurd (omega arith)
+      new none-is false d =
           let a : ss ++ (C .lift k ∷ []) ≡ ss′ = cc in
           let b : record { to = length ss; by = C .gcp k } ∷ [] ≡ xs = cc in
-          rw (← a, ← b) (record {
-            ext = record { more = C .lift k ∷ []; eq = refl };
-            few = λ l. rw length-append (let z = leb-not 128 (length ss) h in omega arith);
-            succs = λ all x. ap (λ t. record { to = t; by = C .gcp k } ∷ []) (sym (at-end all x));
-          })
-        where
-          at-end : (all : List S) → Ext (ss ++ (C .lift k ∷ [])) all → placeIn (find (C .same (C .lift k)) all 0) (length all) ≡ length ss
-          at-end all x =
-              let z : all ≡ ss ++ (C .lift k ∷ x .more) = x .eq ∙ append-assoc ss (C .lift k ∷ []) (x .more) in
-              let f : find (C .same (C .lift k)) all 0 ≡ some (0 + length ss) = ap (λ l. find (C .same (C .lift k)) l 0) z ∙ find-new (C .same (C .lift k)) ss (x .more) (C .lift k) 0 is (self (C .lift k)) in
-              rw (f, zero-add)
+          let whole : t ≡ ss ++ (C .lift k ∷ x .more) = x .eq ∙ ap (λ l. l ++ x .more) (sym a) ∙ append-assoc ss (C .lift k ∷ []) (x .more) in
+          let at : find (C .same (C .lift k)) t 0 ≡ some (length ss) = ap (λ l. find (C .same (C .lift k)) l 0) whole ∙ find-new (C .same (C .lift k)) ss (C .lift k) (x .more) 0 none-is (alike (C .lift k)) ∙ ap some (zero-add (length ss)) in
+          sym b ∙ ap (λ o. record { to = orElse o (length t); by = C .gcp k } ∷ []) (sym at)
 
-      place : (o : Option ℕ) → find (C .same (C .lift k)) ss 0 ≡ o → numbered o ss (C .lift k) (C .gcp k) ≡ met ss′ xs → Meets ss (k ∷ []) ss′ xs
-      place none h d = new h (leb 128 (length ss)) refl d
-      place (some i) h d =
+      placed : (o : Option ℕ) → find (C .same (C .lift k)) ss 0 ≡ o → numbered o ss (C .lift k) (C .gcp k) ≡ met ss′ xs → xs ≡ succOf C t k ∷ []
+      placed none h d = new h (leb 128 (length ss)) d
+      placed (some i) h d =
           let a : ss ≡ ss′ = cc in
           let b : record { to = i; by = C .gcp k } ∷ [] ≡ xs = cc in
-          rw (← a, ← b) (record { ext = ext-refl ss; few = λ l. l; succs = λ all x. ap (λ t. record { to = t; by = C .gcp k } ∷ []) (sym (stays all x)) })
-        where
-          stays : (all : List S) → Ext ss all → placeIn (find (C .same (C .lift k)) all 0) (length all) ≡ i
-          stays all x =
-              let f : find (C .same (C .lift k)) all 0 ≡ some i = ap (λ l. find (C .same (C .lift k)) l 0) (x .eq) ∙ find-grows (C .same (C .lift k)) ss (x .more) 0 i h in
-              rw f
+          let at : find (C .same (C .lift k)) t 0 ≡ some i = ap (λ l. find (C .same (C .lift k)) l 0) (x .eq ∙ ap (λ l. l ++ x .more) (sym a)) ∙ find-more (C .same (C .lift k)) ss (x .more) 0 i h in
+          sym b ∙ ap (λ o. record { to = orElse o (length t); by = C .gcp k } ∷ []) (sym at)
 
-      big : (b : Bool) → cond b (stopped ManyGoals) (numbered (find (C .same (C .lift k)) ss 0) ss (C .lift k) (C .gcp k)) ≡ met ss′ xs → Meets ss (k ∷ []) ss′ xs
-      big true d = never d
-      big false d = place (find (C .same (C .lift k)) ss 0) refl d
+      big : (b : Bool) → cond b (stopped ManyGoals) (numbered (find (C .same (C .lift k)) ss 0) ss (C .lift k) (C .gcp k)) ≡ met ss′ xs → xs ≡ succOf C t k ∷ []
+      big true d = let z : _≡_ {A = ℕ} 0 1 = cc in absurd (omega arith)
+      big false d = placed (find (C .same (C .lift k)) ss 0) refl d
 
-  meets-again : (ks ss ss′ : List S) (xs : List Succ) → meets C ss ks ≡ met ss′ xs → Meets ss ks ss′ xs
-  meets-again [] ss ss′ xs e =
-      let a : ss ≡ ss′ = cc in
-      let b : [] ≡ xs = cc in
-      rw (← a, ← b) (record { ext = ext-refl ss; few = λ l. l; succs = λ all x. refl })
-  meets-again (k ∷ ks) ss ss′ xs e =
-      on-andThen (meet C ss k) _ ss′ xs e λ a b em e₁.
-      on-andThen (meets C a ks) _ ss′ xs e₁ λ a₂ b₂ em₂ e₂.
-      let r₁ = meet-again ss k a b em in
-      let r₂ = meets-again ks a a₂ b₂ em₂ in
-      let u : a₂ ≡ ss′ = cc in
-      let v : b ++ b₂ ≡ xs = cc in
-      rw (← u, ← v) (record {
-        ext = ext-trans (r₁ .ext) (r₂ .ext);
-        few = λ l. r₂ .few (r₁ .few l);
-        succs = λ all x. ap₂ (λ (m n : List Succ). m ++ n) (r₁ .succs all (ext-trans (r₂ .ext) x)) (r₂ .succs all x);
-      })
+  -- ---- classes in turn
+  meets-again : (ks ss ss′ : List S) (xs : List Succ) → meets C ss ks ≡ met ss′ xs → (t : List S) → Ext ss′ t → xs ≡ map (succOf C t) ks
+  meets-again [] ss ss′ xs e t x = let b : _≡_ {A = List Succ} [] xs = cc in sym b
+  meets-again (k ∷ ks) ss ss′ xs e t x = go (meet C ss k) refl e (meets-again ks)
+    where
+      last : (ss₁ : List S) (ys : List Succ) → meet C ss k ≡ met ss₁ ys → (m : Met S) → meets C ss₁ ks ≡ m → andThen m (λ ss₂ zs. met ss₂ (ys ++ zs)) ≡ met ss′ xs
+          → ((ss ss′ : List S) (xs : List Succ) → meets C ss ks ≡ met ss′ xs → (t : List S) → Ext ss′ t → xs ≡ map (succOf C t) ks) → xs ≡ map (succOf C t) (k ∷ ks)
+      last ss₁ ys a (stopped r) h d ih = let z : _≡_ {A = ℕ} 0 1 = cc in absurd (omega arith)
+      last ss₁ ys a (met ss₂ zs) h d ih =
+          let u : ss₂ ≡ ss′ = cc in
+          let y : ys ++ zs ≡ xs = cc in
+          let h′ : meets C ss₁ ks ≡ met ss′ zs = h ∙ ap (λ l. met l zs) u in
+          sym y ∙ ap₂ (λ l r. l ++ r) (meet-again ss k ss₁ ys a t (ext-trans (meets-found C ks ss₁ ss′ zs h′ .ext) x)) (ih ss₁ ss′ zs h′ t x)
 
-  record Row (s : S) (f : ℕ) (ns : List ℕ) (ss : List S) (bs : List Block) (ss′ : List S) (bs′ : List Block) : Type 0 where
+      go : (m : Met S) → meet C ss k ≡ m → andThen m (λ ss₁ ys. andThen (meets C ss₁ ks) (λ ss₂ zs. met ss₂ (ys ++ zs))) ≡ met ss′ xs
+          → ((ss ss′ : List S) (xs : List Succ) → meets C ss ks ≡ met ss′ xs → (t : List S) → Ext ss′ t → xs ≡ map (succOf C t) ks) → xs ≡ map (succOf C t) (k ∷ ks)
+      go (stopped r) h d ih = let z : _≡_ {A = ℕ} 0 1 = cc in absurd (omega arith)
+      go (met ss₁ ys) h d ih = last ss₁ ys h (meets C ss₁ ks) refl d ih
+
+  -- ---- symbols in turn
+  record RowAgain (s : S) (f : ℕ) (ns : List ℕ) (ss : List S) (bs : List Block) (ss′ : List S) (bs′ : List Block) : Type 0 where
     pub ext : Ext ss ss′
     pub few : length ss ≤ 128 → length ss′ ≤ 128
-    pub blocks : (all : List S) → Ext ss′ all → bs′ ≡ bs ++ rowOf C all s f ns
+    pub is : (t : List S) → Ext ss′ t → bs′ ≡ bs ++ blocksOf C t s f ns
+    pub small : SmallOn C s f ns
 
-  row-again : (i : ℕ) (s : S) (f : ℕ) (ns : List ℕ) (ss : List S) (bs : List Block) (ss′ : List S) (bs′ : List Block) → row C i s f ns ss bs ≡ made ss′ bs′ → Row s f ns ss bs ss′ bs′
+  row-again : (i : ℕ) (s : S) (f : ℕ) (ns : List ℕ) (ss : List S) (bs : List Block) (ss′ : List S) (bs′ : List Block) → row C i s f ns ss bs ≡ made ss′ bs′ → RowAgain s f ns ss bs ss′ bs′
   row-again i s f [] ss bs ss′ bs′ e =
       let a : ss ≡ ss′ = cc in
       let b : bs ≡ bs′ = cc in
-      rw (← a, ← b) (record { ext = ext-refl ss; few = λ l. l; blocks = λ all x. sym (append-nil bs) })
+      rw (← a, ← b) (record { ext = ext-refl ss; few = λ l. l; is = λ t x. sym (append-nil bs); small = λ g n h k m. none-not h })
   row-again i s f (n ∷ ns) ss bs ss′ bs′ e = go (meets C ss (C .classes s f n)) refl e (λ ss₁ bs₁ d. row-again i s (suc f) ns ss₁ bs₁ ss′ bs′ d)
     where
-      go : (m : Met S) → meets C ss (C .classes s f n) ≡ m → thenBlock i (C .outputs s f n) bs m (λ ss₁ bs₁. row C i s (suc f) ns ss₁ bs₁) ≡ made ss′ bs′
-          → ((ss₁ : List S) (bs₁ : List Block) → row C i s (suc f) ns ss₁ bs₁ ≡ made ss′ bs′ → Row s (suc f) ns ss₁ bs₁ ss′ bs′) → Row s f (n ∷ ns) ss bs ss′ bs′
-      go (stopped c) em d ih = never-made d
-      go (met ss₁ xs) em d ih = both-of (meets-again (C .classes s f n) ss ss₁ xs em) (ih ss₁ _ d)
+      join : (ss₁ : List S) (xs : List Succ) → meets C ss (C .classes s f n) ≡ met ss₁ xs
+          → RowAgain s (suc f) ns ss₁ (bs ++ (record { out = C .outputs s f n; succs = xs } ∷ [])) ss′ bs′ → RowAgain s f (n ∷ ns) ss bs ss′ bs′
+      join ss₁ xs h r = record {
+        ext = ext-trans (meets-found C (C .classes s f n) ss ss₁ xs h .ext) (r .ext);
+        few = λ l. r .few (meets-found C (C .classes s f n) ss ss₁ xs h .few l);
+        is = λ t x.
+            r .is t x ∙ append-assoc bs (record { out = C .outputs s f n; succs = xs } ∷ []) (blocksOf C t s (suc f) ns)
+            ∙ ap (λ ys. bs ++ (record { out = C .outputs s f n; succs = ys } ∷ blocksOf C t s (suc f) ns)) (meets-again (C .classes s f n) ss ss₁ xs h t (ext-trans (r .ext) x));
+        small = small;
+      }
         where
-          both-of : Meets ss (C .classes s f n) ss₁ xs → Row s (suc f) ns ss₁ (bs ++ (record { out = C .outputs s f n; succs = xs } ∷ [])) ss′ bs′ → Row s f (n ∷ ns) ss bs ss′ bs′
-          both-of o r = record {
-            ext = ext-trans (o .ext) (r .ext);
-            few = λ l. r .few (o .few l);
-            blocks = λ all x. r .blocks all x ∙ append-assoc bs (record { out = C .outputs s f n; succs = xs } ∷ []) (rowOf C all s (suc f) ns)
-                ∙ ap (λ ys. bs ++ (record { out = C .outputs s f n; succs = ys } ∷ rowOf C all s (suc f) ns)) (o .succs all (ext-trans (r .ext) x));
-          }
+          small : SmallOn C s f (n ∷ ns)
+          small zero m d k j = let z : n ≡ m = cc in meets-found C (C .classes s f n) ss ss₁ xs h .small k (rw (add-zero f, ← z) at j)
+          small (suc g) m d k j = let z : f + suc g ≡ suc f + g = omega arith in r .small g m d k (rw z at j)
 
-  record Run (ar : List ℕ) (i : ℕ) (ss : List S) (bs : List Block) (ss′ : List S) (bs′ : List Block) : Type 0 where
+      go : (m : Met S) → meets C ss (C .classes s f n) ≡ m → thenBlock i (C .outputs s f n) bs m (λ ss₁ bs₁. row C i s (suc f) ns ss₁ bs₁) ≡ made ss′ bs′
+          → ((ss₁ : List S) (bs₁ : List Block) → row C i s (suc f) ns ss₁ bs₁ ≡ made ss′ bs′ → RowAgain s (suc f) ns ss₁ bs₁ ss′ bs′) → RowAgain s f (n ∷ ns) ss bs ss′ bs′
+      go (stopped r) h d ih = let z : _≡_ {A = ℕ} 0 1 = cc in absurd (omega arith)
+      go (met ss₁ xs) h d ih = join ss₁ xs h (ih ss₁ (bs ++ (record { out = C .outputs s f n; succs = xs } ∷ [])) d)
+
+  -- ---- states in turn
+  record RunAgain (ar : List ℕ) (i : ℕ) (ss : List S) (bs : List Block) (ss′ : List S) (bs′ : List Block) : Type 0 where
     pub ext : Ext ss ss′
-    pub blocks : bs′ ≡ bs ++ blocksOf C ss′ ar (drop i ss′)
+    pub is : bs′ ≡ bs ++ gather (λ s. blocksOf C ss′ s 0 ar) (drop i ss′)
+    pub small : (s : S) → s ∈ drop i ss′ → SmallOn C s 0 ar
 
-  run-again : (ar : List ℕ) (fuel i : ℕ) (ss : List S) (bs : List Block) (ss′ : List S) (bs′ : List Block) → fuel + i ≡ 128 → length ss ≤ 128 → run C ar fuel i ss bs ≡ made ss′ bs′ → Run ar i ss bs ss′ bs′
-  run-again ar zero i ss bs ss′ bs′ fi few e = ended (omega arith) e
-    where
-      ended : length ss ≤ i → made ss bs ≡ made ss′ bs′ → Run ar i ss bs ss′ bs′
-      ended h d =
-          let a : ss ≡ ss′ = cc in
-          let b : bs ≡ bs′ = cc in
-          rw (← a, ← b) (record { ext = ext-refl ss; blocks = rw (drop-of-length-le ss {i = i} h) (sym (append-nil bs)) })
+  run-done : (ar : List ℕ) (i : ℕ) (ss : List S) (bs : List Block) (ss′ : List S) (bs′ : List Block) → length ss ≤ i → made ss bs ≡ made ss′ bs′ → RunAgain ar i ss bs ss′ bs′
+  run-done ar i ss bs ss′ bs′ h e =
+      let a : ss ≡ ss′ = cc in
+      let b : bs ≡ bs′ = cc in
+      let z : drop i ss ≡ [] = drop-of-length-le ss h in
+      rw (← a, ← b) (record { ext = ext-refl ss; is = sym (ap (λ l. bs ++ gather (λ s. blocksOf C ss s 0 ar) l) z ∙ append-nil bs); small = λ s m. elim (rw z at m) [ ] })
+
+  run-again : (ar : List ℕ) (fuel i : ℕ) (ss : List S) (bs : List Block) (ss′ : List S) (bs′ : List Block) → fuel + i ≡ 128 → length ss ≤ 128 → run C ar fuel i ss bs ≡ made ss′ bs′ → RunAgain ar i ss bs ss′ bs′
+  run-again ar zero i ss bs ss′ bs′ fi few e = run-done ar i ss bs ss′ bs′ (omega arith) e
   run-again ar (suc fuel) i ss bs ss′ bs′ fi few e = go (ltb i (length ss)) refl e (λ ss₁ bs₁ l d. run-again ar fuel (suc i) ss₁ bs₁ ss′ bs′ (omega arith) l d)
     where
-      Rest : Type 0
-      Rest = (ss₁ : List S) (bs₁ : List Block) → length ss₁ ≤ 128 → run C ar fuel (suc i) ss₁ bs₁ ≡ made ss′ bs′ → Run ar (suc i) ss₁ bs₁ ss′ bs′
-
-      both-of : i < length ss → (ss₁ : List S) (bs₁ : List Block) → Row (getD ss i (C .start)) 0 ar ss bs ss₁ bs₁ → Run ar (suc i) ss₁ bs₁ ss′ bs′ → Run ar i ss bs ss′ bs′
-      both-of h ss₁ bs₁ o r =
-          let whole : Ext ss ss′ = ext-trans (o .ext) (r .ext) in
-          let first : drop i ss′ ≡ getD ss i (C .start) ∷ drop (suc i) ss′ = drop-cons ss′ i (C .start) (omega (arith, ext-length whole)) ∙ ap (λ x. x ∷ drop (suc i) ss′) (getD-ext whole i (C .start) h) in
+      join : i < length ss → (ss₁ : List S) (bs₁ : List Block) → RowAgain (getD ss i (C .start)) 0 ar ss bs ss₁ bs₁ → RunAgain ar (suc i) ss₁ bs₁ ss′ bs′ → RunAgain ar i ss bs ss′ bs′
+      join inside ss₁ bs₁ a b =
+          let x : Ext ss ss′ = ext-trans (a .ext) (b .ext) in
+          let l = ext-length x in
+          let here-is : getD ss′ i (C .start) ≡ getD ss i (C .start) = getD-ext x i (C .start) inside in
+          let next : drop i ss′ ≡ getD ss i (C .start) ∷ drop (suc i) ss′ = drop-cons ss′ i (C .start) (omega arith) ∙ ap (λ s. s ∷ drop (suc i) ss′) here-is in
           record {
-            ext = whole;
-            blocks = r .blocks ∙ ap (λ l. l ++ blocksOf C ss′ ar (drop (suc i) ss′)) (o .blocks ss′ (r .ext))
-                ∙ append-assoc bs (rowOf C ss′ (getD ss i (C .start)) 0 ar) (blocksOf C ss′ ar (drop (suc i) ss′))
-                ∙ ap (λ l. bs ++ blocksOf C ss′ ar l) (sym first);
+            ext = x;
+            is = b .is ∙ ap (λ l. l ++ gather (λ s. blocksOf C ss′ s 0 ar) (drop (suc i) ss′)) (a .is ss′ (b .ext))
+                ∙ append-assoc bs (blocksOf C ss′ (getD ss i (C .start)) 0 ar) (gather (λ s. blocksOf C ss′ s 0 ar) (drop (suc i) ss′))
+                ∙ ap (λ l. bs ++ gather (λ s. blocksOf C ss′ s 0 ar) l) (sym next);
+            small = λ s m. small s (rw next at m);
           }
+        where
+          small : (s : S) → s ∈ (getD ss i (C .start) ∷ drop (suc i) ss′) → SmallOn C s 0 ar
+          small s (here e) = rw e (a .small)
+          small s (there m) = b .small s m
 
-      inner : i < length ss → (m : Made S) → row C i (getD ss i (C .start)) 0 ar ss bs ≡ m → thenMore m (λ ss₁ bs₁. run C ar fuel (suc i) ss₁ bs₁) ≡ made ss′ bs′ → Rest → Run ar i ss bs ss′ bs′
-      inner h (refused c q) em d rest = never-made d
-      inner h (made ss₁ bs₁) em d rest =
-          let o = row-again i (getD ss i (C .start)) 0 ar ss bs ss₁ bs₁ em in
-          both-of h ss₁ bs₁ o (rest ss₁ bs₁ (o .few few) d)
+      inner : i < length ss → (m : Made S) → row C i (getD ss i (C .start)) 0 ar ss bs ≡ m → thenMore m (λ ss₁ bs₁. run C ar fuel (suc i) ss₁ bs₁) ≡ made ss′ bs′
+          → ((ss₁ : List S) (bs₁ : List Block) → length ss₁ ≤ 128 → run C ar fuel (suc i) ss₁ bs₁ ≡ made ss′ bs′ → RunAgain ar (suc i) ss₁ bs₁ ss′ bs′) → RunAgain ar i ss bs ss′ bs′
+      inner inside (refused r p) q d ih = let z : _≡_ {A = ℕ} 0 1 = cc in absurd (omega arith)
+      inner inside (made ss₁ bs₁) q d ih = let o = row-again i (getD ss i (C .start)) 0 ar ss bs ss₁ bs₁ q in join inside ss₁ bs₁ o (ih ss₁ bs₁ (o .few few) d)
 
-      go : (b : Bool) → ltb i (length ss) ≡ b → cond b (thenMore (row C i (getD ss i (C .start)) 0 ar ss bs) (λ ss₁ bs₁. run C ar fuel (suc i) ss₁ bs₁)) (made ss bs) ≡ made ss′ bs′ → Rest → Run ar i ss bs ss′ bs′
-      go true h d rest = inner (ltb-is i (length ss) h) (row C i (getD ss i (C .start)) 0 ar ss bs) refl d rest
-      go false h d rest =
-          let a : ss ≡ ss′ = cc in
-          let b : bs ≡ bs′ = cc in
-          rw (← a, ← b) (record { ext = ext-refl ss; blocks = rw (drop-of-length-le ss {i = i} (ltb-not i (length ss) h)) (sym (append-nil bs)) })
+      go : (b : Bool) → ltb i (length ss) ≡ b → cond b (thenMore (row C i (getD ss i (C .start)) 0 ar ss bs) (λ ss₁ bs₁. run C ar fuel (suc i) ss₁ bs₁)) (made ss bs) ≡ made ss′ bs′
+          → ((ss₁ : List S) (bs₁ : List Block) → length ss₁ ≤ 128 → run C ar fuel (suc i) ss₁ bs₁ ≡ made ss′ bs′ → RunAgain ar (suc i) ss₁ bs₁ ss′ bs′) → RunAgain ar i ss bs ss′ bs′
+      go true q d ih = inner (ltb-is i (length ss) q) (row C i (getD ss i (C .start)) 0 ar ss bs) refl d ih
+      go false q d ih = run-done ar i ss bs ss′ bs′ (ltb-not i (length ss) q) d
 
-  pub blocks-again : (ar : List ℕ) (ss : List S) (bs : List Block) → explored C ar ≡ made ss bs → bs ≡ blocksOf C ss ar ss
-  blocks-again ar ss bs e = run-again ar 128 0 (C .start ∷ []) [] ss bs (omega arith) (omega arith) e .blocks
+  pub blocks-again : (ar : List ℕ) (ss : List S) (bs : List Block) → explored C ar ≡ made ss bs → (bs ≡ allBlocks C ss ar) × ((s : S) → s ∈ ss → SmallOn C s 0 ar)
+  blocks-again ar ss bs e = let r = run-again ar 128 0 (C .start ∷ []) [] ss bs (omega arith) (omega arith) e in (r .is, r .small)

@@ -1,5 +1,5 @@
 -- The classes of a list of goals, for any kind of obligation: each is all that depends on its first goal.
---   picked-in on-picked picked-of pairwise-picked   the goals of a row
+--   picked-in on-picked picked-of picked-map pairwise-picked   the goals of a row
 --   leads-at on-row                    a row that begins a class
 --   Class class-is class-lead          a class, by the place of its first goal
 --   class-sub class-at class-has class-some   its goals are goals of the list; which ones; there is one
@@ -47,6 +47,12 @@ module _ {A : Type 0} where
   picked-of (false ∷ bs) (g ∷ s) zero e t = absurd (false≢true t)
   picked-of (true ∷ bs) (g ∷ s) (suc j) e t = there (picked-of bs s j e t)
   picked-of (false ∷ bs) (g ∷ s) (suc j) e t = picked-of bs s j e t
+
+pub picked-map : {A B : Type 0} (h : A → B) (r : List Bool) (s : List A) → map h (picked r s) ≡ picked r (map h s)
+picked-map h [] s = refl
+picked-map h (b ∷ bs) [] = refl
+picked-map h (true ∷ bs) (g ∷ s) = ap (λ l. h g ∷ l) (picked-map h bs s)
+picked-map h (false ∷ bs) (g ∷ s) = picked-map h bs s
 
 pub pairwise-picked : {A : Type 0} (R : A → A → Type 0) (r : List Bool) (s : List A) → Pairwise R s → Pairwise R (picked r s)
 pairwise-picked R [] s a = tt

@@ -18,6 +18,7 @@ use lib.ListN.{length, length-append, length-map}
 use Rattle.kinds.specs.Lists.{same, sum}
 use Rattle.kinds.specs.Positions.{Pos}
 use Rattle.kinds.proofs.Members.{_∈_, here, there, _⊆_, ∈-append, on-map, same-is, same-refl, Distinct, distinct-le}
+use Rattle.kinds.proofs.ListLaws.{none-left}
 use Rattle.kinds.proofs.Sums.{sum-append, sum-map}
 use Rattle.term.specs.Terms.{Term, node, Terms, count, span}
 use Rattle.term.specs.Places.{sub, dom}
@@ -56,10 +57,6 @@ in-times q (p ∷ R) e = go (same p q) refl (in-times q R)
     go : (b : Bool) → same p q ≡ b → (times q R ≡ 1 → q ∈ R) → q ∈ (p ∷ R)
     go true d ih = here (sym (same-is p q d))
     go false d ih = there (ih (let z : one (same p q) ≡ 0 = rw d in omega arith))
-
-none-left : {A : Type 0} (xs : List A) → length xs ≡ 0 → xs ≡ []
-none-left [] e = refl
-none-left (x ∷ xs) e = absurd (omega arith)
 
 module _ (C : Scored) where
   abbrev S : Setting

@@ -18,14 +18,14 @@ use Rattle.kinds.specs.declared.Reason.{Reason}
 use Rattle.kinds.specs.declared.Reason.the-variants.{ManyGoals, ManyStates}
 use Rattle.kinds.proofs.Bools.{and-l, and-r, eqb-is, ltb-is}
 use Rattle.kinds.proofs.Members.{_∈_, here, there, ∈-append, in-filter, on-map, on-gather, same-is}
-use Rattle.kinds.proofs.ListLaws.{map-append, map-map, map-same, filter-map, filter-same, any-map, any-same, all-map, all-same, sort-map, gather-same, map-gather, gather-map}
+use Rattle.kinds.proofs.ListLaws.{map-append, map-map, map-same, filter-map, filter-same, any-map, any-same, all-map, all-same, sort-map, gather-same, map-gather, gather-map, nil-same}
 use Rattle.kinds.proofs.Places.{getD-in}
 use Rattle.kinds.proofs.Prefixes.{_≼_}
 use Rattle.automaton.specs.Goals.{Goal, State, Calculus, isRoot, has, firstFrom, first, allObs, label, initial, reduced, met, deriv, announcement, annBefore, outputs}
 use Rattle.automaton.specs.Classes.{dep, square, closed, picked, rowsFrom, classBefore, classes, gcpFrom, gcp, liftGoal, lift, sameGoal, sameState}
 use Rattle.automaton.specs.Exploring.{construction}
 use Rattle.automaton.specs.PlanWords.{planned}
-use Rattle.automaton.proofs.Classes.{class-sub}
+use Rattle.automaton.proofs.Classes.{class-sub, picked-map}
 use Rattle.automaton.proofs.Root.{gcp-below}
 use Rattle.automaton.proofs.Simulation.{Simulates, plan-simulated}
 
@@ -46,16 +46,6 @@ pub record Carries {O P : Type 0} (K : Calculus O) (J : Calculus P) (h : O → P
   pub fresh-right : (p : Pos) (g : Goal O) → g ∈ K .fresh p → Right g
   pub reduced-right : (p : Pos) (n : ℕ) (g : Goal O) → Right g → Right (reduced K p n g)
   pub lifted-right : (c : Pos) (g : Goal O) → g .ann ≼ c → Right g → Right (liftGoal K c g)
-
-nil-same : {A B : Type 0} (h : A → B) (xs : List A) → isNil (map h xs) ≡ isNil xs
-nil-same h [] = refl
-nil-same h (x ∷ xs) = refl
-
-picked-same : {A B : Type 0} (h : A → B) (r : List Bool) (s : List A) → map h (picked r s) ≡ picked r (map h s)
-picked-same h [] s = refl
-picked-same h (b ∷ bs) [] = refl
-picked-same h (true ∷ bs) (g ∷ s) = ap (λ l. h g ∷ l) (picked-same h bs s)
-picked-same h (false ∷ bs) (g ∷ s) = picked-same h bs s
 
 -- two tests under a third
 under : (a c c′ d d′ : Bool) → (a ≡ true → c ≡ c′) → (a ≡ true → d ≡ d′) → (a && c && d) ≡ (a && c′ && d′)
@@ -161,7 +151,7 @@ module _ {O P : Type 0} (K : Calculus O) (J : Calculus P) (h : O → P) (Right :
   pub classes-same : (s : State O) → map (forgets h) (classes K s) ≡ classes J (forgets h s)
   classes-same s =
       sort-map (forgets h) (classBefore K) (classBefore J) (λ a b. sym (ap₂ before (first-of a) (first-of b))) (map (λ r. picked r s) (rowsFrom 0 (closed K s)))
-      ∙ ap (sort (classBefore J)) (map-map (forgets h) (λ r. picked r s) (rowsFrom 0 (closed K s)) ∙ map-same _ _ (rowsFrom 0 (closed K s)) (λ r m. picked-same (forget h) r s) ∙ ap (λ c. map (λ r. picked r (forgets h s)) (rowsFrom 0 c)) (sym (closed-same s)))
+      ∙ ap (sort (classBefore J)) (map-map (forgets h) (λ r. picked r s) (rowsFrom 0 (closed K s)) ∙ map-same _ _ (rowsFrom 0 (closed K s)) (λ r m. picked-map (forget h) r s) ∙ ap (λ c. map (λ r. picked r (forgets h s)) (rowsFrom 0 c)) (sym (closed-same s)))
     where
       first-of : (a : State O) → first J (allObs (forgets h a)) ≡ first K (allObs a)
       first-of a = ap (first J) (obs-same a) ∙ first-same (allObs a)

@@ -24,20 +24,12 @@ use Rattle.kinds.proofs.Options.{none-not}
 use Rattle.kinds.proofs.Members.{_∈_, here, there, ∈-append, all-of, any-of, same-refl}
 use Rattle.kinds.proofs.Pairwise.{Pairwise, pairwise-append}
 use Rattle.kinds.proofs.ListLaws.{map-append, gather-append}
-use Rattle.kinds.proofs.Places.{at-below, at-left, at-right, at-end, getD-in, find-at, Ext, ext-refl, ext-trans, at-ext, ext-length, getD-ext}
+use Rattle.kinds.proofs.Places.{at-below, at-left, at-right, at-end, getD-in, find-at, find-none, Ext, ext-refl, ext-trans, at-ext, ext-length, getD-ext}
 use Rattle.automaton.specs.Goals.{Goal, State, Calculus, initial, deriv, outputs}
 use Rattle.automaton.specs.Classes.{classes, gcp, lift, liftGoal, sameGoal, sameState}
 use Rattle.automaton.specs.Exploring.{construction, Succ, Block, Met, stopped, Made, refused, made, andThen, thenBlock, thenMore, meet, meets, row, run, explored}
 use Rattle.automaton.specs.Exploring.{met as found, numbered as placed}
 use Rattle.automaton.specs.Walking.{Reach, init, next}
-
-find-none : {A : Type 0} (p : A → Bool) (s : List A) (c : ℕ) → find p s c ≡ none → (x : A) → x ∈ s → p x ≡ false
-find-none p (y ∷ s) c e x m = go (p y) refl e m (find-none p s (suc c))
-  where
-    go : (b : Bool) → p y ≡ b → cond b (some c) (find p s (suc c)) ≡ none → x ∈ (y ∷ s) → (find p s (suc c) ≡ none → (x : _) → x ∈ s → p x ≡ false) → p x ≡ false
-    go true d z i ih = none-not (sym z)
-    go false d z (here i) ih = rw i d
-    go false d z (there i) ih = ih z x i
 
 -- each number is one met before, those below n, or n itself, which is then met; m are met in the end
 pub data Firsts : ℕ → List ℕ → ℕ → Type 0 where

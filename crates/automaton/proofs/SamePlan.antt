@@ -8,7 +8,7 @@ use mathlib.Core.List.{List, [], _∷_, _++_, map}
 use mathlib.Core.Option.{some}
 use Prim.Native.Nat.{ℕ, zero, suc, _+_}
 use native.Mathlib.Omega.{arith}
-use native.Mathlib.Nat.{add-zero, zero-add}
+use native.Mathlib.Nat.{zero-add}
 use lib.Dec.{eqb}
 use lib.ListN.{length, getElem?}
 use Rattle.kinds.specs.Lists.{same, any, gather, mapAt, range, bind}
@@ -17,6 +17,7 @@ use Rattle.kinds.proofs.Bools.{both, is-eqb}
 use Rattle.kinds.proofs.Options.{on-bind}
 use Rattle.kinds.proofs.Members.{_∈_, here, there, on-map, on-gather, same-is}
 use Rattle.kinds.proofs.ListLaws.{map-gather, gather-map, gather-same}
+use Rattle.kinds.proofs.Places.{on-mapAt}
 use Rattle.kinds.proofs.Prefixes.{_≼_, ≼-refl, ≼-snoc, strip-self, strip-more, strip-strip, strip-below}
 use Rattle.term.specs.Terms.{Term, blank, node, Terms, tnil, tcons}
 use Rattle.term.specs.Places.{nth, sub}
@@ -53,10 +54,6 @@ mutual
 freshes-from : (p : Pos) (c : ℕ) (shapes : List Term) → forgets position (mapAt (freshOb p) c shapes) ≡ map (fresh p) (range c (length shapes))
 freshes-from p c [] = refl
 freshes-from p c (x ∷ xs) = ap (λ l. fresh p c ∷ l) (freshes-from p (suc c) xs)
-
-on-mapAt {κ} : {C : Type κ} {B : Type 0} (F : ℕ → Term → B) (c : ℕ) (xs : List Term) {y : B} → y ∈ mapAt F c xs → ((i : ℕ) (t : Term) → getElem? xs i ≡ some t → y ≡ F (c + i) t → C) → C
-on-mapAt F c (x ∷ xs) (here e) k = k 0 x refl (rw add-zero e)
-on-mapAt F c (x ∷ xs) (there m) k = on-mapAt F (suc c) xs m (λ i t a b. let z : suc c + i ≡ c + suc i = omega arith in k (suc i) t a (rw z at b))
 
 fresh-right : (shapes : List Term) (p : Pos) (g : Goal Ob) → g ∈ mapAt (freshOb p) 0 shapes → Right shapes g
 fresh-right shapes p g m = on-mapAt (freshOb p) 0 shapes m λ i x a e. rw (e, zero-add i) (λ o j. one i x a o j)

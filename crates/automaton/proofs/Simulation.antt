@@ -18,7 +18,7 @@ use Rattle.kinds.specs.declared.Reason.the-variants.{ManyGoals, ManyStates}
 use Rattle.kinds.proofs.Bools.{ltb-is, ltb-not}
 use Rattle.kinds.proofs.Members.{_∈_, here, there, ∈-append}
 use Rattle.kinds.proofs.ListLaws.{map-append, map-map, map-same}
-use Rattle.kinds.proofs.Places.{getD-in}
+use Rattle.kinds.proofs.Places.{getD-in, find-same}
 use Rattle.automaton.specs.Exploring.{Construction, Succ, Block, Met, stopped, met, Made, refused, made, andThen, thenBlock, thenMore, numbered, meet, meets, row, run, explored}
 use Rattle.automaton.specs.PlanWords.{too-long, plan-of, planWords, toPlan, planned}
 
@@ -34,10 +34,6 @@ pub record Simulates {S T : Type 0} (C : Construction S) (D : Construction T) (h
   pub lift : (k : S) → Part k → h (C .lift k) ≡ D .lift (h k)
   pub lifted : (k : S) → Part k → C .size k ≤ 32 → Right (C .lift k)
   pub same : (s t : S) → Right s → Right t → C .same s t ≡ D .same (h s) (h t)
-
-find-same : {A B : Type 0} (h : A → B) (p : A → Bool) (q : B → Bool) (xs : List A) (c : ℕ) → ((x : A) → x ∈ xs → p x ≡ q (h x)) → find p xs c ≡ find q (map h xs) c
-find-same h p q [] c e = refl
-find-same h p q (x ∷ xs) c e = rw (e x (here refl), find-same h p q xs (suc c) (λ y m. e y (there m)))
 
 -- a list from its place f on
 from-here : (ar ns : List ℕ) (f n : ℕ) → drop f ar ≡ n ∷ ns → (getElem? ar f ≡ some n) × (drop (suc f) ar ≡ ns)

@@ -4,6 +4,7 @@ pub mod Classes
 pub mod Paper
 pub mod Bare
 pub mod Exploring
+pub mod FinalBlocks
 pub mod PlanWords
 pub mod Walking
 pub mod Examples

@@ -1,5 +1,6 @@
 -- Shapes that are found are shapes, and the shapes there are are found.
 --   length-starts                 as many begin as there are
+--   solid solid-node              a shape's term is no blank, and begins with a symbol
 --   ShapesAt shapes-at            the words from an index on are those of shapes, and their starts are such
 --   found-shapes shapes-found     all of them
 --   all-once                      shapes' words determine the shapes
@@ -17,7 +18,7 @@ use Rattle.kinds.specs.declared.Reason.the-variants as reason
 use Rattle.kinds.proofs.Members.{_∈_, here, there, in-none}
 use Rattle.kinds.proofs.ListLaws.{from}
 use Rattle.kinds.proofs.Bools.{false-true}
-use Rattle.term.specs.Terms.{Term, blank, node, span, flatten, Fits}
+use Rattle.term.specs.Terms.{Term, blank, node, span, flatten, Fits, Terms}
 use Rattle.term.specs.Reading.{reading}
 use Rattle.term.specs.declared.Reading.{Reading}
 use Rattle.term.specs.declared.Reading.the-variants as read
@@ -57,6 +58,11 @@ solid ar ws d at e r h g = go (r .tree) (r .fits) (r .words)
         let s : getD ws at 0 ≡ w = cc in
         absurd (omega arith)
     go (node g ts) f q = refl
+
+-- and what is no blank begins with a symbol
+pub solid-node : (t : Term) → isBlank t ≡ false → (f : ℕ) × (us : Terms) × (t ≡ node f us)
+solid-node (blank w) e = false-true (sym e)
+solid-node (node f us) e = (f, us, refl)
 
 pub shapes-at : (ar ws : List ℕ) (c n at k : ℕ) → shapesFrom ar blankWord ws c n at .answer ≡ shapes.Found k → ShapesAt ar ws (shapesFrom ar blankWord ws c n at .starts) at
 unfolding shapesFrom

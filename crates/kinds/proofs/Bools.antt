@@ -1,18 +1,19 @@
 -- Tests: one that passes is `b ≡ true`.
 --   and-l and-r both and-false and-true       the parts of a test of two that must both pass
---   or-l or-r or-case on-or neither                 of two of which one must
+--   or-l or-r or-case on-or neither or-first  of two of which one must
 --   test bool-ext not-true not-of of-not of-not-false   one or the other; equal tests; what is not true is false; denied tests
 --   false-true                                both at once proves anything
 --   T→is is→T                                 the library's truth of a test and ours
 --   eqb-is is-eqb ltb-is is-ltb leb-is is-leb, ltb-not leb-not   what a test of two numbers says
 --   Order order, ltb-irrefl ltb-suc ltb-shift eqb-shift   less, equal or more
-use mathlib.Core.Path.{_≡_, refl, ap, sym}
+--   half-leb key-order                        with half of a number; of two numbers in one
+use mathlib.Core.Path.{_≡_, refl, ap, sym, _∙_}
 use mathlib.Core.Bool.{Bool, true, false, not, _&&_, _||_, false≢true}
 use mathlib.Core.Logic.{_⊎_, inl, inr}
-use Prim.Native.Nat.{ℕ, suc, _+_, _<_, _≤_}
+use Prim.Native.Nat.{ℕ, suc, _+_, _*_, _/_, _<_, _≤_}
 use native.Mathlib.Omega.{arith}
-use native.Mathlib.Decide.{decLt}
-use borrow.Author.Tests.{ltb-true, ltb-false, leb-true, leb-false, eqb-true, lt-ltb, le-ltb, le-leb, eq-eqb}
+use native.Mathlib.Decide.{decLt, decLe}
+use borrow.Author.Tests.{ltb-true, ltb-false, leb-true, leb-false, eqb-true, lt-ltb, le-ltb, le-leb, lt-leb, eq-eqb, ne-eqb}
 use lib.Dec.{T, eqb, ltb, leb, leb·suc-suc}
 
 pub and-l : {a : Bool} (b : Bool) → (a && b) ≡ true → a ≡ true
@@ -53,6 +54,10 @@ on-or false e f g = g e
 
 pub neither : {a b : Bool} → a ≡ false → b ≡ false → (a || b) ≡ false
 neither x y = rw (x, y)
+
+pub or-first : (a b : Bool) → (a || b) ≡ false → a ≡ false
+or-first false b e = refl
+or-first true b e = e
 
 pub T→is : {b : Bool} → T b → b ≡ true
 T→is {b = true} h = refl
@@ -138,3 +143,20 @@ ltb-shift n x y = bool-ext (ltb (n + x) (n + y)) (ltb x y) (λ e. let h = ltb-is
 
 pub eqb-shift : (n x y : ℕ) → eqb (n + x) (n + y) ≡ eqb x y
 eqb-shift n x y = bool-ext (eqb (n + x) (n + y)) (eqb x y) (λ e. let h = eqb-is (n + x) (n + y) e in is-eqb x y (omega arith)) (λ e. let h = eqb-is x y e in is-eqb (n + x) (n + y) (omega arith))
+
+-- half of a number
+pub half-leb : (x n : ℕ) → leb x (n / 2) ≡ leb (2 * x) n
+half-leb x n = go (decLe (2 * x) n)
+  where
+    go : Dec (2 * x ≤ n) → leb x (n / 2) ≡ leb (2 * x) n
+    go (yes h) = let l : x ≤ n / 2 = omega arith in le-leb _ _ l ∙ sym (le-leb _ _ h)
+    go (no h) = let l : n / 2 < x = omega arith in let g : n < 2 * x = omega arith in lt-leb _ _ l ∙ sym (lt-leb _ _ g)
+
+-- two numbers in one: by the first, and then by the second
+pub key-order : (a b s t : ℕ) → s < 16 → t < 16 → ltb (16 * a + s) (16 * b + t) ≡ (ltb a b || (eqb a b && ltb s t))
+key-order a b s t hs ht = go (order a b)
+  where
+    go : Order a b → ltb (16 * a + s) (16 * b + t) ≡ (ltb a b || (eqb a b && ltb s t))
+    go (less l) = rw (is-ltb a b l) (is-ltb (16 * a + s) (16 * b + t) (omega arith))
+    go (equal e) = rw (e, ltb-irrefl b, is-eqb b b refl) (ltb-shift (16 * b) s t)
+    go (more l) = rw (le-ltb a b (omega arith), ne-eqb a b (λ e. omega arith)) (le-ltb (16 * a + s) (16 * b + t) (omega arith))

@@ -1,6 +1,6 @@
 -- Lists.
---   sets-append set-before                        runs of stores
---   from from-end drop-take take-map drop-map take-set   parts
+--   sets-append set-before sets-before sets-behind sets-at sets-over   runs of stores
+--   from from-end take-again none-left drop-take take-map drop-map take-set   parts
 --   run-next run-end run-back part-back run-whole   a run that is stored word by word, and read again
 --   onto-sets length-onto take-onto drop-onto     words in front
 --   same-yes same-not same-next same-stop same-end same-lengths same-append   lists that are compared
@@ -8,6 +8,7 @@
 --   map-append map-map map-same, filter-map filter-same filter-append   each; by a test
 --   any-map any-same any-append, all-map all-same all-append
 --   gather-append gather-map gather-same map-gather, concat-append gather-concat, insert-map sort-map
+--   insert-map-in sort-map-in nil-same            where the order is kept of the elements at hand; no element
 --   length-mapAt, range-append range-next         with their places; numbers in a row
 use Prim.Native.Nat.{ℕ, zero, suc, _+_, _-_, _<_, _≤_}
 use mathlib.Core.Path.{_≡_, refl, ap, ap₂, sym, _∙_}
@@ -18,10 +19,10 @@ use native.Mathlib.Nat.{add-zero, add-suc, suc-add, zero-add, sub-zero}
 use native.Mathlib.Numerals.{add-one}
 use borrow.Author.Tests.{eq-eqb, ne-eqb}
 use lib.ListN.{length, getD, take, drop, set, length-append, length-drop, drop-of-length-le}
-use lib.Seq.{take-add, take-all, drop-cons, sets, sets-eq, set-comm, take-at, drop-at, take-append-le, drop-append-le, length-take-le, length-sets, take-append-seam, drop-append-seam}
-use Rattle.kinds.specs.Lists.{same, filter, any, all, insert, sort, gather, concat, mapAt, range, onto}
+use lib.Seq.{take-add, take-all, drop-cons, sets, sets-eq, set-comm, take-set-le, drop-set-lt, getD-set-other, take-at, drop-at, take-append-le, drop-append-le, length-take-le, length-sets, take-append-seam, drop-append-seam}
+use Rattle.kinds.specs.Lists.{same, filter, any, all, insert, sort, gather, concat, mapAt, range, onto, isNil}
 use Rattle.kinds.proofs.Bools.{is-eqb}
-use Rattle.kinds.proofs.Members.{_∈_, here, there, same-is, same-refl}
+use Rattle.kinds.proofs.Members.{_∈_, here, there, same-is, same-refl, in-sort}
 
 -- ---- runs of stores
 -- two runs back to back are one
@@ -38,6 +39,26 @@ set-before l i j v (x ∷ xs) h =
     set-before (set l j x) i (suc j) v xs (omega arith)
     ∙ ap (λ (m : List ℕ). sets m (suc j) xs) (set-comm l j i x v (λ e. omega arith))
 
+-- what stands before a run, and behind it
+pub sets-before : (vs l : List ℕ) (i n : ℕ) → n ≤ i → take n (sets l i vs) ≡ take n l
+sets-before [] l i n h = refl
+sets-before (v ∷ vs) l i n h = sets-before vs (set l i v) (suc i) n (omega arith) ∙ take-set-le n l i v h
+
+pub sets-behind : (vs l : List ℕ) (i n : ℕ) → i + length vs ≤ n → drop n (sets l i vs) ≡ drop n l
+sets-behind [] l i n h = refl
+sets-behind (v ∷ vs) l i n h = sets-behind vs (set l i v) (suc i) n (omega arith) ∙ drop-set-lt n l i v (omega arith)
+
+pub sets-at : (vs l : List ℕ) (i k : ℕ) → k < i → getD (sets l i vs) k 0 ≡ getD l k 0
+sets-at [] l i k h = refl
+sets-at (v ∷ vs) l i k h = sets-at vs (set l i v) (suc i) k (omega arith) ∙ getD-set-other l i k v 0 (λ e. omega arith)
+
+-- a run stored over another
+pub sets-over : (l vs ws : List ℕ) (i j : ℕ) → j ≤ i → i + length vs ≤ j + length ws → j + length ws ≤ length l → sets (sets l i vs) j ws ≡ sets l j ws
+sets-over l vs ws i j h g r =
+    sets-eq ws (sets l i vs) j (rw (length-sets l i vs) r)
+    ∙ ap₂ (λ a b. a ++ ws ++ b) (sets-before vs l i j h) (sets-behind vs l i (j + length ws) g)
+    ∙ sym (sets-eq ws l j r)
+
 -- ---- parts
 -- a list from its i-th on
 pub from : (l : List ℕ) (i : ℕ) → i < length l → drop i l ≡ getD l i 0 ∷ drop (i + 1) l
@@ -45,6 +66,16 @@ from l i h = rw (add-one i) (drop-cons l i 0 h)
 
 pub from-end : (l : List ℕ) (i : ℕ) → length l ≤ i → drop i l ≡ []
 from-end l i h = drop-of-length-le l h
+
+-- as many words as a part has are that part
+pub take-again : (k : ℕ) (l : List ℕ) → take (length (take k l)) l ≡ take k l
+take-again zero l = refl
+take-again (suc k) [] = refl
+take-again (suc k) (x ∷ l) = ap (λ t. x ∷ t) (take-again k l)
+
+pub none-left : {A : Type 0} (xs : List A) → length xs ≡ 0 → xs ≡ []
+none-left [] e = refl
+none-left (x ∷ xs) e = absurd (omega arith)
 
 -- a part behind a part
 pub drop-take : (m n : ℕ) (l : List ℕ) → m ≤ length l → drop m (take (m + n) l) ≡ take n (drop m l)
@@ -253,6 +284,26 @@ module _ {ℓ κ μ} {A : Type ℓ} {B : Type κ} {C : Type μ} where
   pub gather-map : (f : B → List C) (h : A → B) (xs : List A) → gather f (map h xs) ≡ gather (λ x. f (h x)) xs
   gather-map f h [] = refl
   gather-map f h (x ∷ xs) = ap (λ l. f (h x) ++ l) (gather-map f h xs)
+
+pub nil-same : {A B : Type 0} (h : A → B) (xs : List A) → isNil (map h xs) ≡ isNil xs
+nil-same h [] = refl
+nil-same h (x ∷ xs) = refl
+
+-- sorting and a map that keeps the order of the elements at hand
+module _ {ℓ κ} {A : Type ℓ} {B : Type κ} (h : A → B) (lt : A → A → Bool) (lt′ : B → B → Bool) where
+  pub insert-map-in : (a : A) (xs : List A) → ((x : A) → x ∈ xs → lt x a ≡ lt′ (h x) (h a)) → map h (insert lt a xs) ≡ insert lt′ (h a) (map h xs)
+  insert-map-in a [] e = refl
+  insert-map-in a (x ∷ xs) e = rw (← (e x (here refl))) (go (lt x a) (insert-map-in a xs (λ y m. e y (there m))))
+    where
+      go : (b : Bool) → map h (insert lt a xs) ≡ insert lt′ (h a) (map h xs) → map h (cond b (x ∷ insert lt a xs) (a ∷ x ∷ xs)) ≡ cond b (h x ∷ insert lt′ (h a) (map h xs)) (h a ∷ h x ∷ map h xs)
+      go true ih = ap (λ l. h x ∷ l) ih
+      go false ih = refl
+
+  pub sort-map-in : (xs : List A) → ((x y : A) → x ∈ xs → y ∈ xs → lt x y ≡ lt′ (h x) (h y)) → map h (sort lt xs) ≡ sort lt′ (map h xs)
+  sort-map-in [] e = refl
+  sort-map-in (x ∷ xs) e =
+      insert-map-in x (sort lt xs) (λ y m. e y x (there (in-sort lt xs m)) (here refl))
+      ∙ ap (insert lt′ (h x)) (sort-map-in xs (λ y z i j. e y z (there i) (there j)))
 
 -- ---- numbers in a row
 pub range-append : (c m n : ℕ) → range c (m + n) ≡ range c m ++ range (c + m) n

@@ -5,7 +5,7 @@
 --   in-filter filter-in, on-any any-of any-none, all-at all-of   by a test
 --   map-in on-map, gather-in on-gather           in what is made of each
 --   same-is same-refl                            equality of lists of numbers as a test
---   Distinct Without without distinct-le         no element twice; the pigeonhole
+--   Distinct distinct-map, Without without distinct-le   no element twice; the pigeonhole
 --   filter-split filter-le filter-at-most gather-length   how many
 --   Perm perm-refl perm-sym perm-length perm-in insert-perm sort-perm sort-in in-sort   the same elements, each as often
 --   range-in in-range length-range distinct-below       numbers in a row
@@ -258,3 +258,8 @@ pub in-drop : {A : Type 0} (n : ℕ) (xs : List A) {x : A} → x ∈ drop n xs �
 in-drop zero xs m = m
 in-drop (suc n) [] m = m
 in-drop (suc n) (y ∷ xs) m = there (in-drop n xs m)
+
+-- ---- no element twice, where different elements go to different ones
+pub distinct-map : {A B : Type 0} (f : A → B) (xs : List A) → ((a b : A) → a ∈ xs → b ∈ xs → f a ≡ f b → a ≡ b) → Distinct xs → Distinct (map f xs)
+distinct-map f [] h d = tt
+distinct-map f (x ∷ xs) h d = (λ m. on-map f xs m λ y i e. d .0 (rw (h x y (here refl) (there i) e) i), distinct-map f xs (λ a b i j. h a b (there i) (there j)) (d .1))

@@ -3,8 +3,10 @@
 --   getElem-some getElem-none                                 a word at a place, or none
 --   at-left at-right at-end at-map at-mapAt split-at          in lists put together and in what is made of each
 --   Ext ext-refl ext-trans at-ext ext-length getD-ext         a list that grew at its end
---   find-at                                                   the first that passes
-use mathlib.Core.Path.{_≡_, refl, ap, sym}
+--   find-at find-none find-more find-new find-same            the first that passes; in a longer list; in what is made of each
+--   on-mapAt                                                  in what is made of each with its place
+--   distinct-at                                               where nothing stands twice, equal entries stand at one place
+use mathlib.Core.Path.{_≡_, refl, ap, sym, _∙_}
 use mathlib.Core.Bool.{Bool, true, false, cond}
 use mathlib.Core.List.{List, [], _∷_, _++_, map, append-assoc, append-nil}
 use mathlib.Core.Option.{none, some}
@@ -13,7 +15,7 @@ use native.Mathlib.Omega.{arith}
 use native.Mathlib.Nat.{add-zero, zero-add}
 use lib.ListN.{length, getD, getElem?, take, drop, length-append, List·getD-append}
 use Rattle.kinds.specs.Lists.{find, mapAt}
-use Rattle.kinds.proofs.Members.{_∈_, here, there}
+use Rattle.kinds.proofs.Members.{_∈_, here, there, Distinct}
 use Rattle.kinds.proofs.Options.{none-not}
 
 module _ {ℓ} {A : Type ℓ} where
@@ -82,6 +84,31 @@ module _ {ℓ} {A : Type ℓ} where
       go true d z ih = let w : c ≡ i = cc in (0, rw (← w) (omega arith), (x, refl, d))
       go false d z ih = let r = ih z in (suc (r .0), rw (r .1) (omega arith), r .2)
 
+  pub find-none : (p : A → Bool) (s : List A) (c : ℕ) → find p s c ≡ none → (x : A) → x ∈ s → p x ≡ false
+  find-none p (y ∷ s) c e x m = go (p y) refl e m (find-none p s (suc c))
+    where
+      go : (b : Bool) → p y ≡ b → cond b (some c) (find p s (suc c)) ≡ none → x ∈ (y ∷ s) → (find p s (suc c) ≡ none → (x : _) → x ∈ s → p x ≡ false) → p x ≡ false
+      go true d z i ih = none-not (sym z)
+      go false d z (here i) ih = rw i d
+      go false d z (there i) ih = ih z x i
+
+  -- in a longer list
+  pub find-more : (p : A → Bool) (s t : List A) (c i : ℕ) → find p s c ≡ some i → find p (s ++ t) c ≡ some i
+  find-more p [] t c i e = none-not e
+  find-more p (x ∷ s) t c i e = go (p x) e (find-more p s t (suc c) i)
+    where
+      go : (b : Bool) → cond b (some c) (find p s (suc c)) ≡ some i → (find p s (suc c) ≡ some i → find p (s ++ t) (suc c) ≡ some i) → cond b (some c) (find p (s ++ t) (suc c)) ≡ some i
+      go true d ih = d
+      go false d ih = ih d
+
+  pub find-new : (p : A → Bool) (s : List A) (x : A) (t : List A) (c : ℕ) → find p s c ≡ none → p x ≡ true → find p (s ++ (x ∷ t)) c ≡ some (c + length s)
+  find-new p [] x t c e d = rw (d, add-zero c) refl
+  find-new p (y ∷ s) x t c e d = go (p y) e (λ h. find-new p s x t (suc c) h d)
+    where
+      go : (b : Bool) → cond b (some c) (find p s (suc c)) ≡ none → (find p s (suc c) ≡ none → find p (s ++ (x ∷ t)) (suc c) ≡ some (suc c + length s)) → cond b (some c) (find p (s ++ (x ∷ t)) (suc c)) ≡ some (c + suc (length s))
+      go true h ih = none-not (sym h)
+      go false h ih = let z : suc c + length s ≡ c + suc (length s) = omega arith in ih h ∙ ap some z
+
   -- places stay when a list grows at its end
   pub record Ext (s s′ : List A) : Type ℓ where
     pub more : List A
@@ -115,3 +142,18 @@ module _ {ℓ κ} {A : Type ℓ} {B : Type κ} where
   at-mapAt f c [] i e = none-not e
   at-mapAt f c (y ∷ s) zero {x} e = let z : y ≡ x = cc in rw (z, add-zero)
   at-mapAt f c (y ∷ s) (suc i) e = let d : suc c + i ≡ c + suc i = omega arith in rw (← d) (at-mapAt f (suc c) s i e)
+
+  pub on-mapAt {μ} : {C : Type μ} (f : ℕ → A → B) (c : ℕ) (s : List A) {y : B} → y ∈ mapAt f c s → ((i : ℕ) (x : A) → getElem? s i ≡ some x → y ≡ f (c + i) x → C) → C
+  on-mapAt f c (x ∷ s) (here e) k = k 0 x refl (rw add-zero e)
+  on-mapAt f c (x ∷ s) (there m) k = on-mapAt f (suc c) s m (λ i t a b. let z : suc c + i ≡ c + suc i = omega arith in k (suc i) t a (rw z at b))
+
+  pub find-same : (h : A → B) (p : A → Bool) (q : B → Bool) (s : List A) (c : ℕ) → ((x : A) → x ∈ s → p x ≡ q (h x)) → find p s c ≡ find q (map h s) c
+  find-same h p q [] c e = refl
+  find-same h p q (x ∷ s) c e = rw (e x (here refl), find-same h p q s (suc c) (λ y m. e y (there m)))
+
+pub distinct-at : (xs : List ℕ) → Distinct xs → (i k : ℕ) → i < length xs → k < length xs → getD xs i 0 ≡ getD xs k 0 → i ≡ k
+distinct-at [] d i k hi hk e = absurd (omega arith)
+distinct-at (x ∷ xs) d zero zero hi hk e = refl
+distinct-at (x ∷ xs) d zero (suc k) hi hk e = absurd (d .0 (rw e (getD-in xs k 0 (omega arith))))
+distinct-at (x ∷ xs) d (suc i) zero hi hk e = absurd (d .0 (rw (← e) (getD-in xs i 0 (omega arith))))
+distinct-at (x ∷ xs) d (suc i) (suc k) hi hk e = ap suc (distinct-at xs (d .1) i k (omega arith) (omega arith) e)

@@ -7,6 +7,7 @@
 --   gather concat    lists put one after the other
 --   mapAt range sum  each with its place; numbers in a row; their sum
 --   bind need        go on with what there is; go on only if the test holds
+--   orElse           a number that there is, or another
 --   onto             words in front, the others as they were
 use mathlib.Core.List.{List, [], _∷_, _++_, map}
 use mathlib.Core.Bool.{Bool, true, false, cond, _&&_, _||_}
@@ -76,6 +77,10 @@ module _ {ℓ κ} {A : Type ℓ} {B : Type κ} where
   abbrev pub bind : Option A → (A → Option B) → Option B
   bind none f = none
   bind (some a) f = f a
+
+abbrev pub orElse : Option ℕ → ℕ → ℕ
+orElse (some i) d = i
+orElse none d = d
 
 -- i, i + 1, …: n numbers
 abbrev pub range : ℕ → ℕ → List ℕ

@@ -27,12 +27,13 @@ use Rattle.kinds.proofs.ListLaws.{onto-sets}
 use Rattle.folio.specs.Again.{shapesGood}
 use Rattle.automaton.specs.Exploring.{Block, Made, refused, made, explored}
 use Rattle.automaton.specs.PlanWords.{Plan, halted, too-long, plan-of, planWords, toPlan, planned}
+use Rattle.automaton.specs.FinalBlocks.{allBlocks, SmallOn}
+use Rattle.automaton.proofs.BlocksAgain.{blocks-again}
 use Rattle.plan.specs.GoalWords.{GoalWords}
 use Rattle.plan.specs.WordStages.{sameW, amongW, withinW, sameStateW}
 use Rattle.plan.specs.WordMachine.{words, statesIn, Kept}
 use Rattle.plan.specs.GoodStates.{Ready}
 use Rattle.plan.specs.Meeting.{AllGood, wordsOf, ExploredIs}
-use Rattle.plan.specs.FinalBlocks.{allBlocks, SmallOn}
 use Rattle.plan.specs.Building.{Out, cleared, size, written, planOf, buildOf, refuse}
 use Rattle.folio.specs.Folio.{shapeTerms}
 use Rattle.plan.specs.declared.Built.{Built}
@@ -40,7 +41,6 @@ use Rattle.plan.specs.declared.Built.the-variants as built
 use Rattle.plan.specs.declared.Explored.{Explored}
 use Rattle.plan.specs.declared.Explored.the-variants as result
 use Rattle.plan.proofs.StateLaws.{states-length}
-use Rattle.plan.proofs.BlocksAgain.{explored-again}
 use Rattle.plan.proofs.WriteLaws.{plan-length}
 
 -- ---- the first k words zero
@@ -115,8 +115,7 @@ module _ (ar tab : List ℕ) (n : ℕ) where
       go t =
           let bs = t .2 .0 in
           let long = states-length sc m in
-          let few = t .0 .few in
-          let again = explored-again (words tab n) same-self ar (statesIn sc m) bs (t .2 .1) (rw long few) in
+          let again = blocks-again (words tab n) same-self ar (statesIn sc m) bs (t .2 .1) in
           let many : w ≡ wordsOf (allBlocks (words tab n) (statesIn sc m) ar) = t .2 .2 ∙ ap wordsOf (again .0) in
           record {
             kept = t .0;

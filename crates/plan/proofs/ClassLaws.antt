@@ -2,7 +2,7 @@
 use Prim.Native.Nat.{ℕ, zero, suc, _+_, _-_, _*_, _<_, _≤_}
 use mathlib.Core.Path.{_≡_, refl, ap, ap₂, sym, _∙_}
 use mathlib.Core.List.{List, [], _∷_, map}
-use mathlib.Core.Bool.{Bool, true, false, cond, not, _&&_}
+use mathlib.Core.Bool.{Bool, true, false, not, _&&_}
 use native.Mathlib.Omega.{arith}
 use native.Mathlib.Nat.{sub-zero}
 use native.Mathlib.Numerals.{add-one}
@@ -10,6 +10,7 @@ use lib.ListN.{length, getD, drop}
 use lib.Seq.{drop-cons}
 use Rattle.automaton.specs.Goals.{Goal}
 use Rattle.automaton.specs.Classes.{leads, picked}
+use Rattle.automaton.proofs.Classes.{picked-map}
 use Rattle.kinds.specs.Lists.{gather}
 use Rattle.term.specs.Terms.{Term}
 use Rattle.plan.specs.GoalWords.{GoalWords, goalAt, goalsFrom, flat, owedBy, firstCode}
@@ -65,13 +66,7 @@ pick-all row ws n = rw (sub-zero n) refl
 -- under the decoding
 pub picked-is : (shapes : List Term) (bs : List Bool) (gs : List GoalWords) → stateOf shapes (pickedW bs gs) ≡ picked bs (stateOf shapes gs)
 unfolding pickedW
-picked-is shapes [] gs = refl
-picked-is shapes (b ∷ bs) [] = refl
-picked-is shapes (b ∷ bs) (g ∷ gs) = go b (picked-is shapes bs gs)
-  where
-    go : (b : Bool) → stateOf shapes (pickedW bs gs) ≡ picked bs (stateOf shapes gs) → stateOf shapes (cond b (g ∷ pickedW bs gs) (pickedW bs gs)) ≡ cond b (goalOf shapes g ∷ picked bs (stateOf shapes gs)) (picked bs (stateOf shapes gs))
-    go true e = ap (λ s. goalOf shapes g ∷ s) e
-    go false e = e
+picked-is shapes bs gs = picked-map (goalOf shapes) bs gs
 
 module _ (tab ws : List ℕ) (at k best : ℕ) where
   pub all-next : 0 < k → firstCode best (gather (owedBy tab) (goalsFrom ws at k)) ≡ firstCode (firstCode best (owedBy tab (goalAt ws at))) (gather (owedBy tab) (goalsFrom ws (at + 3) (k - 1)))

@@ -1,5 +1,4 @@
 -- The classes on words are the classes, in the same order.
---   insert-map-in sort-map-in   sorting and a map that keeps the order of the elements at hand
 --   closed-words                the closed square on words is the closed square
 --   owed-all                    the codes that goals owe are the codes of all their obligations
 --   Owing row-owing             goals that are Fine and owe something; those of a row that begins a class
@@ -7,15 +6,15 @@
 --   classes-is                  for Fine goals that each owe something
 use mathlib.Core.Path.{_≡_, refl, ap, ap₂, sym, _∙_, subst}
 use mathlib.Core.List.{List, [], _∷_, map}
-use mathlib.Core.Bool.{Bool, true, false, cond}
+use mathlib.Core.Bool.{Bool}
 use Prim.Native.Nat.{ℕ, _<_}
 use native.Mathlib.Nat.{zero-add}
 use lib.Dec.{ltb}
 use lib.ListN.{length, length-map}
-use Rattle.kinds.specs.Lists.{insert, sort, gather, range}
+use Rattle.kinds.specs.Lists.{sort, gather, range}
 use Rattle.kinds.specs.Positions.{Pos, code}
-use Rattle.kinds.proofs.ListLaws.{map-map, map-same, gather-same, gather-map, map-gather}
-use Rattle.kinds.proofs.Members.{_∈_, here, there, in-none, on-map, on-gather, in-sort}
+use Rattle.kinds.proofs.ListLaws.{map-map, map-same, gather-same, gather-map, map-gather, sort-map-in}
+use Rattle.kinds.proofs.Members.{_∈_, here, in-none, on-map, on-gather}
 use Rattle.term.specs.Terms.{Term}
 use Rattle.automaton.specs.Bare.{bare}
 use Rattle.automaton.specs.Goals.{Goal, allObs, first}
@@ -30,22 +29,6 @@ use Rattle.plan.proofs.GoalDecoded.{Fine, owed-is}
 use Rattle.plan.proofs.LabelDecoded.{Fit, first-from}
 use Rattle.plan.proofs.DepDecoded.{fit-obs, dep-is}
 use Rattle.plan.proofs.ClassLaws.{picked-is}
-use Rattle.plan.proofs.FineSound.{picked-within}
-
-module _ {ℓ κ} {A : Type ℓ} {B : Type κ} (h : A → B) (lt : A → A → Bool) (lt′ : B → B → Bool) where
-  pub insert-map-in : (a : A) (xs : List A) → ((x : A) → x ∈ xs → lt x a ≡ lt′ (h x) (h a)) → map h (insert lt a xs) ≡ insert lt′ (h a) (map h xs)
-  insert-map-in a [] e = refl
-  insert-map-in a (x ∷ xs) e = rw (← (e x (here refl))) (go (lt x a) (insert-map-in a xs (λ y m. e y (there m))))
-    where
-      go : (b : Bool) → map h (insert lt a xs) ≡ insert lt′ (h a) (map h xs) → map h (cond b (x ∷ insert lt a xs) (a ∷ x ∷ xs)) ≡ cond b (h x ∷ insert lt′ (h a) (map h xs)) (h a ∷ h x ∷ map h xs)
-      go true ih = ap (λ l. h x ∷ l) ih
-      go false ih = refl
-
-  pub sort-map-in : (xs : List A) → ((x y : A) → x ∈ xs → y ∈ xs → lt x y ≡ lt′ (h x) (h y)) → map h (sort lt xs) ≡ sort lt′ (map h xs)
-  sort-map-in [] e = refl
-  sort-map-in (x ∷ xs) e =
-      insert-map-in x (sort lt xs) (λ y m. e y x (there (in-sort lt xs m)) (here refl))
-      ∙ ap (insert lt′ (h x)) (sort-map-in xs (λ y z i j. e y z (there i) (there j)))
 
 module _ (shapes : List Term) (tab : List ℕ) (tables : (s : ℕ) → s < length shapes → TableOf tab s (shapeAt shapes s)) where
   pub closed-words : (gs : List GoalWords) → ((g : GoalWords) → g ∈ gs → Fine shapes g) → closedW tab gs ≡ closed (bare shapes) (stateOf shapes gs)
@@ -96,13 +79,14 @@ module _ (shapes : List Term) (tab : List ℕ) (tables : (s : ℕ) → s < lengt
 
   pub row-owing : (gs : List GoalWords) → ((g : GoalWords) → g ∈ gs → Fine shapes g) → ((g : Goal Pos) → g ∈ stateOf shapes gs → (o : Pos) × (o ∈ g .obs))
       → (bs : List Bool) → bs ∈ rowsFrom 0 (closed (bare shapes) (stateOf shapes gs)) → Owing (pickedW bs gs)
+  unfolding pickedW
   row-owing gs fine owing bs m =
       on-row (closed (bare shapes) (stateOf shapes gs)) 0 m λ k e l.
       let c : Class (bare shapes) (stateOf shapes gs) (picked bs (stateOf shapes gs)) = record { lead = k; row = bs; is-row = e; begins = rw zero-add at l; is = refl } in
       let g = class-some (bare shapes) (stateOf shapes gs) (picked bs (stateOf shapes gs)) c in
       let o = owing (g .0) (picked-in bs (stateOf shapes gs) (g .0) (g .1)) in
       record {
-        fine = λ h i. fine h (picked-within bs gs h i);
+        fine = λ h i. fine h (picked-in bs gs h i);
         some-ob = o .0;
         owed = rw (picked-is shapes bs gs) (owes (g .1) (o .1));
       }

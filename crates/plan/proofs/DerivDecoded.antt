@@ -1,6 +1,6 @@
 -- The derivative and the label on words are those of the construction.
 use mathlib.Core.Path.{_≡_, refl, ap, ap₂, sym, _∙_}
-use mathlib.Core.List.{List, [], _∷_, _++_, map, append-assoc}
+use mathlib.Core.List.{List, [], _∷_, _++_, map, append-assoc, append-nil}
 use mathlib.Core.Bool.{Bool, true, false, cond, not, _&&_, _||_}
 use mathlib.Core.Option.{Option, none, some}
 use Prim.Native.Nat.{ℕ, zero, suc, _+_, _-_, _*_, _/_, _%_, _^_, _≤_, _<_}
@@ -12,9 +12,9 @@ use Rattle.automaton.specs.Bare.{bare, fresh}
 use Rattle.automaton.specs.Goals.{Goal, State, reduced, label, deriv}
 use Rattle.kinds.proofs.Codes.{Proper, proper-nil, proper-cons, proper-append, codeFrom-append, decode-proper}
 use Rattle.kinds.proofs.Members.{_∈_, here, there, ∈-append, ∈-left, ∈-right, in-range}
+use Rattle.kinds.proofs.ListLaws.{map-append}
 use Rattle.kinds.specs.Lists.{any, filter, gather, range, same, isNil}
 use Rattle.kinds.specs.Positions.{Pos, before, code, codeFrom, decodeTo, decode}
-use Rattle.plan.proofs.ShapeNodes.{append-nil, map-append}
 use Rattle.plan.proofs.MaskReduced.{select-one, dom-below, below, gather-append}
 use Rattle.plan.proofs.GoalDecoded.{Fine, owed-is, stays-is, moves-is}
 use Rattle.plan.specs.Decoding.{select, shapeAt, goalOf, stateOf, TableOf}
@@ -28,7 +28,7 @@ last true h ys = refl
 last false h ys = refl
 
 -- the fresh goal of a shape
-fresh-is : (shapes : List Term) (a j : ℕ) → goalOf shapes (freshW a j) ≡ fresh (decode a) j
+pub fresh-is : (shapes : List Term) (a j : ℕ) → goalOf shapes (freshW a j) ≡ fresh (decode a) j
 fresh-is shapes a j =
     ap (λ qs. record { shape = j; ann = decode a; obs = map (λ r. decode a ++ r) qs }) (ap (select 1) (dom-below (shapeAt shapes j)) ∙ select-one [] (below (shapeAt shapes j)))
     ∙ ap (λ p. record { shape = j; ann = decode a; obs = p ∷ [] }) (append-nil (decode a))

@@ -4,21 +4,17 @@ use mathlib.Core.Path.{_≡_, refl, ap, ap₂, sym, _∙_}
 use mathlib.Core.List.{List, [], _∷_, _++_, map, append-assoc}
 use mathlib.Core.Bool.{Bool, true, false, cond}
 use native.Mathlib.Omega.{arith}
-use native.Mathlib.Nat.{add-zero, add-suc, suc-add, zero-add, sub-zero}
+use native.Mathlib.Nat.{zero-add, sub-zero}
 use native.Mathlib.Numerals.{add-one}
 use borrow.Author.Tests.{eq-eqb, ne-eqb, lt-ltb, le-ltb}
 use lib.Dec.{eqb, ltb}
-use lib.ListN.{length, getD, take, drop, set, length-append}
+use lib.ListN.{length, getD, take, drop, length-append}
 use lib.Seq.{sets}
 use Rattle.kinds.specs.Lists.{gather, range}
+use Rattle.kinds.proofs.ListLaws.{sets-append}
 use Rattle.plan.specs.GoalWords.{GoalWords, goalW, goalAt, goalsFrom, flat, nodeAt, symOf, kidsOf, maskAfter}
 use Rattle.plan.specs.WordStages.{stays, moves, reduct, goesOn, withMask, freshW, freshesW, bornW, derivW}
 use Rattle.plan.proofs.GoalLaws.{goals-next, goals-end}
-
--- two runs back to back are one
-pub sets-append : (l : List ℕ) (i : ℕ) (xs ys : List ℕ) → sets l i (xs ++ ys) ≡ sets (sets l i xs) (i + length xs) ys
-sets-append l i [] ys = rw add-zero
-sets-append l i (x ∷ xs) ys = sets-append (set l i x) (suc i) xs ys ∙ ap (λ (n : ℕ). sets (sets (set l i x) (suc i) xs) n ys) (suc-add i (length xs) ∙ sym (add-suc i (length xs)))
 
 pub flat-append : (gs hs : List GoalWords) → flat (gs ++ hs) ≡ flat gs ++ flat hs
 unfolding flat

@@ -27,13 +27,14 @@ use Rattle.kinds.proofs.ListLaws.{map-append, concat-append, from, from-end, ru
 use Rattle.kinds.proofs.Places.{getElem-some, getD-in, getD-ext, ext-length}
 use Rattle.automaton.specs.Exploring.{Succ, Block, Met, stopped, met, Made, refused, made, meet, meets, row, run, explored}
 use Rattle.automaton.specs.PlanWords.{blockWords}
+use Rattle.automaton.specs.FinalBlocks.{succOf}
+use Rattle.automaton.proofs.BlocksAgain.{meet-found, meets-found}
 use Rattle.plan.specs.GoalWords.{GoalWords, goalAt, goalsFrom, flat, Low, labelCode}
 use Rattle.plan.specs.WordStages.{freshesW, freshW, derivW, leastCode, liftW, sameStateW, pickedW, classesW, reduct, annKey, announces, outputsW}
 use Rattle.plan.specs.WordMachine.{words, stateIn, statesIn, Kept}
 use Rattle.plan.specs.GoodStates.{Ready, GoodState}
 use Rattle.plan.specs.Orders.{keyed, classAt, outItems, leadItems, goalOn}
 use Rattle.plan.specs.Meeting.{placeOf, liftedW, AllGood, wordsOf, MetIs, RowIs, ExploredIs}
-use Rattle.plan.specs.FinalBlocks.{succOf}
 use Rattle.plan.specs.declared.Met.{Met as Going}
 use Rattle.plan.specs.declared.Met.the-variants as going
 use Rattle.plan.specs.declared.Explored.the-variants as result
@@ -44,7 +45,7 @@ use Rattle.plan.proofs.StateLaws.{states-length, states-at, added, stat
 use Rattle.plan.proofs.SortLaws.{sort-length}
 use Rattle.plan.proofs.OrderLaws.{keyed-count}
 use Rattle.plan.proofs.InOrder.{outputs-in-order, items-low}
-use Rattle.plan.proofs.MeetLaws.{meet-big, meet-known, meet-full, meet-new, onto, meets-begin, meets-stop, meets-on, meets-end, row-stop, row-on, run-stop, run-on, run-end, Found, meet-found, meets-found}
+use Rattle.plan.proofs.MeetLaws.{meet-big, meet-known, meet-full, meet-new, onto, meets-begin, meets-stop, meets-on, meets-end, row-stop, row-on, run-stop, run-on, run-end}
 use Rattle.plan.proofs.GoodLaws.{good-start, good-low, good-label, good-next, deriv-low, deriv-room}
 
 -- ---- one class

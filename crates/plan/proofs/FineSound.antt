@@ -1,14 +1,13 @@
 -- The words of goals that decode to sound ones keep what the laws of the stages ask of them: those of a good state, of its derivatives and of their classes.
 --   Bounded bounded-within      codes and masks within their bounds; a part of such goals
 --   GoodFor good-for for-good   a good state, for tables that are given; a GoodState is one for its own
---   nth-fits fits-sub           what fits does so at each child and each position
 --   sound-fine good-fine        bounded words of sound goals are Fine; so are those of a good state
 --   label-small label-code label-low   its label is a small position, whose code the words find, at most 3,124
 --   deriv-decoded               the derivative on words is the derivative
 --   reduct-for                  what reducing at the label makes of a goal of it
 --   FromWords deriv-from        a goal of the derivative stayed, moved on with its mask reduced, or is born
 --   deriv-bounded deriv-goals-sound deriv-fine   so the derivative is bounded, sound and Fine
---   picked-within class-within class-fine        a class has goals of its list only
+--   class-within class-fine     a class has goals of its list only
 use mathlib.Core.Path.{_≡_, refl, ap₂, sym, _∙_, subst}
 use mathlib.Core.List.{List, [], _∷_, _++_, map, append-nil}
 use mathlib.Core.Bool.{Bool, true, false, cond}
@@ -23,11 +22,12 @@ use Rattle.kinds.specs.Lists.{gather, range}
 use Rattle.kinds.specs.Positions.{Pos, code, decode}
 use Rattle.kinds.proofs.Codes.{Small, small-snoc, small-code, code-snoc}
 use Rattle.kinds.proofs.ListLaws.{append-same}
-use Rattle.kinds.proofs.Members.{_∈_, here, there, _⊆_, in-none, in-one, ∈-append, filter-in, gather-in, on-gather, map-in, on-map, in-range, in-sort}
-use Rattle.kinds.proofs.Options.{none-not, on-bind}
+use Rattle.kinds.proofs.Members.{_∈_, _⊆_, in-none, in-one, ∈-append, filter-in, gather-in, on-gather, map-in, on-map, in-range, in-sort}
 use Rattle.kinds.proofs.Places.{at-below, getD-at}
-use Rattle.term.specs.Terms.{Term, blank, node, Terms, tnil, tcons, count, span, Fits, Fitss}
-use Rattle.term.specs.Places.{nth, sub}
+use Rattle.term.specs.Terms.{Term, blank, node, Terms, count, span, Fits}
+use Rattle.term.specs.Places.{sub}
+use Rattle.term.proofs.Subterms.{fits-sub}
+use Rattle.term.proofs.Sizes.{span-pos}
 use Rattle.folio.specs.Folio.{IsShape}
 use Rattle.automaton.specs.Bare.{bare}
 use Rattle.automaton.specs.Goals.{State, isRoot, label, deriv}
@@ -36,6 +36,7 @@ use Rattle.automaton.proofs.Derivative.{owes}
 use Rattle.automaton.proofs.Sound.{Real, Sound, SoundState}
 use Rattle.automaton.proofs.Apart.{label-owes}
 use Rattle.automaton.proofs.Reachable.{deriv-sound}
+use Rattle.automaton.proofs.Classes.{picked-in}
 use Rattle.plan.specs.GoalWords.{GoalWords, nodeAt, labelCode}
 use Rattle.plan.specs.WordStages.{stays, moves, reduct, goesOn, withMask, freshW, freshesW, bornW, derivW, pickedW, closedW, classBeforeW, classesW}
 use Rattle.plan.specs.Decoding.{shapeAt, goalOf, stateOf}
@@ -45,7 +46,6 @@ use Rattle.plan.proofs.Goalwise.{goal-apart}
 use Rattle.plan.proofs.LabelDecoded.{rootObs, label-is}
 use Rattle.plan.proofs.DerivDecoded.{deriv-is}
 use Rattle.plan.proofs.ReductDecoded.{Reduct, missed, cut, reduct-is}
-use Rattle.plan.proofs.TableSeek.{span-pos}
 
 pub record Bounded (shapes : List Term) (gs : List GoalWords) : Type 0 where
   pub code : (g : GoalWords) → g ∈ gs → g .an < 78125
@@ -65,19 +65,7 @@ good-for w = record { sound = w .sound; few = w .few; bounded = record { code = 
 pub for-good : {ar tab : List ℕ} {n : ℕ} (r : Ready ar tab n) (gs : List GoalWords) → GoodFor r gs → GoodState ar tab n gs
 for-good r gs w = record { ready = r; sound = w .sound; few = w .few; code = w .bounded .code; mask = w .bounded .mask }
 
--- ---- what fits
-pub nth-fits : (ar : List ℕ) (bl : ℕ) (ts : Terms) (i : ℕ) {u : Term} → Fitss ar bl ts → nth ts i ≡ some u → Fits ar bl u
-nth-fits ar bl tnil i h e = none-not e
-nth-fits ar bl (tcons t ts) zero {u} h e = let z : u ≡ t = cc in rw z (h .0)
-nth-fits ar bl (tcons t ts) (suc i) h e = nth-fits ar bl ts i (h .1) e
-
-pub fits-sub : (ar : List ℕ) (bl : ℕ) (p : Pos) (t : Term) {u : Term} → Fits ar bl t → sub t p ≡ some u → Fits ar bl u
-fits-sub ar bl [] t {u} h e = let z : u ≡ t = cc in rw z h
-fits-sub ar bl (i ∷ p) (blank w) h e = none-not e
-fits-sub ar bl (zero ∷ p) (node f ts) h e = none-not e
-fits-sub ar bl (suc i ∷ p) (node f ts) h e = on-bind (nth ts i) _ e λ v ev d. fits-sub ar bl p v (nth-fits ar bl ts i (h .2) ev) d
-
--- past the shapes stands a blank, which fits
+-- ---- past the shapes stands a blank, which fits
 shape-fits : (ar : List ℕ) (shapes : List Term) → ((i : ℕ) (t : Term) → getElem? shapes i ≡ some t → IsShape ar t) → (s : ℕ) → Fits ar 65535 (shapeAt shapes s)
 shape-fits ar [] h s = omega arith
 shape-fits ar (t ∷ ts) h zero = h 0 t refl .fits
@@ -215,19 +203,11 @@ module _ {ar tab : List ℕ} {n : ℕ} (r : Ready ar tab n) where
       deriv-fine = sound-fine D deriv-goals-sound deriv-bounded
 
 -- ---- classes
-pub picked-within : (bs : List Bool) (gs : List GoalWords) → pickedW bs gs ⊆ gs
-unfolding pickedW
-picked-within [] gs g m = in-none m
-picked-within (b ∷ bs) [] g m = in-none m
-picked-within (true ∷ bs) (h ∷ gs) g (here e) = here e
-picked-within (true ∷ bs) (h ∷ gs) g (there m) = there (picked-within bs gs g m)
-picked-within (false ∷ bs) (h ∷ gs) g m = there (picked-within bs gs g m)
-
 pub class-within : (tab : List ℕ) (gs c : List GoalWords) → c ∈ classesW tab gs → c ⊆ gs
-unfolding classesW
+unfolding classesW pickedW
 class-within tab gs c m g i =
     on-map (λ bs. pickedW bs gs) (rowsFrom 0 (closedW tab gs)) (in-sort (classBeforeW tab) (map (λ bs. pickedW bs gs) (rowsFrom 0 (closedW tab gs))) m) λ bs j e.
-    picked-within bs gs g (rw (← e) i)
+    picked-in bs gs g (rw (← e) i)
 
 pub class-fine : {ar tab : List ℕ} {n : ℕ} (r : Ready ar tab n) (gs : List GoalWords) (good : GoodFor r gs) (f k : ℕ) (a : getElem? ar f ≡ some k)
     → (c : List GoalWords) → c ∈ classesW tab (derivW tab n (labelCode tab gs) f k gs) → (g : GoalWords) → g ∈ c → Fine (r .shapes) g

@@ -1,35 +1,23 @@
 -- The greatest common prefix of a class in words: the least announcement code.
 use mathlib.Core.Path.{_≡_, refl, ap, ap₂, sym, _∙_}
-use mathlib.Core.List.{List, [], _∷_, _++_, map}
+use mathlib.Core.List.{List, [], _∷_, _++_, map, append-nil}
 use mathlib.Core.Bool.{Bool, true, false, cond}
 use mathlib.Core.Logic.{_⊎_, inl, inr, ⊎-elim}
-use Prim.Native.Nat.{ℕ, zero, suc, _+_, _*_, _^_, _≤_, _<_}
+use Prim.Native.Nat.{ℕ, _+_, _≤_, _<_}
 use native.Mathlib.Omega.{arith}
-use native.Mathlib.Nat.{mul-le-mul-left, mul-one, pow-suc}
+use native.Mathlib.Nat.{mul-one}
 use native.Mathlib.Decide.{decLt}
 use borrow.Author.Tests.{lt-ltb, le-ltb, eq-eqb}
 use lib.Dec.{ltb, eqb}
-use lib.ListN.{length}
 use Rattle.automaton.specs.Classes.{gcp, gcpFrom}
 use Rattle.automaton.specs.Goals.{Goal, State}
-use Rattle.kinds.proofs.Codes.{code-join, code-of}
+use Rattle.kinds.proofs.Codes.{code-of, code-le}
 use Rattle.kinds.proofs.Members.{_∈_, here, there}
 use Rattle.kinds.specs.Positions.{Pos, code, join, decode}
-use Rattle.plan.proofs.ShapeNodes.{append-nil}
 use Rattle.plan.specs.Decoding.{goalOf, stateOf}
 use Rattle.plan.specs.GoalWords.{GoalWords}
 use Rattle.plan.specs.WordStages.{leastCode}
 use Rattle.term.specs.Terms.{Term}
-
-five-pos : (n : ℕ) → 1 ≤ 5 ^ n
-five-pos zero = omega arith
-five-pos (suc n) = let z = five-pos n in omega (arith, pow-suc 5 n)
-
-pub code-le : (T q : Pos) → code T ≤ code (T ++ q)
-code-le T q =
-    let m : code T * 1 ≤ code T * 5 ^ length q = mul-le-mul-left (code T) (five-pos (length q)) in
-    let e = code-join T q in
-    omega (arith, m, e)
 
 -- a number that is met, and no number is less
 pub record Met (t : ℕ) (gs : List GoalWords) : Type 0 where

@@ -1,6 +1,6 @@
 -- The construction on words is the construction, under the decoding.
 use mathlib.Core.Path.{_≡_, refl, ap, ap₂, sym, _∙_}
-use mathlib.Core.List.{List, [], _∷_, _++_, map, append-assoc}
+use mathlib.Core.List.{List, [], _∷_, _++_, map, append-assoc, append-nil}
 use mathlib.Core.Bool.{Bool, true, false, cond, not, _&&_, _||_, false≢true}
 use mathlib.Core.Option.{Option, none, some}
 use Prim.Native.Nat.{ℕ, zero, suc, _+_, _-_, _*_, _/_, _%_, _^_, _≤_, _<_}
@@ -20,9 +20,10 @@ use Rattle.automaton.specs.Goals.{Goal, reduced}
 use Rattle.kinds.proofs.Bools.{eqb-is}
 use Rattle.kinds.proofs.Codes.{Proper, code-join, code-of, decode-proper, code-same}
 use Rattle.kinds.proofs.Members.{_∈_, here, there, same-refl, any-of}
+use Rattle.kinds.proofs.Prefixes.{strip-append}
 use Rattle.kinds.specs.Lists.{any, filter, gather, bind, same, isNil}
-use Rattle.kinds.specs.Positions.{Pos, code, strip, decode}
-use Rattle.plan.proofs.ShapeNodes.{Node, node-of, length-dom, kidsIn, headWord, append-nil}
+use Rattle.kinds.specs.Positions.{Pos, code, decode}
+use Rattle.plan.proofs.ShapeNodes.{Node, node-of, kidsIn, headWord}
 use Rattle.plan.proofs.MaskReduced.{below, args-select, swap-mask, dom-below, span-below, roots-below, swapped}
 use Rattle.plan.proofs.Selecting.{select-at, select-zero, select-none}
 use Rattle.plan.specs.Decoding.{select, roots, shapeAt, goalOf, TableOf}
@@ -30,6 +31,7 @@ use Rattle.plan.specs.GoalWords.{GoalWords, codeAt, sizeOf, symOf, kidsO
 use Rattle.plan.specs.WordStages.{stays, moves, reduct, goesOn, withMask}
 use Rattle.term.specs.Places.{sub, dom}
 use Rattle.term.specs.Terms.{count, Term, blank, node, Terms, tnil, tcons, span, flatten}
+use Rattle.term.proofs.Subterms.{length-dom}
 
 -- what the words of a goal have to keep
 pub record Fine (shapes : List Term) (g : GoalWords) : Type 0 where
@@ -108,16 +110,12 @@ module _ (tab : List ℕ) (s a : ℕ) (pa : Pos) where
             later k (lacks x z) = lacks x (k z)
             later k (found i x l b w) = found (suc i) (x ∙ shift r i) (omega arith) (half-bit m i b) w
 
-strip-append : (a p : Pos) → strip a (a ++ p) ≡ p
-strip-append [] p = refl
-strip-append (i ∷ a) p = strip-append a p
-
 shape-at : (shapes : List Term) (s : ℕ) → s < length shapes → getElem? shapes s ≡ some (shapeAt shapes s)
 shape-at [] s h = absurd (omega arith)
 shape-at (t ∷ ts) zero h = refl
 shape-at (t ∷ ts) (suc s) h = shape-at ts s (omega arith)
 
-node-pos : (t : Term) (r : ℕ) (o : Node t r) → getD (dom t) r [] ≡ o .at
+pub node-pos : (t : Term) (r : ℕ) (o : Node t r) → getD (dom t) r [] ≡ o .at
 node-pos t r o =
     ap (λ d. getD d r []) (o .split ∙ ap (λ d. o .left ++ (map (λ q. o .at ++ q) d ++ o .right)) (dom-below (o .under)))
     ∙ getD-at (o .left) (o .at ++ []) (map (λ q. o .at ++ q) (below (o .under)) ++ o .right) [] r (o .count)

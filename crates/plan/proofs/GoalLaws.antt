@@ -9,7 +9,8 @@ use native.Mathlib.Numerals.{add-one}
 use borrow.Author.Tests.{eq-eqb, ne-eqb, lt-ltb, le-ltb}
 use lib.Dec.{eqb, ltb}
 use lib.ListN.{length, getD, take, drop, set, drop-of-length-le}
-use lib.Seq.{drop-cons, sets, sets-eq, take-append-seam}
+use lib.Seq.{sets, sets-eq, take-append-seam}
+use Rattle.kinds.proofs.ListLaws.{from}
 use Rattle.plan.specs.GoalWords.{owedFrom, owedCodes, nodeFrom, codeAt, firstCode, pad, goalAt, goalsFrom, Low, rootCodes}
 use Rattle.plan.specs.WordStages.{hasCode, sharing}
 use Rattle.plan.specs.Sharing.{firstShared, pick, isAt}
@@ -58,10 +59,6 @@ module _ (tab : List ℕ) (s a : ℕ) where
 -- one store of a run
 pub run-on : (l : List ℕ) (i v : ℕ) (vs : List ℕ) → sets l i (v ∷ vs) ≡ sets (set l i v) (i + 1) vs
 run-on l i v vs = rw (add-one i)
-
--- a list from j on is its element there, and the list from j + 1 on
-pub from : (l : List ℕ) (j : ℕ) → j < length l → drop j l ≡ getD l j 0 ∷ drop (j + 1) l
-from l j h = rw (add-one, drop-cons l j 0)
 
 module _ (x : ℕ) (b : List ℕ) (j : ℕ) where
   pub has-next : j < length b → (getD b j 0 ≡ x → ⊥) → hasCode x (drop j b) ≡ hasCode x (drop (j + 1) b)

@@ -1,5 +1,5 @@
 -- Good states: where building begins, where it goes on, and the bounds that hold on the way.
---   fresh-goal start-decoded   the fresh goals on words are those of the initial state
+--   start-decoded              the fresh goals on words are those of the initial state
 --   start-good                 the initial state is good for tables that are given
 --   good-start good-next       the initial state is good; so is a class of at most 32 goals of a good state's derivative, lifted
 --   good-low deriv-low         shape numbers are below 16, in a good state and in its derivatives
@@ -8,7 +8,7 @@
 --   least-small least-back     a class's displacement code is at most 15,624, and the code of a position
 --   output-small output-back   so is the code of each announcement
 use mathlib.Core.Path.{_≡_, refl, ap, sym, _∙_, subst}
-use mathlib.Core.List.{List, [], _∷_, _++_, map}
+use mathlib.Core.List.{List, [], _∷_, map}
 use mathlib.Core.Option.{some}
 use Prim.Native.Nat.{ℕ, _*_, _≤_}
 use native.Mathlib.Omega.{arith}
@@ -21,33 +21,27 @@ use Rattle.kinds.proofs.Codes.{decode-nil, code-decode, small-code}
 use Rattle.kinds.proofs.ListLaws.{map-map, map-same}
 use Rattle.kinds.proofs.Members.{_∈_, here, there, on-map, length-range}
 use Rattle.term.specs.Terms.{Term}
+use Rattle.term.proofs.Sizes.{span-pos}
 use Rattle.automaton.specs.Bare.{bare, fresh}
 use Rattle.automaton.specs.Goals.{initial}
 use Rattle.automaton.proofs.Sound.{SoundState}
 use Rattle.automaton.proofs.Reachable.{initial-sound}
 use Rattle.plan.specs.GoalWords.{GoalWords, Low, labelCode}
 use Rattle.plan.specs.WordStages.{freshW, freshesW, derivW, leastCode, liftW, classesW, outputsW}
-use Rattle.plan.specs.Decoding.{select, shapeAt, goalOf, stateOf}
+use Rattle.plan.specs.Decoding.{shapeAt, goalOf, stateOf}
 use Rattle.plan.specs.GoodStates.{Ready, settingOf, GoodState}
-use Rattle.plan.proofs.ShapeNodes.{append-nil}
-use Rattle.plan.proofs.MaskReduced.{select-one, dom-below, below}
-use Rattle.plan.proofs.TableSeek.{span-pos}
 use Rattle.plan.proofs.GoalDecoded.{Fine}
 use Rattle.plan.proofs.Room.{deriv-room as room-of}
 use Rattle.plan.proofs.FineSound.{GoodFor, good-for, for-good, good-fine, label-low, deriv-fine}
 use Rattle.plan.proofs.OutputsDecoded.{outputs-within, announces-small}
 use Rattle.plan.proofs.ClassLifted.{class-part, part-displaced, displaced-small, lifted-good}
+use Rattle.plan.proofs.DerivDecoded.{fresh-is}
 
 -- ---- the beginning
-pub fresh-goal : (shapes : List Term) (a j : ℕ) → goalOf shapes (freshW a j) ≡ fresh (decode a) j
-fresh-goal shapes a j =
-    ap (λ qs. record { shape = j; ann = decode a; obs = map (λ q. decode a ++ q) qs }) (ap (select 1) (dom-below (shapeAt shapes j)) ∙ select-one [] (below (shapeAt shapes j)))
-    ∙ ap (λ p. record { shape = j; ann = decode a; obs = p ∷ [] }) (append-nil (decode a))
-
 pub start-decoded : (shapes : List Term) → stateOf shapes (freshesW (length shapes) 0) ≡ initial (bare shapes)
 start-decoded shapes =
     map-map (goalOf shapes) (freshW 0) (range 0 (length shapes))
-    ∙ map-same (λ j. goalOf shapes (freshW 0 j)) (fresh []) (range 0 (length shapes)) (λ j m. fresh-goal shapes 0 j ∙ ap (λ p. fresh p j) (decode-nil 7))
+    ∙ map-same (λ j. goalOf shapes (freshW 0 j)) (fresh []) (range 0 (length shapes)) (λ j m. fresh-is shapes 0 j ∙ ap (λ p. fresh p j) (decode-nil 7))
 
 module _ {ar tab : List ℕ} {n : ℕ} (r : Ready ar tab n) where
   pub start-good : GoodFor r (freshesW n 0)

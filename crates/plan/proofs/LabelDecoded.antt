@@ -12,9 +12,9 @@ use Rattle.automaton.specs.Goals.{Goal, isRoot, first, firstFrom, allObs, label
 use Rattle.plan.proofs.PaddedCodes.{pad-six, code-before}
 use Rattle.kinds.proofs.Codes.{Proper, pad-lt}
 use Rattle.kinds.proofs.Members.{_∈_, here, there, on-gather, in-filter, on-map}
+use Rattle.kinds.proofs.ListLaws.{map-append}
 use Rattle.kinds.specs.Lists.{filter, gather}
 use Rattle.kinds.specs.Positions.{Pos, before, code, decodeTo, decode}
-use Rattle.plan.proofs.ShapeNodes.{map-append}
 use Rattle.plan.proofs.GoalDecoded.{Fine, owed-is}
 use Rattle.plan.specs.Decoding.{select, shapeAt, goalOf, stateOf, TableOf}
 use Rattle.plan.specs.GoalWords.{GoalWords, owedBy, pad, firstCode, rootCodes, labelCode}

@@ -40,6 +40,5 @@ pub mod InOrder
 pub mod MeetLaws
 pub mod WordArrays
 pub mod ExploreLaws
-pub mod BlocksAgain
 pub mod WriteLaws
 pub mod BuildLaws

@@ -1,6 +1,6 @@
 -- Lifting in words: what is left of a code below another is the code of what is left of the position.
 use mathlib.Core.Path.{_≡_, refl, ap, ap₂, sym, _∙_}
-use mathlib.Core.List.{List, [], _∷_, _++_, map, append-assoc}
+use mathlib.Core.List.{List, [], _∷_, _++_, map, append-assoc, append-nil}
 use mathlib.Core.Bool.{Bool, true, false, cond}
 use Prim.Native.Nat.{ℕ, zero, suc, _+_, _*_, _/_, _%_, _^_, _≤_, _<_}
 use native.Mathlib.Omega.{arith}
@@ -14,8 +14,8 @@ use Rattle.automaton.specs.Classes.{liftGoal}
 use Rattle.automaton.specs.Goals.{Goal}
 use Rattle.kinds.proofs.Codes.{Proper, codeFrom-append, code-join, decode-proper, code-of, proper-nil, proper-cons, proper-head, proper-tail, proper-append}
 use Rattle.kinds.proofs.Prefixes.{strip-append}
+use Rattle.kinds.proofs.ListLaws.{map-map, map-same}
 use Rattle.kinds.specs.Positions.{Pos, code, codeFrom, strip, decode}
-use Rattle.plan.proofs.ShapeNodes.{append-nil, map-map, map-same}
 use Rattle.plan.specs.Decoding.{goalOf, select, shapeAt}
 use Rattle.plan.specs.GoalWords.{GoalWords}
 use Rattle.plan.specs.WordStages.{underFrom, underCode, liftW}
@@ -96,5 +96,5 @@ lift-is shapes G q g small e h l =
     ap (λ x. record { shape = g .sh; ann = x; obs = map (λ r. x ++ r) S }) p
     ∙ ap₂ (λ x y. record { shape = g .sh; ann = x; obs = y })
     (sym (ap (strip G) e ∙ strip-append G q))
-    (map-same (λ r. q ++ r) (λ r. strip G (decode (g .an) ++ r)) S (λ r. sym (ap (λ x. strip G (x ++ r)) e ∙ ap (strip G) (append-assoc G q r) ∙ strip-append G (q ++ r)))
+    (map-same (λ r. q ++ r) (λ r. strip G (decode (g .an) ++ r)) S (λ r m. sym (ap (λ x. strip G (x ++ r)) e ∙ ap (strip G) (append-assoc G q r) ∙ strip-append G (q ++ r)))
     ∙ sym (map-map (strip G) (λ r. decode (g .an) ++ r) S))

@@ -1,26 +1,27 @@
 -- Reducing a goal's mask is reducing its list of obligations.
 use mathlib.Core.Path.{_≡_, refl, ap, ap₂, sym, _∙_}
-use mathlib.Core.List.{List, [], _∷_, _++_, map, append-assoc}
-use mathlib.Core.Bool.{Bool, true, false, cond, not}
+use mathlib.Core.List.{List, [], _∷_, _++_, map, append-assoc, append-nil}
+use mathlib.Core.Bool.{Bool, false, cond, not}
 use mathlib.Core.Option.{Option, none, some}
 use Prim.Native.Nat.{ℕ, zero, suc, _+_, _-_, _*_, _/_, _%_, _^_, _≤_, _<_, min, max}
 use native.Mathlib.Omega.{arith}
 use native.Mathlib.Nat.{add-zero, zero-add, pow-suc, add-mul, mul-assoc, mul-comm, one-mul, mod-lt, mul-le-mul-right, suc-mul}
-use lib.Dec.{eqb, lit<}
-use borrow.Author.Tests.{eq-eqb}
+use lib.Dec.{lit<}
 use lib.Bits.{bitOr, bitXor, xor-block, or-block, or-shifted, xor-step, xor-zero-r, or-zero-r, or-lt, xor-lt}
 use lib.Pow.{split, pow-pos, pow-add, pow-lt}
 use lib.ListN.{length, getD, length-map, length-append}
 use Rattle.automaton.specs.Bare.{args}
 use Rattle.kinds.proofs.Members.{_∈_, here, there, same-refl}
+use Rattle.kinds.proofs.ListLaws.{map-append, map-map, map-same, same-append}
 use Rattle.kinds.specs.Lists.{gather, same}
 use Rattle.kinds.specs.Positions.{Pos}
-use Rattle.plan.proofs.ShapeNodes.{Node, append-nil, map-append, map-map, map-same, kidsIn, length-dom, length-doms}
+use Rattle.plan.proofs.ShapeNodes.{Node, kidsIn}
 use Rattle.plan.proofs.Selecting.{select-zero, select-append, select-sub, select-map}
 use Rattle.plan.specs.Decoding.{select, roots, solid}
 use Rattle.plan.specs.GoalWords.{maskAfter}
 use Rattle.term.specs.Places.{dom, doms}
 use Rattle.term.specs.Terms.{count, Term, blank, node, Terms, tnil, tcons, span, spans}
+use Rattle.term.proofs.Subterms.{length-dom, length-doms}
 
 pub select-split {ℓ} : {A : Type ℓ} (xs ys : List A) (h low n : ℕ) → length xs ≡ n → low < 2 ^ n → select (h * 2 ^ n + low) (xs ++ ys) ≡ select low xs ++ select h ys
 select-split xs ys h low n e l = rw (← e) (select-append xs ys h low (rw e l))
@@ -128,13 +129,6 @@ pub gather-append {ℓ κ} : {A : Type ℓ} {B : Type κ} (f : A → List B) (xs
 gather-append f [] ys = refl
 gather-append f (x ∷ xs) ys = ap (λ zs. f x ++ zs) (gather-append f xs ys) ∙ sym (append-assoc (f x) (gather f xs) (gather f ys))
 
-same-append : (a p q : Pos) → same (a ++ p) (a ++ q) ≡ same p q
-same-append [] p q = refl
-same-append (i ∷ a) p q = rw (same-eqb i) (same-append a p q)
-  where
-    same-eqb : (i : ℕ) → eqb i i ≡ true
-    same-eqb i = eq-eqb i i refl
-
 module _ (a : Pos) (new : List Pos) where
   -- nothing to swap
   pub swap-none : (p : Pos) (xs : List Pos) → ((q : Pos) → q ∈ xs → same p q ≡ false) → gather (swapped (a ++ p) new) (map (λ q. a ++ q) xs) ≡ map (λ q. a ++ q) xs
@@ -173,7 +167,7 @@ module _ (a : Pos) (new : List Pos) where
       ∙ select-three L U R hi 1 lo r (suc sp) c len lt (omega (arith, pow-suc 2 sp, pos))
       ∙ ap (λ qs. select lo L ++ (qs ++ select hi R)) (select-one (p ++ []) (map (λ q. p ++ q) (below u))) in
       let C : map f (map (λ q. p ++ q) (select z (below u))) ≡ new =
-      map-map f (λ q. p ++ q) (select z (below u)) ∙ map-same (λ q. a ++ (p ++ q)) (λ q. (a ++ p) ++ q) (select z (below u)) (λ q. sym (append-assoc a p q)) ∙ sym is in
+      map-map f (λ q. p ++ q) (select z (below u)) ∙ map-same (λ q. a ++ (p ++ q)) (λ q. (a ++ p) ++ q) (select z (below u)) (λ q m. sym (append-assoc a p q)) ∙ sym is in
       let D : sw (a ++ (p ++ [])) ≡ new = rw (append-nil p, same-refl (a ++ p)) refl in
       ap (map f) A
       ∙ map-append f (select lo L) (map (λ q. p ++ q) (select z (below u)) ++ select hi R)

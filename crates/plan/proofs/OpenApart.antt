@@ -14,9 +14,10 @@ use Rattle.term.specs.Terms.{Term, blank, node, Terms, tnil, tcons, span}
 use Rattle.kinds.specs.Positions.{Pos}
 use Rattle.plan.specs.Decoding.{select}
 use Rattle.term.specs.Places.{dom, doms}
+use Rattle.term.proofs.Subterms.{length-dom}
 use Rattle.kinds.proofs.Members.{_∈_, here, there, ∈-left, ∈-right, ∈-append, on-map}
 use Rattle.plan.proofs.Selecting.{select-append, select-none, select-sub}
-use Rattle.plan.proofs.ShapeNodes.{Node, length-dom}
+use Rattle.plan.proofs.ShapeNodes.{Node}
 use Rattle.plan.proofs.MaskReduced.{below, dom-below, span-below}
 use mathlib.Core.Logic.{_⊎_, inl, inr, ⊎-elim}
 

@@ -1,7 +1,6 @@
 -- What is announced on words is what is announced, in the same order.
---   key-order             a key decides by its padded code, and then by its shape
 --   pad-same              small positions are the same exactly if their padded codes are
---   ann-before            so the order of keys is the order of announcements
+--   ann-before            the order of keys is the order of announcements
 --   mask-nil              nothing is owed exactly if the mask is 0
 --   announced-is          the goals announced, in the state's order
 --   outputs-within        they are goals of the state
@@ -12,21 +11,22 @@ use mathlib.Core.Path.{_≡_, refl, ap, ap₂, sym, _∙_}
 use mathlib.Core.List.{List, [], _∷_, _++_, map}
 use mathlib.Core.Bool.{Bool, true, false, cond, _&&_, _||_, false≢true}
 use mathlib.Core.Logic.{_⊎_, inl, inr}
-use Prim.Native.Nat.{ℕ, _+_, _*_, _^_, _<_}
+use Prim.Native.Nat.{ℕ, _^_, _<_}
 use native.Mathlib.Omega.{arith}
-use borrow.Author.Tests.{eq-eqb, ne-eqb, le-ltb}
+use borrow.Author.Tests.{eq-eqb, ne-eqb}
 use lib.Dec.{eqb, ltb}
 use lib.ListN.{getElem?}
 use mathlib.Core.Option.{some}
 use Rattle.kinds.specs.Lists.{filter, gather, sort, same, isNil}
 use Rattle.kinds.specs.Positions.{Pos, code, decode}
-use Rattle.kinds.proofs.Bools.{Order, less, equal, more, order, is-ltb, is-eqb, eqb-is, ltb-irrefl, ltb-shift}
+use Rattle.kinds.proofs.Bools.{eqb-is, ltb-irrefl, key-order}
 use Rattle.kinds.proofs.Codes.{Small, code-decode}
-use Rattle.kinds.proofs.ListLaws.{map-append}
+use Rattle.kinds.proofs.ListLaws.{map-append, sort-map-in}
 use Rattle.kinds.proofs.Members.{_∈_, here, there, _⊆_, in-none, in-one, on-gather, map-in, in-sort, same-is, same-refl}
 use Rattle.kinds.proofs.Ordered.{Before, before-total}
 use Rattle.term.specs.Terms.{Term, span}
 use Rattle.term.specs.Places.{dom}
+use Rattle.term.proofs.Subterms.{length-dom}
 use Rattle.automaton.specs.Bare.{bare}
 use Rattle.automaton.specs.Goals.{Goal, announcement, annBefore, reduced, outputs, label}
 use Rattle.automaton.proofs.Bounds.{ann-small}
@@ -36,21 +36,11 @@ use Rattle.plan.specs.WordMachine.{announcementW}
 use Rattle.plan.specs.Decoding.{select, shapeAt, goalOf, stateOf}
 use Rattle.plan.specs.GoodStates.{Ready, settingOf}
 use Rattle.plan.proofs.PaddedCodes.{code-before}
-use Rattle.plan.proofs.ShapeNodes.{length-dom}
 use Rattle.plan.proofs.Selecting.{select-zero, select-none}
 use Rattle.plan.proofs.ReductDecoded.{Reduct, missed, cut}
-use Rattle.plan.proofs.ClassesDecoded.{sort-map-in}
 use Rattle.plan.proofs.FineSound.{GoodFor, good-fine, reduct-for}
 
 -- ---- the order
-pub key-order : (a b s t : ℕ) → s < 16 → t < 16 → ltb (16 * a + s) (16 * b + t) ≡ (ltb a b || (eqb a b && ltb s t))
-key-order a b s t hs ht = go (order a b)
-  where
-    go : Order a b → ltb (16 * a + s) (16 * b + t) ≡ (ltb a b || (eqb a b && ltb s t))
-    go (less l) = rw (is-ltb a b l) (is-ltb (16 * a + s) (16 * b + t) (omega arith))
-    go (equal e) = rw (e, ltb-irrefl b, is-eqb b b refl) (ltb-shift (16 * b) s t)
-    go (more l) = rw (le-ltb a b (omega arith), ne-eqb a b (λ e. omega arith)) (le-ltb (16 * a + s) (16 * b + t) (omega arith))
-
 pub pad-same : (p q : Pos) → Small p → Small q → eqb (pad (code p)) (pad (code q)) ≡ same p q
 pad-same p q sp sq = go (same p q) refl
   where

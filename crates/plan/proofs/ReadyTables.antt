@@ -1,8 +1,8 @@
 -- Tables filled from shape words that pass the check are ready, and the plan made with them is the one that is promised.
 --   stands standss shapes-stand   a shape's words stand from its start on
---   fits-proper place-small       the positions of a shape are small
+--   place-small                   the positions of a shape are small
 --   node-words                    so codes, powers and masks of its nodes fit a word
---   span-short tabled-of          what code asks of the tables
+--   tabled-of                     what code asks of the tables
 --   ready-for ready               they are ready
 --   ready-shapes                  for the shapes that the shape words hold
 --   plan-of-tables                so the plan on words is that of the paper's construction for these shapes
@@ -19,11 +19,11 @@ use lib.Pow.{pow-mono}
 use lib.Seq.{sets, length-sets, getD-at}
 use Rattle.kinds.specs.Lists.{gather}
 use Rattle.kinds.specs.Positions.{Pos, code}
-use Rattle.kinds.proofs.Codes.{Proper, proper-nil, proper-cons, Small, small-code}
-use Rattle.kinds.proofs.Options.{none-not, on-bind}
+use Rattle.kinds.proofs.Codes.{Small, small-code}
+use Rattle.kinds.proofs.Options.{none-not}
 use Rattle.kinds.proofs.Places.{at-in, at-getD}
-use Rattle.term.specs.Terms.{Term, blank, node, Terms, tnil, tcons, count, span, flatten, flattens, Fits}
-use Rattle.term.specs.Places.{nth, sub, dom}
+use Rattle.term.specs.Terms.{Term, blank, node, Terms, tnil, tcons, count, span, flatten, flattens}
+use Rattle.term.specs.Places.{sub, dom}
 use Rattle.folio.specs.Folio.{IsShape, GoodSymbols, Shaped, startsAt, shapeTerms}
 use Rattle.folio.specs.Again.{shapesGood}
 use Rattle.folio.proofs.ShapesFound.{length-starts, Each}
@@ -32,21 +32,22 @@ use Rattle.folio.proofs.Accepted.{shape-terms}
 use Rattle.automaton.specs.Exploring.{construction}
 use Rattle.automaton.specs.Paper.{paper}
 use Rattle.automaton.specs.PlanWords.{planned}
-use Rattle.term.proofs.Subterms.{child-fits, sub-depth}
+use Rattle.term.proofs.Subterms.{sub-depth, fits-proper}
+use Rattle.term.proofs.Sizes.{length-flatten}
 use Rattle.plan.specs.GoalWords.{Tabled, sizeOf}
-use Rattle.plan.specs.ShapeTables.{wordAt, spanFrom, spanAt, entryW, entriesFrom}
+use Rattle.plan.specs.ShapeTables.{wordAt, spanAt, entryW, entriesFrom}
 use Rattle.plan.specs.Decoding.{roots, kidMasks, shapeAt, TableOf}
 use Rattle.plan.specs.GoodStates.{Ready}
 use Rattle.plan.specs.WordMachine.{words}
 use Rattle.plan.specs.Building.{planOf}
-use Rattle.plan.proofs.ShapeNodes.{node-of, kidsIn, length-words}
-use Rattle.plan.proofs.TableLaws.{entry-none, entry-past, entry-in, word-2}
+use Rattle.plan.proofs.ShapeNodes.{node-of, kidsIn}
+use Rattle.plan.proofs.TableLaws.{span-short, entry-none, entry-past, entry-in, word-2}
 use Rattle.plan.proofs.TableSeek.{Stands, Standss}
 use Rattle.plan.proofs.TableTold.{table-of}
 use Rattle.plan.proofs.TableFilled.{filled-is}
-use Rattle.plan.proofs.ReductDecoded.{node-pos, kids-fit}
-use Rattle.plan.proofs.FineSound.{nth-fits}
+use Rattle.plan.proofs.ReductDecoded.{kids-fit}
 use Rattle.plan.proofs.WordsSimulate.{plan-of-words}
+use Rattle.plan.proofs.GoalDecoded.{node-pos}
 
 -- ---- where shapes stand
 mutual
@@ -62,28 +63,19 @@ mutual
   standss (tcons t ts) ws pre rest at e l =
       let d : ws ≡ pre ++ (flatten t ++ (flattens ts ++ rest)) = e ∙ ap (λ xs. pre ++ xs) (append-assoc (flatten t) (flattens ts) rest) in (
         stands t ws pre (flattens ts ++ rest) at d l,
-        standss ts ws (pre ++ flatten t) rest (at + span t) (d ∙ sym (append-assoc pre (flatten t) (flattens ts ++ rest))) (length-append pre (flatten t) ∙ ap (λ x. x + length (flatten t)) l ∙ ap (λ x. at + x) (length-words t)),
+        standss ts ws (pre ++ flatten t) rest (at + span t) (d ∙ sym (append-assoc pre (flatten t) (flattens ts ++ rest))) (length-append pre (flatten t) ∙ ap (λ x. x + length (flatten t)) l ∙ ap (λ x. at + x) (length-flatten t)),
       )
 
 pub shapes-stand : (ts : List Term) (ws pre : List ℕ) (at : ℕ) → ws ≡ pre ++ gather flatten ts → length pre ≡ at → (i : ℕ) (t : Term) → getElem? ts i ≡ some t → Stands ws (getD (startsAt at ts) i 0) t
 shapes-stand [] ws pre at e l i t g = none-not g
 shapes-stand (x ∷ ts) ws pre at e l zero t g = let z : t ≡ x = cc in rw z (stands x ws pre (gather flatten ts) at e l)
 shapes-stand (x ∷ ts) ws pre at e l (suc i) t g =
-    shapes-stand ts ws (pre ++ flatten x) (at + span x) (e ∙ sym (append-assoc pre (flatten x) (gather flatten ts))) (length-append pre (flatten x) ∙ ap (λ n. n + length (flatten x)) l ∙ ap (λ n. at + n) (length-words x)) i t g
+    shapes-stand ts ws (pre ++ flatten x) (at + span x) (e ∙ sym (append-assoc pre (flatten x) (gather flatten ts))) (length-append pre (flatten x) ∙ ap (λ n. n + length (flatten x)) l ∙ ap (λ n. at + n) (length-flatten x)) i t g
 
 -- ---- what fits a word
 module _ (ar : List ℕ) (few : (f n : ℕ) → getElem? ar f ≡ some n → n ≤ 4) where
-  pub fits-proper : (bl : ℕ) (p : Pos) (t : Term) {u : Term} → Fits ar bl t → sub t p ≡ some u → Proper p
-  fits-proper bl [] t h e = proper-nil
-  fits-proper bl (i ∷ p) (blank w) h e = none-not e
-  fits-proper bl (zero ∷ p) (node f ts) h e = none-not e
-  fits-proper bl (suc i ∷ p) (node f ts) {u} h e =
-      let c = child-fits f (suc i) ts p e in
-      let d = few f (count ts) (h .1) in
-      on-bind (nth ts i) (λ v. sub v p) e λ v ev q. proper-cons (c .0) (omega arith) (fits-proper bl p v (nth-fits ar bl ts i (h .2) ev) q)
-
   pub place-small : (t : Term) → IsShape ar t → (p : Pos) {u : Term} → sub t p ≡ some u → Small p
-  place-small t s p {u} e = record { short = let l = sub-depth p t u e in let d = s .flat in omega arith; digits = fits-proper 65535 p t (s .fits) e }
+  place-small t s p {u} e = record { short = let l = sub-depth p t u e in let d = s .flat in omega arith; digits = fits-proper ar few 65535 p t (s .fits) e }
 
 power-fits : (n : ℕ) → n ≤ 6 → 5 ^ n < 65536
 power-fits zero h = omega arith
@@ -107,12 +99,6 @@ node-words ar few t s r h =
     (rw (node-pos t r o) (omega arith), rw (node-pos t r o) (power-fits (length (o .at)) (p .short)), omega (arith, m, k, l))
 
 -- ---- the tables
-pub span-short : (ar ws : List ℕ) (k at need : ℕ) → spanFrom ar ws k at need ≤ k
-unfolding spanFrom
-span-short ar ws zero at need = omega arith
-span-short ar ws (suc k) at zero = omega arith
-span-short ar ws (suc k) at (suc need) = let h = span-short ar ws k (suc at) (need + getD ar (wordAt ws at) 0) in omega arith
-
 pub tabled-of : (ar ws st tab : List ℕ) → 1280 ≤ length tab → ((k : ℕ) → k < 1280 → getD tab k 0 ≡ entryW ar ws st k) → Tabled tab
 tabled-of ar ws st tab long filled = record { long = long; sizes = λ s h. size s h (decLt ((512 + 16 * s) / 16 % 16) (length st)) (decLt ((512 + 16 * s) % 16) (spanAt ar ws (getD st ((512 + 16 * s) / 16 % 16) 0))) }
   where

@@ -1,5 +1,4 @@
 -- What a goal's mask is after a symbol was observed at a position.
---   node-pos     the position of node r, by the list of a term's positions
 --   kids-fit     the mask of a node's children is a mask of the term's nodes
 --   Reduct       the symbol is not expected there, or the mask is that of the obligations reduced
 --   reduct-is    it is one of the two
@@ -15,7 +14,6 @@ use borrow.Author.Tests.{eq-eqb, ne-eqb}
 use lib.Bits.{or-lt, xor-lt}
 use lib.ListN.{length, getD}
 use lib.Pow.{pow-lt, pow-mono, shl-lt}
-use lib.Seq.{getD-at}
 use Rattle.kinds.specs.Lists.{any, gather, same}
 use Rattle.kinds.specs.Positions.{Pos, code, decode}
 use Rattle.kinds.proofs.Codes.{Proper}
@@ -25,21 +23,16 @@ use Rattle.kinds.proofs.Places.{at-getD}
 use Rattle.kinds.proofs.Prefixes.{strip-append}
 use Rattle.term.specs.Places.{sub, dom}
 use Rattle.term.specs.Terms.{count, Term, blank, node, Terms, span}
+use Rattle.term.proofs.Subterms.{length-dom}
 use Rattle.automaton.specs.Bare.{bare, owed, argsOf, headsOf, args}
 use Rattle.automaton.specs.Goals.{reduced}
 use Rattle.plan.specs.Decoding.{select, roots, shapeAt, goalOf, TableOf}
 use Rattle.plan.specs.GoalWords.{GoalWords, nodeAt, symOf, kidsOf, maskAfter}
 use Rattle.plan.specs.WordStages.{reduct, withMask}
-use Rattle.plan.proofs.ShapeNodes.{Node, node-of, length-dom, kidsIn, headWord, append-nil}
-use Rattle.plan.proofs.MaskReduced.{below, args-select, swap-mask, dom-below, span-below, roots-below, swapped}
+use Rattle.plan.proofs.ShapeNodes.{Node, node-of, kidsIn, headWord}
+use Rattle.plan.proofs.MaskReduced.{below, args-select, swap-mask, span-below, roots-below, swapped}
 use Rattle.plan.proofs.Selecting.{select-at}
-use Rattle.plan.proofs.GoalDecoded.{Fine, Found, lacks, found, finds}
-
-pub node-pos : (t : Term) (r : ℕ) (o : Node t r) → getD (dom t) r [] ≡ o .at
-node-pos t r o =
-    ap (λ d. getD d r []) (o .split ∙ ap (λ d. o .left ++ (map (λ q. o .at ++ q) d ++ o .right)) (dom-below (o .under)))
-    ∙ getD-at (o .left) (o .at ++ []) (map (λ q. o .at ++ q) (below (o .under)) ++ o .right) [] r (o .count)
-    ∙ append-nil (o .at)
+use Rattle.plan.proofs.GoalDecoded.{Fine, Found, lacks, found, finds, node-pos}
 
 pub kids-fit : (t : Term) (r : ℕ) (o : Node t r) → roots (kidsIn (o .under)) * 2 ^ suc r < 2 ^ span t
 kids-fit t r o =

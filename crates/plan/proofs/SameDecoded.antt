@@ -1,9 +1,9 @@
 -- Equality of states in words is equality as sets of goals.
 use mathlib.Core.Path.{_≡_, refl, ap, ap₂, sym, _∙_}
 use mathlib.Core.List.{List, [], _∷_, _++_, map}
-use mathlib.Core.Bool.{Bool, true, false, cond, not, _&&_, _||_, false≢true}
-use mathlib.Core.Logic.{_⊎_, inl, inr, ⊎-elim}
-use Prim.Native.Nat.{ℕ, zero, suc, _+_, _*_, _/_, _%_, _^_, _≤_, _<_}
+use mathlib.Core.Bool.{Bool, true, false, cond, not, _&&_, _||_}
+use mathlib.Core.Logic.{_⊎_, inl, inr}
+use Prim.Native.Nat.{ℕ, zero, _+_, _*_, _/_, _%_, _^_, _≤_, _<_}
 use native.Mathlib.Omega.{arith}
 use native.Mathlib.Nat.{pow-suc}
 use borrow.Author.Tests.{eq-eqb, ne-eqb}
@@ -13,52 +13,20 @@ use lib.ListN.{length}
 use Rattle.automaton.specs.Classes.{sameGoal, sameState}
 use Rattle.automaton.specs.Bare.{bare}
 use Rattle.automaton.specs.Goals.{Goal}
-use Rattle.kinds.proofs.Bools.{and-l, and-r, both, eqb-is}
+use Rattle.kinds.proofs.Bools.{and-l, and-r, both, eqb-is, bool-ext}
 use Rattle.kinds.proofs.Codes.{code-of}
-use Rattle.kinds.proofs.Members.{_∈_, here, there, ∈-append, on-map, map-in, on-any, any-of, all-at, all-of, same-is, same-refl, Distinct}
+use Rattle.kinds.proofs.Members.{_∈_, here, there, on-map, map-in, on-any, any-of, all-at, all-of, same-is, same-refl, Distinct}
+use Rattle.kinds.proofs.Prefixes.{strip-append}
 use Rattle.kinds.specs.Lists.{any, all, same}
 use Rattle.kinds.specs.Positions.{Pos, code, strip, decode}
-use Rattle.plan.proofs.ShapeNodes.{doms-later, length-dom}
 use Rattle.plan.proofs.GoalDecoded.{Fine}
 use Rattle.plan.proofs.Selecting.{select-sub}
 use Rattle.plan.specs.Decoding.{select, shapeAt, goalOf, stateOf}
 use Rattle.plan.specs.GoalWords.{GoalWords}
 use Rattle.plan.specs.WordStages.{sameW, amongW, withinW, sameStateW}
-use Rattle.term.specs.Places.{dom, doms}
-use Rattle.term.specs.Terms.{Term, blank, node, Terms, tnil, tcons, span}
-
-bool-ext : {a b : Bool} → (a ≡ true → b ≡ true) → (b ≡ true → a ≡ true) → a ≡ b
-bool-ext {a = true} f g = sym (f refl)
-bool-ext {a = false} {b = true} f g = g refl
-bool-ext {a = false} {b = false} f g = refl
-
--- ---- no position of a term stands twice in its list
-distinct-map : (i : ℕ) (ps : List Pos) → Distinct ps → Distinct (map (λ p. i ∷ p) ps)
-distinct-map i [] d = tt
-distinct-map i (p ∷ ps) d = ((λ m. on-map (λ q. i ∷ q) ps m (λ q k e. let z : p ≡ q = cc in d .0 (rw z k))), distinct-map i ps (d .1))
-
-distinct-append : (xs ys : List Pos) → Distinct xs → Distinct ys → ((q : Pos) → q ∈ xs → q ∈ ys → ⊥) → Distinct (xs ++ ys)
-distinct-append [] ys d e n = e
-distinct-append (x ∷ xs) ys d e n =
-    ((λ m. ⊎-elim (λ (i : x ∈ xs). d .0 i) (λ (i : x ∈ ys). n x (here refl) i) (∈-append xs m)), distinct-append xs ys (d .1) e (λ q i j. n q (there i) j))
-
-no-root : (ts : Terms) (i : ℕ) → [] ∈ doms ts i → ⊥
-no-root (tcons t ts) i m =
-    ⊎-elim
-    (λ (n : [] ∈ map (λ p. i ∷ p) (dom t)). on-map (λ p. i ∷ p) (dom t) n (λ q k e. let z : _≡_ {A = ℕ} 0 1 = cc in omega arith))
-    (λ (n : [] ∈ doms ts (suc i)). no-root ts (suc i) n)
-    (∈-append (map (λ p. i ∷ p) (dom t)) m)
-
-mutual
-  pub distinct-dom : (t : Term) → Distinct (dom t)
-  distinct-dom (blank w) = ((λ m. elim m [ ]), tt)
-  distinct-dom (node f ts) = (no-root ts 1, distinct-doms ts 1)
-
-  distinct-doms : (ts : Terms) (i : ℕ) → Distinct (doms ts i)
-  distinct-doms tnil i = tt
-  distinct-doms (tcons t ts) i =
-      distinct-append (map (λ p. i ∷ p) (dom t)) (doms ts (suc i)) (distinct-map i (dom t) (distinct-dom t)) (distinct-doms ts (suc i))
-      (λ q a b. on-map (λ p. i ∷ p) (dom t) a (λ p k e. false≢true (sym (doms-later ts (suc i) i p q (omega arith) b) ∙ rw e (same-refl (i ∷ p)))))
+use Rattle.term.specs.Places.{dom}
+use Rattle.term.specs.Terms.{Term, span}
+use Rattle.term.proofs.Subterms.{length-dom, dom-distinct}
 
 -- ---- masks that select the same
 first-bit : (x : Pos) (xs : List Pos) (m : ℕ) → (x ∈ xs → ⊥) → x ∈ select m (x ∷ xs) → m % 2 ≡ 1
@@ -111,10 +79,6 @@ select-inj (x ∷ xs) m k d lm lk f g =
         go (no a) (yes b) = absurd (a (v b))
         go (no a) (no b) = omega (arith, a, b)
 
-strip-append : (a p : Pos) → strip a (a ++ p) ≡ p
-strip-append [] p = refl
-strip-append (i ∷ a) p = strip-append a p
-
 -- each obligation of the one is the other's
 into : (a : Pos) (xs ys : List Pos) → all (λ o. any (same o) (map (λ q. a ++ q) ys)) (map (λ q. a ++ q) xs) ≡ true → (q : Pos) → q ∈ xs → q ∈ ys
 into a xs ys h q i =
@@ -133,7 +97,7 @@ same-self shapes g =
 module _ (shapes : List Term) where
   -- two goals are the same exactly if their words are
   pub same-goal-is : (g h : GoalWords) → Fine shapes g → Fine shapes h → sameW g h ≡ sameGoal (bare shapes) (goalOf shapes g) (goalOf shapes h)
-  same-goal-is g h fg fh = bool-ext there-and back
+  same-goal-is g h fg fh = bool-ext _ _ there-and back
     where
       words : g .sh ≡ h .sh → g .an ≡ h .an → g .mask ≡ h .mask → g ≡ h
       words a b c = λ i. record { sh = a i; an = b i; mask = c i }
@@ -150,7 +114,7 @@ module _ (shapes : List Term) where
           let c′ : all (λ o. any (same o) (map (λ q. decode (h .an) ++ q) (select (h .mask) ps))) (map (λ q. decode (h .an) ++ q) (select (g .mask) ps)) ≡ true = rw (a, b) at c in
           let d′ : all (λ o. any (same o) (map (λ q. decode (h .an) ++ q) (select (g .mask) ps))) (map (λ q. decode (h .an) ++ q) (select (h .mask) ps)) ≡ true = rw (a, b) at d in
           let l : g .mask < 2 ^ span (shapeAt shapes (h .sh)) = rw a at (fg .bits) in
-          select-inj ps (g .mask) (h .mask) (distinct-dom (shapeAt shapes (h .sh))) (rw (length-dom (shapeAt shapes (h .sh))) l) (rw (length-dom (shapeAt shapes (h .sh))) (fh .bits))
+          select-inj ps (g .mask) (h .mask) (dom-distinct (shapeAt shapes (h .sh))) (rw (length-dom (shapeAt shapes (h .sh))) l) (rw (length-dom (shapeAt shapes (h .sh))) (fh .bits))
           (into (decode (h .an)) (select (g .mask) ps) (select (h .mask) ps) c′)
           (into (decode (h .an)) (select (h .mask) ps) (select (g .mask) ps) d′)
 

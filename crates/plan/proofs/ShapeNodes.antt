@@ -1,6 +1,6 @@
 -- Node r of a term: where it stands in the preorder lists.
 use mathlib.Core.Path.{_≡_, refl, ap, ap₂, sym, _∙_}
-use mathlib.Core.List.{List, [], _∷_, _++_, map, append-assoc}
+use mathlib.Core.List.{List, [], _∷_, _++_, map, append-assoc, append-nil}
 use mathlib.Core.Bool.{Bool, true, false, cond, not, _&&_}
 use mathlib.Core.Option.{Option, none, some}
 use mathlib.Core.Logic.{_⊎_, inl, inr, ⊎-elim}
@@ -13,11 +13,14 @@ use lib.Dec.{eqb}
 use lib.ListN.{length, getD, length-append, length-map, List·getD-append}
 use lib.Seq.{getD-append-add}
 use Rattle.kinds.proofs.Members.{_∈_, here, there, ∈-append, on-map}
+use Rattle.kinds.proofs.ListLaws.{map-append, map-map}
 use Rattle.kinds.specs.Lists.{bind, same}
 use Rattle.kinds.specs.Positions.{Pos}
 use Rattle.plan.specs.Decoding.{roots, solid, kidMasks, kidMaskss}
 use Rattle.term.specs.Places.{nth, child, sub, dom, doms}
 use Rattle.term.specs.Terms.{Term, blank, node, Terms, tnil, tcons, span, spans, flatten, flattens}
+use Rattle.term.proofs.Subterms.{length-dom}
+use Rattle.term.proofs.Sizes.{length-flatten}
 
 abbrev pub headWord : Term → ℕ
 headWord (blank w) = w
@@ -27,45 +30,9 @@ abbrev pub kidsIn : Term → Terms
 kidsIn (blank w) = tnil
 kidsIn (node f ts) = ts
 
-module _ {ℓ} {A : Type ℓ} where
-  pub append-nil : (xs : List A) → xs ++ [] ≡ xs
-  append-nil [] = refl
-  append-nil (x ∷ xs) = ap (λ ys. x ∷ ys) (append-nil xs)
-
-module _ {ℓ κ} {A : Type ℓ} {B : Type κ} (f : A → B) where
-  pub map-append : (xs ys : List A) → map f (xs ++ ys) ≡ map f xs ++ map f ys
-  map-append [] ys = refl
-  map-append (x ∷ xs) ys = ap (λ zs. f x ∷ zs) (map-append xs ys)
-
-pub map-same {ℓ κ} : {A : Type ℓ} {B : Type κ} (f g : A → B) (xs : List A) → ((x : A) → f x ≡ g x) → map f xs ≡ map g xs
-map-same f g [] h = refl
-map-same f g (x ∷ xs) h = ap₂ (λ y ys. y ∷ ys) (h x) (map-same f g xs h)
-
-pub map-map {ℓ κ μ} : {A : Type ℓ} {B : Type κ} {C : Type μ} (g : B → C) (f : A → B) (xs : List A) → map g (map f xs) ≡ map (λ x. g (f x)) xs
-map-map g f [] = refl
-map-map g f (x ∷ xs) = ap (λ ys. g (f x) ∷ ys) (map-map g f xs)
-
 map-id : (xs : List Pos) → map (λ q. [] ++ q) xs ≡ xs
 map-id [] = refl
 map-id (x ∷ xs) = ap (λ ys. x ∷ ys) (map-id xs)
-
-mutual
-  pub length-dom : (t : Term) → length (dom t) ≡ span t
-  length-dom (blank w) = refl
-  length-dom (node f ts) = ap suc (length-doms ts 1)
-
-  pub length-doms : (ts : Terms) (i : ℕ) → length (doms ts i) ≡ spans ts
-  length-doms tnil i = refl
-  length-doms (tcons t ts) i = length-append (map (λ p. i ∷ p) (dom t)) (doms ts (suc i)) ∙ ap₂ (λ a b. a + b) (length-map (dom t) (λ p. i ∷ p) ∙ length-dom t) (length-doms ts (suc i))
-
-mutual
-  pub length-words : (t : Term) → length (flatten t) ≡ span t
-  length-words (blank w) = refl
-  length-words (node f ts) = ap suc (length-wordss ts)
-
-  pub length-wordss : (ts : Terms) → length (flattens ts) ≡ spans ts
-  length-wordss tnil = refl
-  length-wordss (tcons t ts) = simp (length-append, length-words t, length-wordss ts)
 
 mutual
   pub length-kids : (b : ℕ) (t : Term) → length (kidMasks b t) ≡ span t
@@ -134,7 +101,7 @@ in-first t ts i r h o = record {
       ∙ ap (λ ps. map (λ p. i ∷ p) (o .left) ++ (ps ++ (map (λ p. i ∷ p) (o .right) ++ doms ts (suc i)))) (map-map (λ p. i ∷ p) (λ q. o .at ++ q) (dom (o .under)));
   count = length-map (o .left) (λ p. i ∷ p) ∙ o .count;
   is = o .is;
-  word = List·getD-append (flatten t) (flattens ts) 0 r (rw (length-words t) h) ∙ o .word;
+  word = List·getD-append (flatten t) (flattens ts) 0 r (rw (length-flatten t) h) ∙ o .word;
   mask = λ b. List·getD-append (kidMasks b t) (kidMaskss (b + span t) ts) 0 r (rw (length-kids b t) h) ∙ o .mask b;
   not-left = λ q m. on-map (λ p. i ∷ p) (o .left) m (λ p j e. rw (e, eq-eqb i i refl) (o .not-left p j));
   not-right = λ q m. ⊎-elim
@@ -158,7 +125,7 @@ in-rest t ts i r d e o = record {
       ∙ sym (append-assoc (map (λ p. i ∷ p) (dom t)) (o .left) (map (λ q. o .num ∷ (o .at ++ q)) (dom (o .under)) ++ o .right));
   count = length-append (map (λ p. i ∷ p) (dom t)) (o .left) ∙ ap₂ (λ a b. a + b) (length-map (dom t) (λ p. i ∷ p) ∙ length-dom t) (o .count) ∙ sym e;
   is = o .is;
-  word = ap (λ k. getD (flatten t ++ flattens ts) k 0) (e ∙ ap (λ k. k + d) (sym (length-words t))) ∙ getD-append-add (flatten t) (flattens ts) d 0 ∙ o .word;
+  word = ap (λ k. getD (flatten t ++ flattens ts) k 0) (e ∙ ap (λ k. k + d) (sym (length-flatten t))) ∙ getD-append-add (flatten t) (flattens ts) d 0 ∙ o .word;
   mask = λ b.
       ap (λ k. getD (kidMasks b t ++ kidMaskss (b + span t) ts) k 0) (e ∙ ap (λ k. k + d) (sym (length-kids b t)))
       ∙ getD-append-add (kidMasks b t) (kidMaskss (b + span t) ts) d 0

@@ -14,15 +14,14 @@ use native.Mathlib.Numerals.{add-one}
 use native.Mathlib.Decide.{ℕ-discrete}
 use lib.ListN.{length, getD, take, drop, set, length-set, length-map}
 use lib.Seq.{sets, length-sets, length-take-le, drop-cons, drop-set-lt, getD-set-same, getD-set-other, getD-take}
-use Rattle.kinds.specs.Lists.{find, range}
+use Rattle.kinds.specs.Lists.{find, range, orElse}
 use Rattle.kinds.proofs.Members.{_∈_, length-range, in-range}
-use Rattle.kinds.proofs.ListLaws.{map-append, map-same, range-next}
+use Rattle.kinds.proofs.ListLaws.{map-append, map-same, range-next, sets-at, sets-behind}
 use Rattle.plan.specs.GoalWords.{GoalWords, goalsFrom}
 use Rattle.plan.specs.WordStages.{sameStateW}
 use Rattle.plan.specs.WordMachine.{stateIn, statesIn, Kept}
-use Rattle.plan.specs.Meeting.{orElse, placeOf}
+use Rattle.plan.specs.Meeting.{placeOf}
 use Rattle.plan.proofs.SameLaws.{goals-same}
-use Rattle.plan.proofs.SortLaws.{sets-at, sets-behind}
 
 pub states-length : (sc : List ℕ) (m : ℕ) → length (statesIn sc m) ≡ m
 unfolding statesIn

@@ -10,10 +10,10 @@ use lib.ListN.{length, getD, List·getD-append}
 use lib.Seq.{getD-append-add}
 use Rattle.term.specs.Terms.{Term, blank, node, Terms, tnil, tcons, span, spans, count, flatten, flattens, Fits, Fitss}
 use Rattle.plan.specs.Decoding.{roots, solid, kidMasks, kidMaskss}
-use Rattle.plan.proofs.ShapeNodes.{length-kids, length-words}
+use Rattle.plan.proofs.ShapeNodes.{length-kids}
 use Rattle.plan.specs.ShapeTables.{wordAt, spanAt, kidsFrom, kidsAt}
 use Rattle.plan.proofs.TableLaws.{kids-there, kids-on, kids-off}
-use Rattle.plan.proofs.TableSeek.{Stands, Standss, span-is, span-pos}
+use Rattle.plan.proofs.TableSeek.{Stands, Standss, span-is}
 
 spread : (R n b c : ℕ) → (R * 2 ^ n + b) * 2 ^ c ≡ R * 2 ^ (c + n) + b * 2 ^ c
 spread R n b c = rw (pow-add 2 c n) (ring R (2 ^ n) b (2 ^ c))

@@ -41,6 +41,12 @@ module _ (ar ws : List ℕ) where
       let d : suc need - 1 ≡ need = omega arith in
       rw (e, d, add-one at) refl
 
+  pub span-short : (k at need : ℕ) → spanFrom ar ws k at need ≤ k
+  unfolding spanFrom
+  span-short zero at need = omega arith
+  span-short (suc k) at zero = omega arith
+  span-short (suc k) at (suc need) = let h = span-short k (suc at) (need + getD ar (wordAt ws at) 0) in omega arith
+
 module _ (ar ws : List ℕ) (st r one : ℕ) where
   pub seek-end : (k c v : ℕ) → k ≤ 0 → seekFrom ar ws st r one k c v ≡ v
   unfolding seekFrom

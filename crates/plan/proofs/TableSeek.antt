@@ -16,7 +16,8 @@ use Rattle.term.specs.Terms.{Term, blank, node, Terms, tnil, tcons, span, spans
 use Rattle.kinds.specs.Positions.{Pos, code, codeFrom}
 use Rattle.plan.specs.Decoding.{roots, solid}
 use Rattle.term.specs.Places.{dom, doms}
-use Rattle.plan.proofs.ShapeNodes.{length-dom}
+use Rattle.term.proofs.Subterms.{length-dom}
+use Rattle.term.proofs.Sizes.{span-pos}
 use Rattle.plan.specs.ShapeTables.{wordAt, spanFrom, spanAt, seekFrom, kidsFrom, kidsAt}
 use Rattle.plan.proofs.TableLaws.{span-none, span-next, seek-there, seek-down, seek-on, kids-there, kids-on, kids-off}
 
@@ -84,10 +85,6 @@ at-rest : (i : ℕ) (ps qs : List Pos) (d e : ℕ) → e ≡ length ps + d → g
 at-rest i [] qs d e h = let z : e ≡ d = omega arith in rw z refl
 at-rest i (p ∷ ps) qs d zero h = absurd (omega arith)
 at-rest i (p ∷ ps) qs d (suc e) h = at-rest i ps qs d e (omega arith)
-
-pub span-pos : (t : Term) → 1 ≤ span t
-span-pos (blank w) = omega arith
-span-pos (node f ts) = omega arith
 
 step-on : (v i one w : ℕ) → w ≡ (5 * v + i * one) % 65536 → (w + one) % 65536 ≡ (5 * v + suc i * one) % 65536
 step-on v i one w e = let z : suc i * one ≡ i * one + one = omega arith in rw z (omega arith)

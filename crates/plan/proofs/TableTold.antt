@@ -10,12 +10,13 @@ use lib.Pow.{pow-pos}
 use lib.Seq.{getD-append-add}
 use Rattle.term.specs.Terms.{Term, blank, node, Terms, tnil, tcons, span, spans, flatten, flattens, Fits, Fitss}
 use Rattle.kinds.specs.Positions.{Pos, code}
+use Rattle.kinds.proofs.Codes.{five-pos}
 use Rattle.plan.specs.Decoding.{kidMasks, TableOf}
 use Rattle.term.specs.Places.{dom}
-use Rattle.plan.proofs.ShapeNodes.{length-words}
+use Rattle.term.proofs.Sizes.{length-flatten, span-pos}
 use Rattle.plan.specs.ShapeTables.{wordAt, spanAt, kidsAt, nodeWord, entryW}
 use Rattle.plan.proofs.TableLaws.{entry-in, word-0, word-1, word-2, word-3, word-4}
-use Rattle.plan.proofs.TableSeek.{Stands, Standss, span-is, span-pos, val, val-code, seek-term}
+use Rattle.plan.proofs.TableSeek.{Stands, Standss, span-is, val, val-code, seek-term}
 use Rattle.plan.proofs.TableKids.{kids-node}
 
 module _ (ws : List ℕ) where
@@ -31,20 +32,16 @@ module _ (ws : List ℕ) where
     word-nodes (tcons t ts) at r h s = go (decLt r (span t)) (λ y. word-node t at r y (s .0)) (λ y. word-nodes ts (at + span t) (r - span t) (omega arith) (s .1))
       where
         go : Dec (r < span t) → (r < span t → wordAt ws (at + r) ≡ getD (flatten t) r 0) → (span t ≤ r → wordAt ws (at + span t + (r - span t)) ≡ getD (flattens ts) (r - span t) 0) → wordAt ws (at + r) ≡ getD (flatten t ++ flattens ts) r 0
-        go (yes y) f g = f y ∙ sym (List·getD-append (flatten t) (flattens ts) 0 r (rw (length-words t) y))
+        go (yes y) f g = f y ∙ sym (List·getD-append (flatten t) (flattens ts) 0 r (rw (length-flatten t) y))
         go (no y) f g =
             let e : at + r ≡ at + span t + (r - span t) = omega arith in
             let d : r ≡ span t + (r - span t) = omega arith in
             ap (wordAt ws) e ∙ g (omega arith)
-            ∙ sym (ap (λ u. getD (flatten t ++ flattens ts) u 0) (d ∙ ap (λ u. u + (r - span t)) (sym (length-words t))) ∙ getD-append-add (flatten t) (flattens ts) (r - span t) 0)
+            ∙ sym (ap (λ u. getD (flatten t ++ flattens ts) u 0) (d ∙ ap (λ u. u + (r - span t)) (sym (length-flatten t))) ∙ getD-append-add (flatten t) (flattens ts) (r - span t) 0)
 
 grow : (x P : ℕ) → 1 ≤ P → x ≤ x * P
 grow x zero h = absurd (omega arith)
 grow x (suc Q) h = let e : x * suc Q ≡ x * Q + x = omega arith in omega (arith, e)
-
-five-pos : (n : ℕ) → 1 ≤ 5 ^ n
-five-pos zero = omega arith
-five-pos (suc n) = let e = pow-succ' 5 n in let i = five-pos n in omega (arith, e, i)
 
 pub val-pow : (p : Pos) (v : ℕ) → v * 5 ^ length p < 65536 → val 0 v p ≡ v * 5 ^ length p
 val-pow [] v h = omega arith

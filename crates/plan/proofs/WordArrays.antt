@@ -3,18 +3,16 @@
 --   flat-thirds       how many, from how many words
 --   picked-few        a row picks no more than there are
 --   low-at            each goal's shape, one by one
---   falses            the square that a function begins with
 use mathlib.Core.Path.{_≡_, refl, ap, sym, _∙_}
 use mathlib.Core.List.{List, [], _∷_, _++_}
 use mathlib.Core.Bool.{Bool, true, false, cond}
 use Prim.Native.Nat.{ℕ, zero, suc, _+_, _-_, _*_, _/_, _<_, _≤_}
 use native.Mathlib.Omega.{arith}
 use native.Mathlib.Nat.{zero-add, add-zero}
-use lib.ListN.{length, getD, replicate, getD-replicate}
+use lib.ListN.{length, getD}
 use lib.Seq.{sets}
 use Rattle.plan.specs.GoalWords.{GoalWords, goalAt, goalsFrom, flat, Low}
 use Rattle.plan.specs.WordStages.{pickedW}
-use Rattle.plan.specs.Squares.{Square}
 use Rattle.plan.specs.Orders.{goalOn}
 use Rattle.plan.proofs.Room.{flat-length}
 use Rattle.plan.proofs.SameLaws.{goals-same}
@@ -57,6 +55,3 @@ unfolding goalsFrom
 low-at ws at zero j l h = absurd (omega arith)
 low-at ws at (suc n) zero l h = let e : at + 3 * 0 ≡ at = omega arith in rw e (l .0)
 low-at ws at (suc n) (suc j) l h = let e : at + 3 * suc j ≡ at + 3 + 3 * j = omega arith in rw e (low-at ws (at + 3) n j (l .1) (omega arith))
-
-pub falses : Square 96 (replicate 96 (replicate 96 false))
-falses = record { rows = refl; cols = λ i h. ap length (getD-replicate 96 i (replicate 96 false) [] h) }

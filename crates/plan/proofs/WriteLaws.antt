@@ -16,21 +16,21 @@ use native.Mathlib.Numerals.{add-one}
 use lib.Dec.{ltb}
 use lib.ListN.{length, getD, getElem?, drop, set, length-set, length-append, length-map, length-drop, drop-of-length-le}
 use lib.Seq.{sets, length-sets, drop-cons}
-use Rattle.kinds.specs.Lists.{find, gather, concat, sort}
+use Rattle.kinds.specs.Lists.{find, gather, concat, sort, orElse}
 use Rattle.kinds.specs.Positions.{code, decode}
 use Rattle.kinds.proofs.Members.{_∈_, map-in, gather-length}
 use Rattle.kinds.proofs.ListLaws.{sets-append, set-before, from, from-end, gather-map, gather-same, map-append, concat-append, gather-append}
 use Rattle.kinds.proofs.Places.{getD-in, find-at, at-below, getElem-some}
 use Rattle.automaton.specs.Exploring.{Succ, Block}
 use Rattle.automaton.specs.PlanWords.{blockWords, startsFrom, planWords}
+use Rattle.automaton.specs.FinalBlocks.{succOf, blockOf, blocksOf, allBlocks, SmallOn}
 use Rattle.plan.specs.GoalWords.{GoalWords, goalsFrom, labelCode}
 use Rattle.plan.specs.WordStages.{derivW, leastCode, classesW, outputsW, sameStateW}
 use Rattle.plan.specs.WordMachine.{words, announcementW, stateIn, statesIn, Kept}
 use Rattle.plan.specs.GoodStates.{Ready, GoodState}
 use Rattle.plan.specs.Orders.{classAt, outItems, goalOn}
-use Rattle.plan.specs.Meeting.{orElse, placeOf, liftedW, AllGood}
-use Rattle.plan.specs.FinalBlocks.{succOf, blockOf, blocksOf, allBlocks, SmallOn, rowWords, pairs}
-use Rattle.plan.proofs.SortLaws.{sets-at}
+use Rattle.plan.specs.Meeting.{placeOf, liftedW, AllGood}
+use Rattle.plan.specs.FinalBlocks.{rowWords, pairs}
 use Rattle.plan.proofs.StateLaws.{states-length, states-at}
 use Rattle.plan.proofs.InOrder.{outputs-in-order}
 use Rattle.plan.proofs.GoodLaws.{output-back, least-back, label-back}

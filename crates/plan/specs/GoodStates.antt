@@ -2,17 +2,17 @@
 --   Ready       the tables are those of 1 to 16 shapes within the limits, for symbols within the limits
 --   settingOf   the setting of the theory that they are
 --   GoodState   the words of a state: at most 32 goals, each in its one form, that decode to goals that are sound
-use mathlib.Core.Path.{_≡_, refl}
+use mathlib.Core.Path.{_≡_}
 use mathlib.Core.List.{List}
-use mathlib.Core.Bool.{false}
 use mathlib.Core.Option.{Option, some}
 use Prim.Native.Nat.{ℕ, _≤_, _<_, _^_}
 use native.Mathlib.Omega.{arith}
 use lib.ListN.{length, getElem?}
 use Rattle.kinds.proofs.Members.{_∈_}
-use Rattle.term.specs.Terms.{Term, blank, node, Terms, span}
+use Rattle.term.specs.Terms.{Term, span}
 use Rattle.folio.specs.Tables.{blankWord}
-use Rattle.folio.specs.Folio.{IsShape, isBlank}
+use Rattle.folio.specs.Folio.{IsShape}
+use Rattle.folio.proofs.ShapesFound.{solid-node}
 use Rattle.automaton.specs.Walking.{Setting}
 use Rattle.automaton.proofs.Sound.{SoundState}
 use Rattle.plan.specs.GoalWords.{GoalWords, Tabled}
@@ -28,10 +28,6 @@ pub record Ready (ar tab : List ℕ) (n : ℕ) : Type 0 where
   pub is-shape : (i : ℕ) (t : Term) → getElem? shapes i ≡ some t → IsShape ar t
   pub tables : (s : ℕ) → s < length shapes → TableOf tab s (shapeAt shapes s)
   pub tabled : Tabled tab
-
-pub solid-node : (t : Term) → isBlank t ≡ false → (f : ℕ) × (us : Terms) × (t ≡ node f us)
-solid-node (blank w) e = let z : _≡_ {A = ℕ} 0 1 = cc in absurd (omega arith)
-solid-node (node f us) e = (f, us, refl)
 
 abbrev pub settingOf : {ar tab : List ℕ} {n : ℕ} → Ready ar tab n → Setting
 settingOf {ar} r = record {

@@ -1,5 +1,4 @@
 -- States met before: their numbers, and what the code that meets them answers.
---   orElse       a number found, or another
 --   placeOf      the number of the first state that is equal to one, their count where none is
 --   liftedW      a class lifted
 --   AllGood      each state is good
@@ -9,10 +8,9 @@
 --   ExploredIs   what all states answer
 use mathlib.Core.Path.{_≡_}
 use mathlib.Core.List.{List, _++_, map}
-use mathlib.Core.Option.{Option, none, some}
 use Prim.Native.Nat.{ℕ, _+_, _*_, _<_, _≤_}
 use lib.ListN.{length}
-use Rattle.kinds.specs.Lists.{find, concat}
+use Rattle.kinds.specs.Lists.{find, concat, orElse}
 use Rattle.kinds.proofs.Members.{_∈_}
 use Rattle.automaton.specs.Exploring.{Succ, Block, Met, stopped, met, Made, refused, made}
 use Rattle.automaton.specs.PlanWords.{blockWords}
@@ -24,10 +22,6 @@ use Rattle.plan.specs.declared.Met.{Met as Going}
 use Rattle.plan.specs.declared.Met.the-variants as going
 use Rattle.plan.specs.declared.Explored.{Explored}
 use Rattle.plan.specs.declared.Explored.the-variants as explored
-
-abbrev pub orElse : Option ℕ → ℕ → ℕ
-orElse (some i) d = i
-orElse none d = d
 
 unfoldable pub placeOf : List (List GoalWords) → List GoalWords → ℕ
 placeOf ss k = orElse (find (sameStateW k) ss 0) (length ss)

@@ -12,7 +12,7 @@ use Prim.Native.Nat.{ℕ, zero, suc, _+_, _*_, _/_, _%_}
 use lib.Dec.{eqb, ltb}
 use lib.ListN.{length}
 use Rattle.kinds.specs.Lists.{gather, range, sort}
-use Rattle.automaton.specs.Classes.{Square, close, rowsFrom}
+use Rattle.automaton.specs.Classes.{Square, close, rowsFrom, picked}
 use Rattle.plan.specs.GoalWords.{GoalWords, symOf, kidsOf, owedBy, nodeAt, maskAfter, pad, firstCode}
 
 -- what a goal puts into the derivative at code c by symbol f: itself, where it has no open node there
@@ -96,9 +96,7 @@ liftW c g = record { sh = g .sh; an = underCode c (g .an); mask = g .mask }
 
 -- the goals that a row says yes to
 unfoldable pub pickedW : List Bool → List GoalWords → List GoalWords
-pickedW [] gs = []
-pickedW (b ∷ bs) [] = []
-pickedW (b ∷ bs) (g ∷ gs) = let rest = pickedW bs gs in cond b (g ∷ rest) rest
+pickedW bs gs = picked bs gs
 
 -- the square of direct dependency, closed under going through a third
 unfoldable pub closedW : List ℕ → List GoalWords → Square

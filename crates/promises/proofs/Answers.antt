@@ -16,7 +16,7 @@ use lib.Seq.{sets}
 use Rattle.kinds.specs.Lists.{unless}
 use Rattle.kinds.specs.declared.Reason.{Reason}
 use Rattle.kinds.specs.declared.Reason.the-variants.{BadScore, ShortBuffers}
-use Rattle.kinds.proofs.Bools.{test, ltb-not}
+use Rattle.kinds.proofs.Bools.{test, ltb-not, or-first}
 use Rattle.folio.specs.Folio.{shapeTerms}
 use Rattle.folio.specs.Again.{shapesGood, scoreGood}
 use Rattle.kinds.proofs.ListLaws.{stored-back}
@@ -35,10 +35,6 @@ use Rattle.walk.specs.declared.Walked.the-variants as walking
 use Rattle.walk.proofs.PlanRead.{on-planned}
 
 -- ---- the plan
-or-first : (a b : Bool) → (a || b) ≡ false → a ≡ false
-or-first false b e = refl
-or-first true b e = e
-
 module _ {S : Type 0} (C : Construction S) (ar : List ℕ) (n : ℕ) where
   pub plan-fits : (room m : ℕ) (w : List ℕ) → planned C ar n room ≡ plan-of m w → length w ≤ room
   plan-fits room m w e = go (explored C ar) e

@@ -1,19 +1,18 @@
 -- Demand 3 holds of every file that opens and whose build is accepted.
---   distinct-at    where a list has nothing twice, equal entries stand at one place
 --   bits-alike     the marks of two finished walks, node by node
-use mathlib.Core.Path.{_≡_, refl, ap, ap₂, sym, _∙_, subst}
-use mathlib.Core.List.{List, [], _∷_, _++_}
+use mathlib.Core.Path.{_≡_, ap, ap₂, sym, _∙_, subst}
+use mathlib.Core.List.{List, [], _++_}
 use mathlib.Core.Option.{some}
 use mathlib.Core.Logic.{_↔_}
-use Prim.Native.Nat.{ℕ, zero, suc, _+_, _<_, _≤_}
+use Prim.Native.Nat.{ℕ, suc, _+_, _<_, _≤_}
 use native.Mathlib.Omega.{arith}
 use lib.ListN.{length, getD, getElem?, take}
-use lib.Seq.{ext-getD}
+use lib.Seq.{ext-getD, length-take-le, getD-take}
 use Rattle.kinds.specs.Bits.{bit}
 use Rattle.kinds.specs.declared.Reason.the-variants.{NoSuchItem, OutOfRange}
 use Rattle.kinds.proofs.BitLaws.{bits-same}
 use Rattle.kinds.proofs.Members.{_∈_, here, there, Distinct}
-use Rattle.kinds.proofs.Places.{on-in, at-below, at-getD, getD-at, getD-in}
+use Rattle.kinds.proofs.Places.{on-in, at-below, at-getD, getD-at, getD-in, distinct-at}
 use Rattle.term.specs.Terms.{Term, span, sizes}
 use Rattle.term.specs.Places.{Matches, number}
 use Rattle.term.proofs.Numbers.{node-at}
@@ -31,37 +30,19 @@ use Rattle.promises.specs.Demand3.{Demand3}
 use Rattle.promises.proofs.Setting.{score-spans, told, same-shapes, same-score, same-spans, same-states}
 use Rattle.promises.proofs.Demand2.{demand-2}
 
-pub distinct-at : (xs : List ℕ) → Distinct xs → (i k : ℕ) → i < length xs → k < length xs → getD xs i 0 ≡ getD xs k 0 → i ≡ k
-distinct-at [] d i k hi hk e = absurd (omega arith)
-distinct-at (x ∷ xs) d zero zero hi hk e = refl
-distinct-at (x ∷ xs) d zero (suc k) hi hk e = absurd (d .0 (rw e (getD-in xs k 0 (omega arith))))
-distinct-at (x ∷ xs) d (suc i) zero hi hk e = absurd (d .0 (rw (← e) (getD-in xs i 0 (omega arith))))
-distinct-at (x ∷ xs) d (suc i) (suc k) hi hk e = ap suc (distinct-at xs (d .1) i k (omega arith) (omega arith) e)
-
-getD-take : (n : ℕ) (xs : List ℕ) (i : ℕ) → i < n → getD (take n xs) i 0 ≡ getD xs i 0
-getD-take zero xs i h = absurd (omega arith)
-getD-take (suc n) [] i h = refl
-getD-take (suc n) (x ∷ xs) zero h = refl
-getD-take (suc n) (x ∷ xs) (suc i) h = getD-take n xs i (omega arith)
-
-length-take-in : (n : ℕ) (xs : List ℕ) → n ≤ length xs → length (take n xs) ≡ n
-length-take-in zero xs h = refl
-length-take-in (suc n) [] h = absurd (omega arith)
-length-take-in (suc n) (x ∷ xs) h = ap suc (length-take-in n xs (omega arith))
-
 -- the first n entries, as a list and by place
 module _ (n : ℕ) (xs : List ℕ) (long : n ≤ length xs) where
   pub once-at : Distinct (take n xs) → (i k : ℕ) → i < n → k < n → getD xs i 0 ≡ getD xs k 0 → i ≡ k
   once-at d i k hi hk e =
-      let l = length-take-in n xs long in
-      distinct-at (take n xs) d i k (omega arith) (omega arith) (getD-take n xs i hi ∙ e ∙ sym (getD-take n xs k hk))
+      let l = length-take-le n xs long in
+      distinct-at (take n xs) d i k (omega arith) (omega arith) (getD-take n xs i 0 hi ∙ e ∙ sym (getD-take n xs k 0 hk))
 
   pub found-at : {y : ℕ} → y ∈ take n xs → (i : ℕ) × (i < n) × (getD xs i 0 ≡ y)
   found-at m = on-in m λ i e.
-      let l = length-take-in n xs long in
+      let l = length-take-le n xs long in
       let b = at-below (take n xs) i e in
       let h : i < n = omega arith in
-      (i, h, sym (getD-take n xs i h) ∙ getD-at (take n xs) i 0 e)
+      (i, h, sym (getD-take n xs i 0 h) ∙ getD-at (take n xs) i 0 e)
 
 module _ {file : List ℕ} (S : OneFile file) (choices : List ℕ) where
   abbrev F-after : Walk
@@ -116,8 +97,8 @@ module _ {file : List ℕ} (S : OneFile file) (choices : List ℕ) where
   log-nodes : (i : ℕ) → i < after S choices .count .logged → getD (after S choices .log) i 0 < span (scoreIn S)
   log-nodes i h =
       let n = after S choices .count .logged in
-      let l = length-take-in n (after S choices .log) log-long in
-      let m : getD (after S choices .log) i 0 ∈ take n (after S choices .log) = rw (← getD-take n (after S choices .log) i h) (getD-in (take n (after S choices .log)) i 0 (omega arith)) in
+      let l = length-take-le n (after S choices .log) log-long in
+      let m : getD (after S choices .log) i 0 ∈ take n (after S choices .log) = rw (← getD-take n (after S choices .log) i 0 h) (getD-in (take n (after S choices .log)) i 0 (omega arith)) in
       any-walk.log-nodes (told S .folio) (S .walk) (told S .lent) choices (getD (after S choices .log) i 0)
       (subst (λ (v : Walk). getD (after S choices .log) i 0 ∈ take (v .count .logged) (v .log)) is m)
 
@@ -141,13 +122,13 @@ module _ {file : List ℕ} (S T : OneFile file) (c d : List ℕ) (c-done : after
   same-marks =
       let n = span (scoreIn S) in
       let nodes : span (scoreIn T) ≡ n = ap span (sym (same-score S T)) in
-      let a = length-take-in n (after S c .marks) (marks-long S c) in
-      let b = length-take-in n (after T d .marks) (rw nodes at (marks-long T d)) in
+      let a = length-take-le n (after S c .marks) (marks-long S c) in
+      let b = length-take-le n (after T d .marks) (rw nodes at (marks-long T d)) in
       ext-getD 0 _ _ (a ∙ sym b) λ i h.
       let l : i < n = omega arith in
-      getD-take n (after S c .marks) i l
+      getD-take n (after S c .marks) i 0 l
       ∙ bits-same _ _ (λ j. (bit-over S T c d c-done d-done j i l, bit-over T S d c d-done c-done j i (rw nodes l)))
-      ∙ sym (getD-take n (after T d .marks) i l)
+      ∙ sym (getD-take n (after T d .marks) i 0 l)
 
   pub same-text : reported S c ≡ reported T d
   unfolding report

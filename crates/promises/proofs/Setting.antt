@@ -3,13 +3,13 @@
 --   is-folio          the terms that opening read, within the limits
 --   Told told         the walk over the file's words is one over a folio, for which `AnyWalk` speaks
 --   same-…            two settings of one file have the same symbols, shapes, score, spans and number of states
-use mathlib.Core.Path.{_≡_, refl, ap, ap₂, sym, _∙_, subst}
+use mathlib.Core.Path.{_≡_, ap, ap₂, sym, _∙_, subst}
 use mathlib.Core.Bool.{true}
-use mathlib.Core.List.{List, [], _∷_}
-use Prim.Native.Nat.{ℕ, zero, suc, _-_}
+use mathlib.Core.List.{List, []}
+use Prim.Native.Nat.{ℕ, _-_}
 use lib.ListN.{length, take, drop}
 use Rattle.kinds.specs.Lists.{gather}
-use Rattle.kinds.proofs.ListLaws.{stored-back}
+use Rattle.kinds.proofs.ListLaws.{stored-back, take-again}
 use Rattle.kinds.proofs.Places.{on-in}
 use Rattle.term.specs.Terms.{Term, span, flatten, sizes}
 use Rattle.term.proofs.Sizes.{length-flatten, length-sizes}
@@ -37,11 +37,6 @@ use Rattle.walk.specs.OneFolio.{planIn as planOn, acceptedIn as acceptedOn}
 use Rattle.walk.proofs.FolioWalk.{scoredOf, on-plan}
 use Rattle.promises.specs.OneFile.{OneFile, symbolsIn, wordsIn, startsIn, nodesIn, spansIn, shapesIn, scoreIn, planIn, begunIn, after, stepAfter, acceptedIn}
 use Rattle.promises.proofs.Answers.{BuiltAs, built-as, started-as, same-planned}
-
-take-again : (k : ℕ) (l : List ℕ) → take (length (take k l)) l ≡ take k l
-take-again zero l = refl
-take-again (suc k) [] = refl
-take-again (suc k) (x ∷ l) = ap (λ t. x ∷ t) (take-again k l)
 
 ap₄ : {A : Type 0} (f : List ℕ → List ℕ → List ℕ → Walk → A) {a a′ b b′ c c′ : List ℕ} {v v′ : Walk} → a ≡ a′ → b ≡ b′ → c ≡ c′ → v ≡ v′ → f a b c v ≡ f a′ b′ c′ v′
 ap₄ f {a} {a′} {b} {b′} {c} {c′} {v} {v′} p q r s = ap₂ (λ x y. f x y c v) p q ∙ ap₂ (λ x y. f a′ b′ x y) r s

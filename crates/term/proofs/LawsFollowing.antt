@@ -2,7 +2,8 @@
 --   child-zero child-out child-in                            a child's number, and its parent
 --   sibling-out sibling-empty sibling-past sibling-here sibling-next   a child, over its earlier siblings
 --   follow-append descend-root descend-child descend-none    a code, by its higher digits and its last
---   target-bad target-none target-out target-far target-at   the node that a code leads to
+--   target-bad target-none target-out target-far target-at target-in   the node that a code leads to
+--   reached-at reached-nowhere                               the answer of following, taken apart
 use mathlib.Core.Path.{_≡_, refl, ap, _∙_}
 use mathlib.Core.Bool.{false, true}
 use mathlib.Core.List.{List, [], _∷_, _++_}
@@ -14,8 +15,12 @@ use lib.Dec.{ltb}
 use lib.ListN.{length, getD}
 use Rattle.kinds.specs.Lists.{bind}
 use Rattle.kinds.specs.Positions.{Pos, decode, codeGood}
+use Rattle.kinds.specs.declared.Node.{Node}
+use Rattle.kinds.proofs.Bools.{and-l, and-r, ltb-is}
+use Rattle.kinds.proofs.Options.{on-bind, on-need}
 use Rattle.kinds.proofs.Codes.{decode-nil, decode-more}
-use Rattle.term.specs.Spans.{inside, sibling, childAt, follow, target}
+use Rattle.term.specs.Spans.{inside, sibling, childAt, follow, nodeGood, target, reached}
+use Rattle.term.specs.declared.Reached.the-variants as reach
 
 -- ---- a child
 module _ (spans : List ℕ) where
@@ -122,3 +127,22 @@ module _ (n : ℕ) (spans : List ℕ) (at c : ℕ) where
       pub target-at : x < n → x < 65536 → target n spans at c ≡ some x
       unfolding target
       target-at h g = rw (good, e, lt-ltb _ _ h, lt-ltb _ _ g)
+
+pub target-in : (n : ℕ) (spans : List ℕ) (at c y : ℕ) → target n spans at c ≡ some y → (y < n) × (y < 65536)
+unfolding target
+target-in n spans at c y e =
+    on-need (codeGood c) _ e λ t d.
+    on-bind (follow spans (decode c) at) _ d λ z ez d₁.
+    on-need (nodeGood n z) _ d₁ λ t₂ d₂.
+    let zy : z ≡ y = cc in
+    let a : z < n = ltb-is _ _ (and-l _ t₂) in
+    let b : z < 65536 = ltb-is _ _ (and-r (ltb z n) t₂) in
+    omega arith
+
+pub reached-at : (o : Option ℕ) (x : Node) → reached o ≡ reach.At x → o ≡ some (x .0)
+reached-at none x e = let z : _≡_ {A = ℕ} 0 1 = cc in absurd (omega arith)
+reached-at (some y) x e = let z : _≡_ {A = Node} (record { 0 = y }) x = cc in ap (λ n. some (n .0)) z
+
+pub reached-nowhere : (o : Option ℕ) → reached o ≡ reach.Nowhere → o ≡ none
+reached-nowhere none e = refl
+reached-nowhere (some y) e = let z : _≡_ {A = ℕ} 0 1 = cc in absurd (omega arith)

@@ -10,4 +10,5 @@ pub mod Sizes
 pub mod Numbers
 pub mod FollowTree
 pub mod Subterms
+pub mod NodeNumbers
 pub mod MatchTest

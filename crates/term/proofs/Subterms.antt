@@ -2,9 +2,10 @@
 --   sub-append sub-prefix          t[p.q] is t[p][q]
 --   nth-below nth-some child-fits child-some   which children there are
 --   sub-depth                      a position is no longer than the term is deep
---   fits-at whole-at               what fits, or has no blank, does so at each position
+--   fits-at fits-sub nth-fits whole-at   what fits, or has no blank, does so at each position
+--   fits-proper                    the child numbers of its positions are 1 to 4, where no symbol has more children
 --   headed on-child                a node of a term that is no blank, and the child that it lies in
---   dom-in in-dom length-dom dom-ordered dom-distinct   the list of a term's positions
+--   dom-in in-dom length-dom length-doms dom-ordered dom-distinct   the list of a term's positions
 use mathlib.Core.Path.{_≡_, refl, ap, _∙_}
 use mathlib.Core.List.{List, [], _∷_, _++_, map}
 use mathlib.Core.Option.{Option, none, some}
@@ -17,6 +18,7 @@ use Rattle.kinds.specs.Positions.{Pos}
 use Rattle.kinds.proofs.Bools.{or-l, is-ltb}
 use Rattle.kinds.proofs.Options.{none-not, on-bind}
 use Rattle.kinds.proofs.Members.{_∈_, here, there, ∈-left, ∈-right, ∈-append, map-in, on-map, Distinct}
+use Rattle.kinds.proofs.Codes.{Proper, proper-nil, proper-cons}
 use Rattle.kinds.proofs.Pairwise.{Pairwise, pairwise-append, pairwise-map, pairwise-distinct}
 use Rattle.kinds.proofs.Ordered.{Before, before-irrefl, before-append}
 use Rattle.term.specs.Terms.{Term, blank, node, Terms, tnil, tcons, count, span, spans, depth, depths, Fits, Fitss, Whole, Wholes}
@@ -81,6 +83,27 @@ mutual
   fitss-at ar bl tnil h i p f us e = none-not e
   fitss-at ar bl (tcons t ts) h zero p f us e = fits-at ar bl t (h .0) p f us e
   fitss-at ar bl (tcons t ts) h (suc i) p f us e = fitss-at ar bl ts (h .1) i p f us e
+
+pub nth-fits : (ar : List ℕ) (bl : ℕ) (ts : Terms) (i : ℕ) {u : Term} → Fitss ar bl ts → nth ts i ≡ some u → Fits ar bl u
+nth-fits ar bl tnil i h e = none-not e
+nth-fits ar bl (tcons t ts) zero {u} h e = let z : u ≡ t = cc in rw z (h .0)
+nth-fits ar bl (tcons t ts) (suc i) h e = nth-fits ar bl ts i (h .1) e
+
+pub fits-sub : (ar : List ℕ) (bl : ℕ) (p : Pos) (t : Term) {u : Term} → Fits ar bl t → sub t p ≡ some u → Fits ar bl u
+fits-sub ar bl [] t {u} h e = let z : u ≡ t = cc in rw z h
+fits-sub ar bl (i ∷ p) (blank w) h e = none-not e
+fits-sub ar bl (zero ∷ p) (node f ts) h e = none-not e
+fits-sub ar bl (suc i ∷ p) (node f ts) h e = on-bind (nth ts i) _ e λ v ev d. fits-sub ar bl p v (nth-fits ar bl ts i (h .2) ev) d
+
+-- where symbols have at most 4 children
+pub fits-proper : (ar : List ℕ) → ((f n : ℕ) → getElem? ar f ≡ some n → n ≤ 4) → (bl : ℕ) (p : Pos) (t : Term) {u : Term} → Fits ar bl t → sub t p ≡ some u → Proper p
+fits-proper ar few bl [] t h e = proper-nil
+fits-proper ar few bl (i ∷ p) (blank w) h e = none-not e
+fits-proper ar few bl (zero ∷ p) (node f ts) h e = none-not e
+fits-proper ar few bl (suc i ∷ p) (node f ts) {u} h e =
+    let c = child-fits f (suc i) ts p e in
+    let d = few f (count ts) (h .1) in
+    on-bind (nth ts i) (λ v. sub v p) e λ v ev q. proper-cons (c .0) (omega arith) (fits-proper ar few bl p v (nth-fits ar bl ts i (h .2) ev) q)
 
 mutual
   pub whole-at : (t : Term) → Whole t → (p : Pos) (u : Term) → sub t p ≡ some u → (f : ℕ) × (us : Terms) × (u ≡ node f us)
@@ -149,7 +172,7 @@ mutual
   length-dom (blank w) = refl
   length-dom (node f ts) = ap suc (length-doms ts 1)
 
-  length-doms : (ts : Terms) (i : ℕ) → length (doms ts i) ≡ spans ts
+  pub length-doms : (ts : Terms) (i : ℕ) → length (doms ts i) ≡ spans ts
   length-doms tnil i = refl
   length-doms (tcons t ts) i = simp (length-append, length-map, length-dom t, length-doms ts (suc i))
 

@@ -12,7 +12,7 @@
 --   log-nodes log-once log-all   the log holds nodes, none twice, and at the end each
 --   same-walk             the walk over words is a walk over positions, item by item, log entry by log entry, bit by bit
 use mathlib.Core.Path.{_≡_, refl, ap, sym, _∙_, subst}
-use mathlib.Core.List.{List, [], _∷_, _++_, map}
+use mathlib.Core.List.{List, [], _++_, map}
 use mathlib.Core.Option.{some}
 use mathlib.Core.Logic.{_↔_}
 use Prim.Native.Nat.{ℕ, suc, _+_, _<_, _≤_}
@@ -23,10 +23,12 @@ use Rattle.kinds.specs.Positions.{Pos}
 use Rattle.kinds.specs.declared.Reason.the-variants.{NoSuchItem, OutOfRange}
 use Rattle.kinds.proofs.BitLaws.{bits-same}
 use Rattle.kinds.proofs.Options.{on-bind}
-use Rattle.kinds.proofs.Members.{_∈_, here, there, on-map, map-in, Distinct}
+use Rattle.kinds.proofs.Members.{_∈_, on-map, map-in, Distinct, distinct-map}
+use Rattle.kinds.proofs.ListLaws.{none-left}
 use Rattle.term.specs.Terms.{Term, span}
 use Rattle.term.specs.Places.{sub, hd, headAt, Matches, number}
 use Rattle.term.proofs.Numbers.{sub-number, node-at}
+use Rattle.term.proofs.NodeNumbers.{num, num-is, num-below, num-inj}
 use Rattle.automaton.specs.Walking.{Scored, Walked}
 use Rattle.automaton.proofs.Invariant.{announced}
 use Rattle.automaton.proofs.Steps.{walked-invariant}
@@ -37,17 +39,8 @@ use Rattle.walk.specs.declared.Walked.the-variants.{On, Refused}
 use Rattle.walk.specs.Starting.{Walk, Out, refuse, begun}
 use Rattle.walk.specs.Stepping.{Found, look}
 use Rattle.walk.specs.OneFolio.{OneFolio, planIn, scoreIn, spansIn, Lent, stepIn, walkIn, acceptedIn}
-use Rattle.walk.proofs.NodeNumbers.{num, num-is, num-below, num-inj}
 use Rattle.walk.proofs.Tied.{posItem, Tied}
 use Rattle.walk.proofs.TiedRuns.{begun-tied, Stepping, moves, refuses, stepping, run-tied, run-logged}
-
-none-left : {A : Type 0} (zs : List A) → length zs ≡ 0 → zs ≡ []
-none-left [] e = refl
-none-left (z ∷ zs) e = absurd (omega arith)
-
-distinct-map : {A B : Type 0} (f : A → B) (xs : List A) → ((a b : A) → a ∈ xs → b ∈ xs → f a ≡ f b → a ≡ b) → Distinct xs → Distinct (map f xs)
-distinct-map f [] h d = tt
-distinct-map f (x ∷ xs) h d = (λ m. on-map f xs m λ y i e. d .0 (rw (h x y (here refl) (there i) e) i), distinct-map f xs (λ a b i j. h a b (there i) (there j)) (d .1))
 
 module _ {C : Scored} (F : OneFolio C) where
   abbrev t : Term

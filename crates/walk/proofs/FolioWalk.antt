@@ -1,17 +1,15 @@
 -- From a folio to what a walk is lent: its terms as the construction takes them, and the plan that is planned for them.
---   solid                a term that is not one blank begins with a symbol
 --   settingOf scoredOf   a folio within its limits
 --   on-plan              the words of a plan by the paper's construction are those of one folio
-use mathlib.Core.Path.{_≡_, refl, sym, _∙_}
-use mathlib.Core.Bool.{false}
+use mathlib.Core.Path.{_≡_, sym, _∙_}
 use mathlib.Core.List.{List}
 use Prim.Native.Nat.{ℕ}
 use native.Mathlib.Omega.{arith}
 use lib.ListN.{length}
-use Rattle.kinds.proofs.Bools.{false-true}
-use Rattle.term.specs.Terms.{Term, blank, node, Terms}
+use Rattle.term.specs.Terms.{Term}
 use Rattle.folio.specs.Tables.{blankWord, noBlank}
-use Rattle.folio.specs.Folio.{isBlank, Folio}
+use Rattle.folio.specs.Folio.{Folio}
+use Rattle.folio.proofs.ShapesFound.{solid-node}
 use Rattle.automaton.specs.Paper.{paper}
 use Rattle.automaton.specs.Bare.{bare}
 use Rattle.automaton.specs.Exploring.{construction}
@@ -20,10 +18,6 @@ use Rattle.automaton.specs.Walking.{Setting, Scored}
 use Rattle.automaton.proofs.SamePlan.{same-plan}
 use Rattle.walk.specs.OneFolio.{OneFolio, planIn}
 use Rattle.walk.proofs.PlanRead.{on-planned}
-
-pub solid : (x : Term) → isBlank x ≡ false → (f : ℕ) × (us : Terms) × (x ≡ node f us)
-solid (blank w) e = false-true (sym e)
-solid (node f us) e = (f, us, refl)
 
 module _ {ar : List ℕ} {shapes : List Term} {score : Term} (folio : Folio ar shapes score) where
   abbrev pub settingOf : Setting
@@ -36,7 +30,7 @@ module _ {ar : List ℕ} {shapes : List Term} {score : Term} (folio : Folio ar s
     few-shapes = folio .few-shapes;
     fits = λ i x e. (folio .is-shape i x e) .fits;
     flat = λ i x e. (folio .is-shape i x e) .flat;
-    solid = λ i x e. solid x ((folio .is-shape i x e) .solid);
+    solid = λ i x e. solid-node x ((folio .is-shape i x e) .solid);
   }
 
   abbrev pub scoredOf : Scored

@@ -22,10 +22,11 @@ use Rattle.kinds.specs.Lists.{bind, need, all}
 use Rattle.kinds.specs.declared.Reason.{Reason}
 use Rattle.kinds.specs.declared.Reason.the-variants.{NoSuchItem, OutOfRange}
 use Rattle.kinds.specs.Kinds.{position}
-use Rattle.kinds.proofs.Bools.{and-l, and-r, both, and-false, false-true, ltb-is, leb-is}
-use Rattle.kinds.proofs.Options.{none-not, on-bind, on-need}
+use Rattle.kinds.proofs.Bools.{and-l, and-r, both, and-false, false-true, ltb-is, leb-is, half-leb}
+use Rattle.kinds.proofs.Options.{none-not, on-bind, on-need, bind-along, need-along}
 use Rattle.kinds.proofs.Places.{getElem-some}
 use Rattle.term.specs.Spans.{target}
+use Rattle.term.proofs.LawsFollowing.{target-in}
 use Rattle.walk.specs.declared.Label.the-variants as label
 use Rattle.walk.specs.PlanParts.{countsGood, pairs, pairWords, labelWord, toLabel, blockOf}
 use Rattle.walk.specs.Starting.{Walk, walkOf, counting, refuse, goOn}
@@ -37,7 +38,7 @@ use Rattle.walk.specs.Stepping.{targets, Found, look, marked, onward, ro
 use Rattle.walk.specs.ByIndex.{pairList, middle, outsAt, nextsAt, blockFits, blockStart, fine, landed, closedUp, lookHead, leadsFine, roomLeft, sighted}
 use Rattle.walk.proofs.LawsPairs.{fits-in, pairList-length, pairList-at, pairs-list, pairs-none, onward-length, onward-words}
 use Rattle.walk.proofs.LawsParts.{counts-of, no-label, a-label, block-start, start-fits}
-use Rattle.walk.proofs.LawsTargets.{target-in, all-wider, fine-split, fine-fail, fine-small, landed-length}
+use Rattle.walk.proofs.LawsTargets.{all-wider, fine-split, fine-fail, fine-small, landed-length}
 
 -- ---- the refusals that need no look
 module _ (plan score spans : List ℕ) (i : ℕ) (w : Walk) where
@@ -50,14 +51,6 @@ module _ (plan score spans : List ℕ) (i : ℕ) (w : Walk) where
   step-few h l = rw (lt-ltb _ _ h, pairs-none (w .count .waiting) (w .items) l)
 
 -- ---- the look
-bind-along : {A B C : Type 0} (o : Option A) (f : A → Option C) (g : A → Option B) (k : B → Option C) → ((a : A) → f a ≡ bind (g a) k) → bind o f ≡ bind (bind o g) k
-bind-along none f g k h = refl
-bind-along (some a) f g k h = h a
-
-need-along : {B C : Type 0} (t : Bool) (o : Option C) (u : Option B) (k : B → Option C) → o ≡ bind u k → need t o ≡ bind (need t u) k
-need-along true o u k h = h
-need-along false o u k h = refl
-
 module _ (plan score spans : List ℕ) (it : ℕ × ℕ) where
   abbrev rest : ℕ × ℕ → Option Found
   rest h =
@@ -135,13 +128,6 @@ module _ (plan score spans : List ℕ) (it : ℕ × ℕ) (x b : ℕ) (e : lookHe
       rw ab at (start-fits plan (getD plan 0 0) (getD plan 1 0) (it .0) f ea)
 
 -- ---- what is left to decide
-half-leb : (x n : ℕ) → leb x (n / 2) ≡ leb (2 * x) n
-half-leb x n = go (decLe (2 * x) n)
-  where
-    go : Dec (2 * x ≤ n) → leb x (n / 2) ≡ leb (2 * x) n
-    go (yes h) = let l : x ≤ n / 2 = omega arith in le-leb _ _ l ∙ sym (le-leb _ _ h)
-    go (no h) = let l : n / 2 < x = omega arith in let g : n < 2 * x = omega arith in lt-leb _ _ l ∙ sym (lt-leb _ _ g)
-
 module _ (plan : List ℕ) (n : ℕ) (spans : List ℕ) (from b marks : ℕ) where
   pub leads-outs : all (fine (getD plan 2 0) marks (target n spans from)) (outsAt plan b) ≡ false → leadsFine plan n spans from b marks ≡ false
   unfolding leadsFine

@@ -1,6 +1,4 @@
 -- Pairs of a number and a code, and what they lead to.
---   target-in                                    the node that a code leads to is one of the score's
---   reached-at reached-nowhere                   the answer of following, taken apart
 --   fine-over fine-none fine-some                one pair
 --   all-bad all-next all-end all-head all-tail first-number first-room   the pairs from a word on
 --   all-wider                                    with a higher limit
@@ -21,36 +19,13 @@ use lib.Dec.{ltb}
 use lib.ListN.{length, getD, take, drop, set}
 use lib.Seq.{sets, drop-cons, drop-set-lt}
 use Rattle.kinds.specs.Lists.{all}
-use Rattle.kinds.specs.Positions.{decode, codeGood}
 use Rattle.kinds.specs.Bits.{withBit}
 use Rattle.kinds.proofs.Bools.{and-l, and-r, both, and-false, false-true, ltb-is}
-use Rattle.kinds.proofs.Options.{on-bind, on-need}
-use Rattle.kinds.specs.declared.Node.{Node}
-use Rattle.term.specs.Spans.{follow, nodeGood, target, reached}
 use Rattle.term.specs.declared.Reached.the-variants as term
 use Rattle.walk.specs.PlanParts.{pairWords}
 use Rattle.walk.specs.Stepping.{targets, marked}
 use Rattle.walk.specs.ByIndex.{orZero, pairList, belowRoom, fine, landed, closedUp}
 use Rattle.walk.proofs.LawsPairs.{pairList-cons, pairList-end}
-
-pub target-in : (n : ℕ) (spans : List ℕ) (at c y : ℕ) → target n spans at c ≡ some y → (y < n) × (y < 65536)
-unfolding target
-target-in n spans at c y e =
-    on-need (codeGood c) _ e λ t d.
-    on-bind (follow spans (decode c) at) _ d λ z ez d₁.
-    on-need (nodeGood n z) _ d₁ λ t₂ d₂.
-    let zy : z ≡ y = cc in
-    let a : z < n = ltb-is _ _ (and-l _ t₂) in
-    let b : z < 65536 = ltb-is _ _ (and-r (ltb z n) t₂) in
-    omega arith
-
-pub reached-at : (o : Option ℕ) (x : Node) → reached o ≡ term.At x → o ≡ some (x .0)
-reached-at none x e = let z : _≡_ {A = ℕ} 0 1 = cc in absurd (omega arith)
-reached-at (some y) x e = let z : _≡_ {A = Node} (record { 0 = y }) x = cc in ap (λ n. some (n .0)) z
-
-pub reached-nowhere : (o : Option ℕ) → reached o ≡ term.Nowhere → o ≡ none
-reached-nowhere none e = refl
-reached-nowhere (some y) e = let z : _≡_ {A = ℕ} 0 1 = cc in absurd (omega arith)
 
 -- ---- one pair
 module _ (limit room : ℕ) (to : ℕ → Option ℕ) where

@@ -6,7 +6,7 @@ pub mod LawsStart
 pub mod LawsStep
 pub mod PlanRead
 pub mod MarkLaws
-pub mod NodeNumbers
+pub mod StepParts
 pub mod Tied
 pub mod TiedRuns
 pub mod AnyWalk

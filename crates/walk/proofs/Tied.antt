@@ -26,6 +26,7 @@ use Rattle.term.specs.Terms.{Term, node, Terms, count, span, flatten, sizes}
 use Rattle.term.specs.Places.{sub}
 use Rattle.term.specs.Spans.{target}
 use Rattle.term.proofs.FollowTree.{word-at}
+use Rattle.term.proofs.NodeNumbers.{num, num-is, num-below, num-inj, target-num}
 use Rattle.automaton.specs.Goals.{Calculus, Goal, State, label, Announcement, outputs, announcement}
 use Rattle.automaton.specs.Exploring.{construction, Succ, Block}
 use Rattle.automaton.specs.Walking.{Setting, Scored, calculus, Item, looks, placed, announces, Walked, step}
@@ -46,7 +47,7 @@ use Rattle.walk.specs.OneFolio.{OneFolio, planIn}
 use Rattle.walk.proofs.LawsPairs.{pairs-words}
 use Rattle.walk.proofs.PlanRead.{outPair, succPair, counts-read, label-read, block-read}
 use Rattle.walk.proofs.MarkLaws.{Marked, marked-is, marked-length}
-use Rattle.walk.proofs.NodeNumbers.{num, num-is, num-below, num-inj, target-num, targets-of, look-of, tried-of}
+use Rattle.walk.proofs.StepParts.{targets-of, look-of, tried-of}
 
 -- the number of a state, and a position
 abbrev pub wordItem : Term → ℕ × Pos → ℕ × ℕ

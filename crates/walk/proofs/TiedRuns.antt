@@ -24,6 +24,7 @@ use Rattle.kinds.proofs.BitLaws.{no-bit}
 use Rattle.term.specs.Terms.{Term}
 use Rattle.term.specs.Places.{sub}
 use Rattle.term.proofs.Sizes.{length-flatten, span-pos}
+use Rattle.term.proofs.NodeNumbers.{num, num-root, num-below}
 use Rattle.automaton.specs.Goals.{State}
 use Rattle.automaton.specs.Walking.{Scored, calculus, begin}
 use Rattle.automaton.proofs.Numbered.{Numbered}
@@ -31,7 +32,6 @@ use Rattle.automaton.proofs.Explored.{explored-numbered}
 use Rattle.walk.specs.Starting.{Walk, refuse, goOn, begun}
 use Rattle.walk.specs.Stepping.{stepped, run, one, accepted}
 use Rattle.walk.specs.OneFolio.{OneFolio, planIn, scoreIn, spansIn, Lent, stepIn}
-use Rattle.walk.proofs.NodeNumbers.{num, num-root, num-below}
 use Rattle.walk.proofs.Tied.{Tied, Next, step-tied}
 
 module _ {C : Scored} (F : OneFolio C) where

@@ -1,4 +1,5 @@
-use Rattle.plan.proofs.DeriveLaws.{bornFrom, born-next, born-end, born-all, sets-append}
+use Rattle.kinds.proofs.ListLaws.{sets-append}
+use Rattle.plan.proofs.DeriveLaws.{bornFrom, born-next, born-end, born-all}
 use Rattle.plan.specs.GoalWords.{flat}
 use Rattle.plan.specs.WordStages.{freshesW, bornW}
 use Prim.Native.Nat.{ℕ, suc, _+_, _*_, _-_, _≤_}

@@ -1,4 +1,5 @@
-use Rattle.plan.proofs.DeriveLaws.{Pass, pass-next, pass-end, sets-append}
+use Rattle.kinds.proofs.ListLaws.{sets-append}
+use Rattle.plan.proofs.DeriveLaws.{Pass, pass-next, pass-end}
 use Rattle.plan.proofs.GoalLaws.{low-next}
 use Rattle.plan.specs.GoalWords.{nodeAt, sizeOf, goalAt, goalW, goalsFrom, Low, flat}
 use Rattle.plan.specs.WordStages.{moves, goesOn}

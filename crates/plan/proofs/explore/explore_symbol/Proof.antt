@@ -1,6 +1,6 @@
 use Rattle.plan.proofs.ExploreLaws.{state-in, Derived, derived, derive-small, derive-room, met-same, part-count, part-is, part-few, part-low, outs-many, outputs-few}
 use Rattle.plan.proofs.GoodLaws.{good-low, good-label}
-use Rattle.plan.proofs.WordArrays.{low-at, falses}
+use Rattle.plan.proofs.WordArrays.{low-at}
 use Rattle.plan.proofs.InOrder.{classes-in-order}
 use Rattle.plan.specs.GoodStates.{GoodState}
 use Rattle.plan.specs.GoalWords.{goalsFrom, labelCode}
@@ -23,6 +23,7 @@ use Rattle.plan.proofs.derive.derive.Reads as derive-reads
 use Rattle.plan.proofs.explore.meet_all.Reads as meet-all-reads
 use Rattle.plan.proofs.order.class_order.Reads as class-order-reads
 use Rattle.plan.proofs.square.dependency.Reads as dependency-reads
+use Rattle.plan.proofs.ClosureLaws.{empty-square}
 
 -- src/explore.rt:92:20
 mul-at : tie.Need-mul-at
@@ -82,7 +83,7 @@ slice-aggregate-dependency c = search needs
 
 -- src/explore.rt:96:5
 dependency-requires : tie.Need-dependency-requires
-dependency-requires c κs = ((c .before .before .before .before .before .before .before .before .before .before .before .before .before .before .before .pre .2 (stateIn (c .before .before .before .before .before .before .before .before .before .before .before .before .before .before .before .args .scratch .now) (c .before .before .before .before .before .before .before .before .before .before .before .before .before .before .before .args .i)) (state-in (c .before .before .before .before .before .before .before .before .before .before .before .before .before .before .before .args .scratch .now) (c .before .before .before .before .before .before .before .before .before .before .before .before .before .before .before .args .m) (c .before .before .before .before .before .before .before .before .before .before .before .before .before .before .before .args .i) (c .before .before .before .before .before .before .before .before .before .before .before .before .before .before .before .pre .1))) .ready .tabled, (derived (c .before .before .before .before .before .before .before .before .before .before .before .before .before .before .before .pre .2 (stateIn (c .before .before .before .before .before .before .before .before .before .before .before .before .before .before .before .args .scratch .now) (c .before .before .before .before .before .before .before .before .before .before .before .before .before .before .before .args .i)) (state-in (c .before .before .before .before .before .before .before .before .before .before .before .before .before .before .before .args .scratch .now) (c .before .before .before .before .before .before .before .before .before .before .before .before .before .before .before .args .m) (c .before .before .before .before .before .before .before .before .before .before .before .before .before .before .before .args .i) (c .before .before .before .before .before .before .before .before .before .before .before .before .before .before .before .pre .1))) (c .before .before .before .before .before .before .before .before .before .before .before .before .before .before .before .args .c) (c .before .before .before .before .before .before .before .before .before .before .before .before .before .before .before .args .f) (c .before .before .before .before .before .before .before .before .before .before .before .before .before .before .before .pre .3) (c .before .before .before .before .before .before .before .before .before .before .before .before .before .before .before .pre .4) _ (c .before .before .before .derive .result) (c .before .before .before .derive .ensures .0) (c .before .before .before .derive .ensures .1)) .few, omega (arith, (derived (c .before .before .before .before .before .before .before .before .before .before .before .before .before .before .before .pre .2 (stateIn (c .before .before .before .before .before .before .before .before .before .before .before .before .before .before .before .args .scratch .now) (c .before .before .before .before .before .before .before .before .before .before .before .before .before .before .before .args .i)) (state-in (c .before .before .before .before .before .before .before .before .before .before .before .before .before .before .before .args .scratch .now) (c .before .before .before .before .before .before .before .before .before .before .before .before .before .before .before .args .m) (c .before .before .before .before .before .before .before .before .before .before .before .before .before .before .before .args .i) (c .before .before .before .before .before .before .before .before .before .before .before .before .before .before .before .pre .1))) (c .before .before .before .before .before .before .before .before .before .before .before .before .before .before .before .args .c) (c .before .before .before .before .before .before .before .before .before .before .before .before .before .before .before .args .f) (c .before .before .before .before .before .before .before .before .before .before .before .before .before .before .before .pre .3) (c .before .before .before .before .before .before .before .before .before .before .before .before .before .before .before .pre .4) _ (c .before .before .before .derive .result) (c .before .before .before .derive .ensures .0) (c .before .before .before .derive .ensures .1)) .few, c .before .before .before .derive .kept .1 .1 .1 .1 .1 .1 .1 .1 .0), (derived (c .before .before .before .before .before .before .before .before .before .before .before .before .before .before .before .pre .2 (stateIn (c .before .before .before .before .before .before .before .before .before .before .before .before .before .before .before .args .scratch .now) (c .before .before .before .before .before .before .before .before .before .before .before .before .before .before .before .args .i)) (state-in (c .before .before .before .before .before .before .before .before .before .before .before .before .before .before .before .args .scratch .now) (c .before .before .before .before .before .before .before .before .before .before .before .before .before .before .before .args .m) (c .before .before .before .before .before .before .before .before .before .before .before .before .before .before .before .args .i) (c .before .before .before .before .before .before .before .before .before .before .before .before .before .before .before .pre .1))) (c .before .before .before .before .before .before .before .before .before .before .before .before .before .before .before .args .c) (c .before .before .before .before .before .before .before .before .before .before .before .before .before .before .before .args .f) (c .before .before .before .before .before .before .before .before .before .before .before .before .before .before .before .pre .3) (c .before .before .before .before .before .before .before .before .before .before .before .before .before .before .before .pre .4) _ (c .before .before .before .derive .result) (c .before .before .before .derive .ensures .0) (c .before .before .before .derive .ensures .1)) .low, falses)
+dependency-requires c κs = ((c .before .before .before .before .before .before .before .before .before .before .before .before .before .before .before .pre .2 (stateIn (c .before .before .before .before .before .before .before .before .before .before .before .before .before .before .before .args .scratch .now) (c .before .before .before .before .before .before .before .before .before .before .before .before .before .before .before .args .i)) (state-in (c .before .before .before .before .before .before .before .before .before .before .before .before .before .before .before .args .scratch .now) (c .before .before .before .before .before .before .before .before .before .before .before .before .before .before .before .args .m) (c .before .before .before .before .before .before .before .before .before .before .before .before .before .before .before .args .i) (c .before .before .before .before .before .before .before .before .before .before .before .before .before .before .before .pre .1))) .ready .tabled, (derived (c .before .before .before .before .before .before .before .before .before .before .before .before .before .before .before .pre .2 (stateIn (c .before .before .before .before .before .before .before .before .before .before .before .before .before .before .before .args .scratch .now) (c .before .before .before .before .before .before .before .before .before .before .before .before .before .before .before .args .i)) (state-in (c .before .before .before .before .before .before .before .before .before .before .before .before .before .before .before .args .scratch .now) (c .before .before .before .before .before .before .before .before .before .before .before .before .before .before .before .args .m) (c .before .before .before .before .before .before .before .before .before .before .before .before .before .before .before .args .i) (c .before .before .before .before .before .before .before .before .before .before .before .before .before .before .before .pre .1))) (c .before .before .before .before .before .before .before .before .before .before .before .before .before .before .before .args .c) (c .before .before .before .before .before .before .before .before .before .before .before .before .before .before .before .args .f) (c .before .before .before .before .before .before .before .before .before .before .before .before .before .before .before .pre .3) (c .before .before .before .before .before .before .before .before .before .before .before .before .before .before .before .pre .4) _ (c .before .before .before .derive .result) (c .before .before .before .derive .ensures .0) (c .before .before .before .derive .ensures .1)) .few, omega (arith, (derived (c .before .before .before .before .before .before .before .before .before .before .before .before .before .before .before .pre .2 (stateIn (c .before .before .before .before .before .before .before .before .before .before .before .before .before .before .before .args .scratch .now) (c .before .before .before .before .before .before .before .before .before .before .before .before .before .before .before .args .i)) (state-in (c .before .before .before .before .before .before .before .before .before .before .before .before .before .before .before .args .scratch .now) (c .before .before .before .before .before .before .before .before .before .before .before .before .before .before .before .args .m) (c .before .before .before .before .before .before .before .before .before .before .before .before .before .before .before .args .i) (c .before .before .before .before .before .before .before .before .before .before .before .before .before .before .before .pre .1))) (c .before .before .before .before .before .before .before .before .before .before .before .before .before .before .before .args .c) (c .before .before .before .before .before .before .before .before .before .before .before .before .before .before .before .args .f) (c .before .before .before .before .before .before .before .before .before .before .before .before .before .before .before .pre .3) (c .before .before .before .before .before .before .before .before .before .before .before .before .before .before .before .pre .4) _ (c .before .before .before .derive .result) (c .before .before .before .derive .ensures .0) (c .before .before .before .derive .ensures .1)) .few, c .before .before .before .derive .kept .1 .1 .1 .1 .1 .1 .1 .1 .0), (derived (c .before .before .before .before .before .before .before .before .before .before .before .before .before .before .before .pre .2 (stateIn (c .before .before .before .before .before .before .before .before .before .before .before .before .before .before .before .args .scratch .now) (c .before .before .before .before .before .before .before .before .before .before .before .before .before .before .before .args .i)) (state-in (c .before .before .before .before .before .before .before .before .before .before .before .before .before .before .before .args .scratch .now) (c .before .before .before .before .before .before .before .before .before .before .before .before .before .before .before .args .m) (c .before .before .before .before .before .before .before .before .before .before .before .before .before .before .before .args .i) (c .before .before .before .before .before .before .before .before .before .before .before .before .before .before .before .pre .1))) (c .before .before .before .before .before .before .before .before .before .before .before .before .before .before .before .args .c) (c .before .before .before .before .before .before .before .before .before .before .before .before .before .before .before .args .f) (c .before .before .before .before .before .before .before .before .before .before .before .before .before .before .before .pre .3) (c .before .before .before .before .before .before .before .before .before .before .before .before .before .before .before .pre .4) _ (c .before .before .before .derive .result) (c .before .before .before .derive .ensures .0) (c .before .before .before .derive .ensures .1)) .low, empty-square)
 
 -- src/explore.rt:97:36
 slice-aggregate-class-order : tie.Need-slice-aggregate-class-order

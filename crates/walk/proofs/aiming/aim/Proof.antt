@@ -1,7 +1,7 @@
 use Rattle.term.specs.Spans.{target}
 use mathlib.Core.Path.{ap, sym, _∙_}
 use Rattle.walk.specs.ByIndex.{orZero}
-use Rattle.walk.proofs.LawsTargets as law
+use Rattle.term.proofs.LawsFollowing as after
 use borrow.Author.Needs.{needs}
 use Rattle.walk.proofs.aiming.aim.Statement.{statement}
 use Rattle.walk.proofs.aiming.aim.Tie as tie
@@ -16,10 +16,10 @@ enum-told : tie.Need-enum-told
 enum-told c = search needs
 
 returns : tie.Need-returns
-returns c = sym (ap orZero (law.reached-at (target (c .before .before .before .before .before .args .nodes) (c .before .before .before .before .before .args .spans .now) (c .before .before .before .before .before .args .from .0) (c .before .before .before .before .before .args .by .0)) _ (sym (c .before .before .before .follow .ensures) ∙ c .before .x .given .1)))
+returns c = sym (ap orZero (after.reached-at (target (c .before .before .before .before .before .args .nodes) (c .before .before .before .before .before .args .spans .now) (c .before .before .before .before .before .args .from .0) (c .before .before .before .before .before .args .by .0)) _ (sym (c .before .before .before .follow .ensures) ∙ c .before .x .given .1)))
 
 returns-2 : tie.Need-returns-2
-returns-2 c = sym (ap orZero (law.reached-nowhere (target (c .before .before .before .before .args .nodes) (c .before .before .before .before .args .spans .now) (c .before .before .before .before .args .from .0) (c .before .before .before .before .args .by .0)) (sym (c .before .before .follow .ensures) ∙ c .enum-told .given .1)))
+returns-2 c = sym (ap orZero (after.reached-nowhere (target (c .before .before .before .before .args .nodes) (c .before .before .before .before .args .spans .now) (c .before .before .before .before .args .from .0) (c .before .before .before .before .args .by .0)) (sym (c .before .before .follow .ensures) ∙ c .enum-told .given .1)))
 
 pub aim-spec : {M : Type 1} → statement M
 aim-spec = tie.close (tie.spec follow-requires enum-known-x enum-told returns returns-2)

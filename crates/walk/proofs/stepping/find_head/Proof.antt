@@ -3,7 +3,7 @@ use native.Mathlib.Omega.{arith}
 use borrow.Author.Tests.{not-true, not-false}
 use Rattle.walk.specs.ByIndex.{begins}
 use Rattle.walk.proofs.LawsParts as parts
-use Rattle.walk.proofs.LawsTargets as aims
+use Rattle.term.proofs.LawsFollowing as aims
 use Rattle.walk.proofs.LawsStep as law
 use borrow.Author.Needs.{needs}
 use Rattle.walk.proofs.stepping.find_head.Statement.{statement}
