@@ -1,5 +1,7 @@
 use crate::goals::mask_after;
 use crate::goals::node_at;
+use kinds::Position;
+use kinds::Symbol;
 ghost use mathlib.Core.Path.{_≡_};
 ghost use mathlib.Core.Bool.{Bool, true, false};
 ghost use mathlib.Core.List.{List, [], _∷_};
@@ -142,23 +144,23 @@ fn put_born(out: &mut [u16], to: usize, n: usize, c: u16, k: u16) -> usize
     next
 }
 
-// The derivative of a state at its label's code c by symbol f of k children, for n shapes; answers the words written.
+// The derivative of a state at its label by a symbol of k children, for n shapes; answers the words written.
 pub fn derive(
     tab: &[u16],
     ws: &[u16],
     at: usize,
     goals: usize,
     n: usize,
-    c: u16,
-    f: u16,
+    root: Position,
+    symbol: Symbol,
     k: u16,
     out: &mut [u16],
 ) -> usize
-    requires { ⌜ Tabled (now tab) × (goals ≤ 96) × (at + 3 * goals ≤ length (now ws)) × Low (goalsFrom (now ws) at goals) × (n ≤ 16) × (5 * c + k ≤ 65535) × (length (flat (derivW (now tab) n c f k (goalsFrom (now ws) at goals))) ≤ length (now out)) ⌝ }
-    ensures next { λ r. ⌜ r ≡ length (flat (derivW (now (tab .entry)) n c f k (goalsFrom (now (ws .entry)) at goals))) ⌝ }
-    ensures wrote { λ r. ⌜ now (out .exit) ≡ sets (now (out .entry)) 0 (flat (derivW (now (tab .entry)) n c f k (goalsFrom (now (ws .entry)) at goals))) ⌝ }
+    requires { ⌜ Tabled (now tab) × (goals ≤ 96) × (at + 3 * goals ≤ length (now ws)) × Low (goalsFrom (now ws) at goals) × (n ≤ 16) × (5 * root .0 + k ≤ 65535) × (length (flat (derivW (now tab) n (root .0) (symbol .0) k (goalsFrom (now ws) at goals))) ≤ length (now out)) ⌝ }
+    ensures next { λ r. ⌜ r ≡ length (flat (derivW (now (tab .entry)) n (root .0) (symbol .0) k (goalsFrom (now (ws .entry)) at goals))) ⌝ }
+    ensures wrote { λ r. ⌜ now (out .exit) ≡ sets (now (out .entry)) 0 (flat (derivW (now (tab .entry)) n (root .0) (symbol .0) k (goalsFrom (now (ws .entry)) at goals))) ⌝ }
 {
-    let one = put_staying(tab, ws, at, goals, c as u32, out, 0);
-    let two = put_moving(tab, ws, at, goals, c as u32, f, out, one);
-    put_born(out, two, n, c, k)
+    let one = put_staying(tab, ws, at, goals, root.0 as u32, out, 0);
+    let two = put_moving(tab, ws, at, goals, root.0 as u32, symbol.0, out, one);
+    put_born(out, two, n, root.0, k)
 }

@@ -11,8 +11,10 @@ use crate::order::class_order;
 use crate::square::dependency;
 use crate::states::add_state;
 use crate::states::find_state;
+use kinds::Position;
 use kinds::Reason;
 use kinds::State;
+use kinds::Symbol;
 ghost use mathlib.Core.Path.{_≡_};
 ghost use mathlib.Core.List.{List, [], map};
 ghost use Prim.Native.Nat.{ℕ, _+_, _*_, _%_, _<_, _≤_};
@@ -39,7 +41,7 @@ pub fn explore(tab: &[u16], arity: &[u8], shapes: usize, scratch: &mut [u16]) ->
     let mut words = 0;
     let mut i = 0;
     while i < m {
-        match explore_state(tab, arity, shapes, scratch, m, i) {
+        match explore_state(tab, arity, shapes, scratch, m, State(i as u16)) {
             Met::On(states, more) => {
                 m = states;
                 words += more;
@@ -53,26 +55,36 @@ pub fn explore(tab: &[u16], arity: &[u8], shapes: usize, scratch: &mut [u16]) ->
     Explored::Made(m, words)
 }
 
-// State i of m on each symbol in turn.
+// One of m states on each symbol in turn.
 fn explore_state(
     tab: &[u16],
     arity: &[u8],
     shapes: usize,
     scratch: &mut [u16],
     m: usize,
-    i: usize,
+    state: State,
 ) -> Met
-    requires { ⌜ Kept (now scratch) m × (i < m) × AllGood (now arity) (now tab) shapes (statesIn (now scratch) m) ⌝ }
-    ensures is { λ r. ⌜ ((bs : List Block) → RowIs r (now (arity .entry)) (now (tab .entry)) shapes (now (scratch .exit)) i bs (row (machine (now (tab .entry)) shapes) i (stateIn (now (scratch .entry)) i) 0 (now (arity .entry)) (statesIn (now (scratch .entry)) m) bs)) ⌝ }
+    requires { ⌜ Kept (now scratch) m × (state .0 < m) × AllGood (now arity) (now tab) shapes (statesIn (now scratch) m) ⌝ }
+    ensures is { λ r. ⌜ ((bs : List Block) → RowIs r (now (arity .entry)) (now (tab .entry)) shapes (now (scratch .exit)) (state .0) bs (row (machine (now (tab .entry)) shapes) (state .0) (stateIn (now (scratch .entry)) (state .0)) 0 (now (arity .entry)) (statesIn (now (scratch .entry)) m) bs)) ⌝ }
     ensures behind { λ r. ⌜ drop 12416 (now (scratch .exit)) ≡ drop 12416 (now (scratch .entry)) ⌝ }
 {
+    let i = state.0 as usize;
     let n = scratch[i] as usize;
     let c = label(tab, scratch, 128 + 96 * i, n) as u16;
     let mut states = m;
     let mut words = 0;
     let mut f = 0;
     while f < arity.len() {
-        match explore_symbol(tab, arity, shapes, scratch, states, i, c, f) {
+        match explore_symbol(
+            tab,
+            arity,
+            shapes,
+            scratch,
+            states,
+            state,
+            Position(c),
+            Symbol(f as u16),
+        ) {
             Met::On(all, more) => {
                 states = all;
                 words += more;
@@ -86,36 +98,38 @@ fn explore_state(
     Met::On(states, words)
 }
 
-// State i of m, whose label has code c, on symbol f.
+// One of m states, with its label, on a symbol.
 fn explore_symbol(
     tab: &[u16],
     arity: &[u8],
     shapes: usize,
     scratch: &mut [u16],
     m: usize,
-    i: usize,
-    c: u16,
-    f: usize,
+    state: State,
+    root: Position,
+    symbol: Symbol,
 ) -> Met
-    requires { ⌜ Kept (now scratch) m × (i < m) × AllGood (now arity) (now tab) shapes (statesIn (now scratch) m) × (c ≡ labelCode (now tab) (stateIn (now scratch) i)) × (f < length (now arity)) ⌝ }
-    ensures is { λ r. ⌜ MetIs r (now (scratch .exit)) (2 + 2 * length (outputsW (now (tab .entry)) c f (stateIn (now (scratch .entry)) i))) (meets (machine (now (tab .entry)) shapes) (statesIn (now (scratch .entry)) m) (machine (now (tab .entry)) shapes .classes (stateIn (now (scratch .entry)) i) f (getD (now (arity .entry)) f 0))) ⌝ }
+    requires { ⌜ Kept (now scratch) m × (state .0 < m) × AllGood (now arity) (now tab) shapes (statesIn (now scratch) m) × (root .0 ≡ labelCode (now tab) (stateIn (now scratch) (state .0))) × (symbol .0 < length (now arity)) ⌝ }
+    ensures is { λ r. ⌜ MetIs r (now (scratch .exit)) (2 + 2 * length (outputsW (now (tab .entry)) (root .0) (symbol .0) (stateIn (now (scratch .entry)) (state .0)))) (meets (machine (now (tab .entry)) shapes) (statesIn (now (scratch .entry)) m) (machine (now (tab .entry)) shapes .classes (stateIn (now (scratch .entry)) (state .0)) (symbol .0) (getD (now (arity .entry)) (symbol .0) 0))) ⌝ }
     ensures behind { λ r. ⌜ drop 12416 (now (scratch .exit)) ≡ drop 12416 (now (scratch .entry)) ⌝ }
 {
     let mut goals = [0u16; 288];
     let mut dep = [[false; 96]; 96];
     let mut order = [0u32; 96];
     let mut out = [0u32; 96];
+    let i = state.0 as usize;
+    let f = symbol.0 as usize;
     let at = 128 + 96 * i;
     let n = scratch[i] as usize;
-    let outs = outputs(tab, scratch, at, n, c as u32, f as u16, &mut out);
+    let outs = outputs(tab, scratch, at, n, root, symbol, &mut out);
     let d = derive(
         tab,
         scratch,
         at,
         n,
         shapes,
-        c,
-        f as u16,
+        root,
+        symbol,
         arity[f] as u16,
         &mut goals,
     )

@@ -7,6 +7,9 @@ use crate::lift::put_lifted;
 use crate::order::class_order;
 use crate::square::dependency;
 use crate::states::find_state;
+use kinds::Position;
+use kinds::State;
+use kinds::Symbol;
 ghost use mathlib.Core.Path.{_≡_};
 ghost use mathlib.Core.List.{List, [], _∷_, map};
 ghost use Prim.Native.Nat.{ℕ, _+_, _*_, _%_, _<_, _≤_};
@@ -47,62 +50,85 @@ pub fn write_plan(
     while i < m {
         let c = label(tab, scratch, 128 + 96 * i, scratch[i] as usize) as u16;
         plan[4 + i] = c;
-        at = write_row(tab, arity, shapes, scratch, m, i, c, at, plan);
+        at = write_row(
+            tab,
+            arity,
+            shapes,
+            scratch,
+            m,
+            State(i as u16),
+            Position(c),
+            at,
+            plan,
+        );
         i += 1;
     }
 }
 
-// The blocks of state i from `at` on, and their starts; answers the place after them.
+// The blocks of a state from `at` on, and their starts; answers the place after them.
 fn write_row(
     tab: &[u16],
     arity: &[u8],
     shapes: usize,
     scratch: &[u16],
     m: usize,
-    i: usize,
-    c: u16,
+    state: State,
+    root: Position,
     at: usize,
     plan: &mut [u16],
 ) -> usize
-    requires { ⌜ Kept (now scratch) m × (i < m) × AllGood (now arity) (now tab) shapes (statesIn (now scratch) m) × SmallOn (machine (now tab) shapes) (stateIn (now scratch) i) 0 (now arity) × (c ≡ labelCode (now tab) (stateIn (now scratch) i)) × (4 + m + i * length (now arity) + length (now arity) ≤ at) × (at + length (concat (rowWords (now tab) shapes (now scratch) m i 0 (now arity))) ≤ length (now plan)) × (at + length (concat (rowWords (now tab) shapes (now scratch) m i 0 (now arity))) ≤ 65535) ⌝ }
-    ensures next { λ r. ⌜ r ≡ at + length (concat (rowWords (now (tab .entry)) shapes (now (scratch .entry)) m i 0 (now (arity .entry)))) ⌝ }
-    ensures wrote { λ r. ⌜ now (plan .exit) ≡ sets (sets (now (plan .entry)) (4 + m + i * length (now (arity .entry))) (startsFrom at (rowWords (now (tab .entry)) shapes (now (scratch .entry)) m i 0 (now (arity .entry))))) at (concat (rowWords (now (tab .entry)) shapes (now (scratch .entry)) m i 0 (now (arity .entry)))) ⌝ }
+    requires { ⌜ Kept (now scratch) m × (state .0 < m) × AllGood (now arity) (now tab) shapes (statesIn (now scratch) m) × SmallOn (machine (now tab) shapes) (stateIn (now scratch) (state .0)) 0 (now arity) × (root .0 ≡ labelCode (now tab) (stateIn (now scratch) (state .0))) × (4 + m + state .0 * length (now arity) + length (now arity) ≤ at) × (at + length (concat (rowWords (now tab) shapes (now scratch) m (state .0) 0 (now arity))) ≤ length (now plan)) × (at + length (concat (rowWords (now tab) shapes (now scratch) m (state .0) 0 (now arity))) ≤ 65535) ⌝ }
+    ensures next { λ r. ⌜ r ≡ at + length (concat (rowWords (now (tab .entry)) shapes (now (scratch .entry)) m (state .0) 0 (now (arity .entry)))) ⌝ }
+    ensures wrote { λ r. ⌜ now (plan .exit) ≡ sets (sets (now (plan .entry)) (4 + m + state .0 * length (now (arity .entry))) (startsFrom at (rowWords (now (tab .entry)) shapes (now (scratch .entry)) m (state .0) 0 (now (arity .entry))))) at (concat (rowWords (now (tab .entry)) shapes (now (scratch .entry)) m (state .0) 0 (now (arity .entry)))) ⌝ }
 {
-    let starts = 4 + m + i * arity.len();
+    let starts = 4 + m + state.0 as usize * arity.len();
     let mut here = at;
     let mut f = 0;
     while f < arity.len() {
         plan[starts + f] = here as u16;
-        here = write_block(tab, arity, shapes, scratch, m, i, c, f, here, plan);
+        here = write_block(
+            tab,
+            arity,
+            shapes,
+            scratch,
+            m,
+            state,
+            root,
+            Symbol(f as u16),
+            here,
+            plan,
+        );
         f += 1;
     }
     here
 }
 
-// The block of state i on symbol f, from `at` on; answers the place after it.
+// The block of a state on a symbol, from `at` on; answers the place after it.
 fn write_block(
     tab: &[u16],
     arity: &[u8],
     shapes: usize,
     scratch: &[u16],
     m: usize,
-    i: usize,
-    c: u16,
-    f: usize,
+    state: State,
+    root: Position,
+    symbol: Symbol,
     at: usize,
     plan: &mut [u16],
 ) -> usize
-    requires { ⌜ Kept (now scratch) m × (i < m) × AllGood (now arity) (now tab) shapes (statesIn (now scratch) m) × SmallOn (machine (now tab) shapes) (stateIn (now scratch) i) 0 (now arity) × (c ≡ labelCode (now tab) (stateIn (now scratch) i)) × (f < length (now arity)) × (at + length (blockWords (blockOf (machine (now tab) shapes) (statesIn (now scratch) m) (stateIn (now scratch) i) f (getD (now arity) f 0))) ≤ length (now plan)) ⌝ }
-    ensures next { λ r. ⌜ r ≡ at + length (blockWords (blockOf (machine (now (tab .entry)) shapes) (statesIn (now (scratch .entry)) m) (stateIn (now (scratch .entry)) i) f (getD (now (arity .entry)) f 0))) ⌝ }
-    ensures wrote { λ r. ⌜ now (plan .exit) ≡ sets (now (plan .entry)) at (blockWords (blockOf (machine (now (tab .entry)) shapes) (statesIn (now (scratch .entry)) m) (stateIn (now (scratch .entry)) i) f (getD (now (arity .entry)) f 0))) ⌝ }
+    requires { ⌜ Kept (now scratch) m × (state .0 < m) × AllGood (now arity) (now tab) shapes (statesIn (now scratch) m) × SmallOn (machine (now tab) shapes) (stateIn (now scratch) (state .0)) 0 (now arity) × (root .0 ≡ labelCode (now tab) (stateIn (now scratch) (state .0))) × (symbol .0 < length (now arity)) × (at + length (blockWords (blockOf (machine (now tab) shapes) (statesIn (now scratch) m) (stateIn (now scratch) (state .0)) (symbol .0) (getD (now arity) (symbol .0) 0))) ≤ length (now plan)) ⌝ }
+    ensures next { λ r. ⌜ r ≡ at + length (blockWords (blockOf (machine (now (tab .entry)) shapes) (statesIn (now (scratch .entry)) m) (stateIn (now (scratch .entry)) (state .0)) (symbol .0) (getD (now (arity .entry)) (symbol .0) 0))) ⌝ }
+    ensures wrote { λ r. ⌜ now (plan .exit) ≡ sets (now (plan .entry)) at (blockWords (blockOf (machine (now (tab .entry)) shapes) (statesIn (now (scratch .entry)) m) (stateIn (now (scratch .entry)) (state .0)) (symbol .0) (getD (now (arity .entry)) (symbol .0) 0))) ⌝ }
 {
     let mut goals = [0u16; 288];
     let mut dep = [[false; 96]; 96];
     let mut order = [0u32; 96];
     let mut out = [0u32; 96];
+    let i = state.0 as usize;
+    let f = symbol.0 as usize;
     let from = 128 + 96 * i;
     let n = scratch[i] as usize;
-    let outs = outputs(tab, scratch, from, n, c as u32, f as u16, &mut out);
+    let outs = outputs(tab, scratch, from, n, root, symbol, &mut out);
     let next = write_outputs(scratch, from, &out[0..outs], at, plan);
     let d = derive(
         tab,
@@ -110,8 +136,8 @@ fn write_block(
         from,
         n,
         shapes,
-        c,
-        f as u16,
+        root,
+        symbol,
         arity[f] as u16,
         &mut goals,
     )

@@ -18,14 +18,14 @@ use Rattle.plan.proofs.goals.padded.Reads as padded-reads
 use Rattle.plan.proofs.sorting.arrange.Reads as arrange-reads
 
 abbrev Inv-loop : tie.InvT-loop
-Inv-loop tab ws at n c f items₀ k₀ j₀ items k j = Listed (goesOut tab ws at c f) (λ x. annKey (goalOn ws at x)) n items₀ items k j
+Inv-loop tab ws at n root symbol items₀ k₀ j₀ items k j = Listed (goesOut tab ws at (root .0) (symbol .0)) (λ x. annKey (goalOn ws at x)) n items₀ items k j
 
 abbrev μ-loop : tie.MeasureT-loop
-μ-loop tab ws at n c f items₀ k₀ j₀ items k j = n - j
+μ-loop tab ws at n root symbol items₀ k₀ j₀ items k j = n - j
 
 -- src/announce.rt:22:5
 loop-holds : tie.Need-loop-holds Inv-loop μ-loop
-loop-holds c = listed-begin (goesOut (c .before .before .before .args .tab .now) (c .before .before .before .args .ws .now) (c .before .before .before .args .at) (c .before .before .before .args .c) (c .before .before .before .args .f)) (λ x. annKey (goalOn (c .before .before .before .args .ws .now) (c .before .before .before .args .at) x)) (c .before .before .before .args .n) (c .before .before .before .args .items .now)
+loop-holds c = listed-begin (goesOut (c .before .before .before .args .tab .now) (c .before .before .before .args .ws .now) (c .before .before .before .args .at) (c .before .before .before .args .root .0) (c .before .before .before .args .symbol .0)) (λ x. annKey (goalOn (c .before .before .before .args .ws .now) (c .before .before .before .args .at) x)) (c .before .before .before .args .n) (c .before .before .before .args .items .now)
 
 -- src/announce.rt:23:22
 mul-g : tie.Need-mul-g Inv-loop μ-loop
@@ -73,11 +73,11 @@ shared-slice-read-reduce c = search needs
 
 -- src/announce.rt:26:12
 reduce-requires : tie.Need-reduce-requires Inv-loop μ-loop
-reduce-requires c κs = (c .before .before .before .before .before .before .before .before .pre .0, c .before .before .before .before .before .before .before .before .pre .3 (c .before .before .before .before .loop .j) (c .before .before .before .loop-test .taken))
+reduce-requires c κs = (c .before .before .before .before .before .before .before .before .before .pre .0, c .before .before .before .before .before .before .before .before .before .pre .3 (c .before .before .before .before .before .loop .j) (c .before .before .before .before .loop-test .taken))
 
 -- src/announce.rt:27:43
 cast-padded : tie.Need-cast-padded Inv-loop μ-loop
-cast-padded c = omega (arith, c .before .before .before .shared-slice-known4 .given (c .before .before .before .before .before .before .before .before .before .before .args .at + 3 * c .before .before .before .before .before .before .loop .j + 1))
+cast-padded c = omega (arith, c .before .before .before .before .shared-slice-known4 .given (c .before .before .before .before .before .before .before .before .before .before .before .args .at + 3 * c .before .before .before .before .before .before .before .loop .j + 1))
 
 -- src/announce.rt:27:36
 padded-requires : tie.Need-padded-requires Inv-loop μ-loop
@@ -85,19 +85,19 @@ padded-requires c κs = search needs
 
 -- src/announce.rt:27:31
 mul-items : tie.Need-mul-items Inv-loop μ-loop
-mul-items c = omega (arith, c .padded .ensures, pad-word (getD (c .before .before .before .before .before .before .before .before .before .before .before .args .ws .now) (c .before .before .before .before .before .before .before .before .before .before .before .args .at + 3 * c .before .before .before .before .before .before .before .loop .j + 1) 0) (omega (arith, c .before .before .before .before .shared-slice-known4 .given (c .before .before .before .before .before .before .before .before .before .before .before .args .at + 3 * c .before .before .before .before .before .before .before .loop .j + 1))))
+mul-items c = omega (arith, c .padded .ensures, pad-word (getD (c .before .before .before .before .before .before .before .before .before .before .before .before .args .ws .now) (c .before .before .before .before .before .before .before .before .before .before .before .before .args .at + 3 * c .before .before .before .before .before .before .before .before .loop .j + 1) 0) (omega (arith, c .before .before .before .before .before .shared-slice-known4 .given (c .before .before .before .before .before .before .before .before .before .before .before .before .args .at + 3 * c .before .before .before .before .before .before .before .before .loop .j + 1))))
 
 -- src/announce.rt:27:55
 cast-items : tie.Need-cast-items Inv-loop μ-loop
-cast-items c = omega (arith, c .before .before .before .before .before .before .before .before .before .before .before .pre .3 (c .before .before .before .before .before .before .before .loop .j) (c .before .before .before .before .before .before .loop-test .taken))
+cast-items c = omega (arith, c .before .before .before .before .before .before .before .before .before .before .before .before .pre .3 (c .before .before .before .before .before .before .before .before .loop .j) (c .before .before .before .before .before .before .before .loop-test .taken))
 
 -- src/announce.rt:27:31
 add-items : tie.Need-add-items Inv-loop μ-loop
-add-items c = omega (arith, c .before .before .before .before .before .before .before .before .before .before .before .pre .3 (c .before .before .before .before .before .before .before .loop .j) (c .before .before .before .before .before .before .loop-test .taken), c .padded .ensures, pad-word (getD (c .before .before .before .before .before .before .before .before .before .before .before .args .ws .now) (c .before .before .before .before .before .before .before .before .before .before .before .args .at + 3 * c .before .before .before .before .before .before .before .loop .j + 1) 0) (omega (arith, c .before .before .before .before .shared-slice-known4 .given (c .before .before .before .before .before .before .before .before .before .before .before .args .at + 3 * c .before .before .before .before .before .before .before .loop .j + 1))))
+add-items c = omega (arith, c .before .before .before .before .before .before .before .before .before .before .before .before .pre .3 (c .before .before .before .before .before .before .before .before .loop .j) (c .before .before .before .before .before .before .before .loop-test .taken), c .padded .ensures, pad-word (getD (c .before .before .before .before .before .before .before .before .before .before .before .before .args .ws .now) (c .before .before .before .before .before .before .before .before .before .before .before .before .args .at + 3 * c .before .before .before .before .before .before .before .before .loop .j + 1) 0) (omega (arith, c .before .before .before .before .before .shared-slice-known4 .given (c .before .before .before .before .before .before .before .before .before .before .before .before .args .at + 3 * c .before .before .before .before .before .before .before .before .loop .j + 1))))
 
 -- src/announce.rt:27:24
 mul-items-2 : tie.Need-mul-items-2 Inv-loop μ-loop
-mul-items-2 c = omega (arith, c .before .before .before .before .before .before .before .before .before .before .before .pre .3 (c .before .before .before .before .before .before .before .loop .j) (c .before .before .before .before .before .before .loop-test .taken), c .padded .ensures, pad-word (getD (c .before .before .before .before .before .before .before .before .before .before .before .args .ws .now) (c .before .before .before .before .before .before .before .before .before .before .before .args .at + 3 * c .before .before .before .before .before .before .before .loop .j + 1) 0) (omega (arith, c .before .before .before .before .shared-slice-known4 .given (c .before .before .before .before .before .before .before .before .before .before .before .args .at + 3 * c .before .before .before .before .before .before .before .loop .j + 1))))
+mul-items-2 c = omega (arith, c .before .before .before .before .before .before .before .before .before .before .before .before .pre .3 (c .before .before .before .before .before .before .before .before .loop .j) (c .before .before .before .before .before .before .before .loop-test .taken), c .padded .ensures, pad-word (getD (c .before .before .before .before .before .before .before .before .before .before .before .before .args .ws .now) (c .before .before .before .before .before .before .before .before .before .before .before .before .args .at + 3 * c .before .before .before .before .before .before .before .before .loop .j + 1) 0) (omega (arith, c .before .before .before .before .before .shared-slice-known4 .given (c .before .before .before .before .before .before .before .before .before .before .before .before .args .at + 3 * c .before .before .before .before .before .before .before .before .loop .j + 1))))
 
 -- src/announce.rt:27:67
 cast-items-2 : tie.Need-cast-items-2 Inv-loop μ-loop
@@ -105,19 +105,19 @@ cast-items-2 c = search needs
 
 -- src/announce.rt:27:24
 add-items-2 : tie.Need-add-items-2 Inv-loop μ-loop
-add-items-2 c = omega (arith, c .before .before .before .before .before .before .before .before .before .before .before .pre .3 (c .before .before .before .before .before .before .before .loop .j) (c .before .before .before .before .before .before .loop-test .taken), c .padded .ensures, pad-word (getD (c .before .before .before .before .before .before .before .before .before .before .before .args .ws .now) (c .before .before .before .before .before .before .before .before .before .before .before .args .at + 3 * c .before .before .before .before .before .before .before .loop .j + 1) 0) (omega (arith, c .before .before .before .before .shared-slice-known4 .given (c .before .before .before .before .before .before .before .before .before .before .before .args .at + 3 * c .before .before .before .before .before .before .before .loop .j + 1))))
+add-items-2 c = omega (arith, c .before .before .before .before .before .before .before .before .before .before .before .before .pre .3 (c .before .before .before .before .before .before .before .before .loop .j) (c .before .before .before .before .before .before .before .loop-test .taken), c .padded .ensures, pad-word (getD (c .before .before .before .before .before .before .before .before .before .before .before .before .args .ws .now) (c .before .before .before .before .before .before .before .before .before .before .before .before .args .at + 3 * c .before .before .before .before .before .before .before .before .loop .j + 1) 0) (omega (arith, c .before .before .before .before .before .shared-slice-known4 .given (c .before .before .before .before .before .before .before .before .before .before .before .before .args .at + 3 * c .before .before .before .before .before .before .before .before .loop .j + 1))))
 
 -- src/announce.rt:27:13
 mul-items-3 : tie.Need-mul-items-3 Inv-loop μ-loop
-mul-items-3 c = let s = c .before .before .before .before .before .before .before .loop .inv in omega (arith, s .few, s .long, c .before .before .before .before .before .before .before .before .before .before .before .pre .4, c .before .before .before .before .before .before .before .before .before .before .before .pre .1)
+mul-items-3 c = let s = c .before .before .before .before .before .before .before .before .loop .inv in omega (arith, s .few, s .long, c .before .before .before .before .before .before .before .before .before .before .before .before .pre .4, c .before .before .before .before .before .before .before .before .before .before .before .before .pre .1)
 
 -- src/announce.rt:27:13
 slice-write-items : tie.Need-slice-write-items Inv-loop μ-loop
-slice-write-items c = let s = c .before .before .before .before .before .before .before .loop .inv in omega (arith, s .few, s .long, c .before .before .before .before .before .before .before .before .before .before .before .pre .4, c .before .before .before .before .before .before .before .before .before .before .before .pre .1)
+slice-write-items c = let s = c .before .before .before .before .before .before .before .before .loop .inv in omega (arith, s .few, s .long, c .before .before .before .before .before .before .before .before .before .before .before .before .pre .4, c .before .before .before .before .before .before .before .before .before .before .before .before .pre .1)
 
 -- src/announce.rt:28:13
 add-k : tie.Need-add-k Inv-loop μ-loop
-add-k c = let s = c .before .before .before .before .before .before .before .loop .inv in omega (arith, s .few, c .before .before .before .before .before .before .before .before .before .before .before .pre .1)
+add-k c = let s = c .before .before .before .before .before .before .before .before .loop .inv in omega (arith, s .few, c .before .before .before .before .before .before .before .before .before .before .before .before .pre .1)
 
 -- src/announce.rt:30:9
 add-j : tie.Need-add-j Inv-loop μ-loop
@@ -129,10 +129,10 @@ loop-less c = search needs
 
 -- src/announce.rt:22:5
 loop-again : tie.Need-loop-again Inv-loop μ-loop
-loop-again c = let a = c .before .before .before .before .before .before .before .before .before .before .args in let l = c .before .before .before .before .before .before .loop in
+loop-again c = let a = c .before .before .before .before .before .before .before .before .before .before .before .args in let l = c .before .before .before .before .before .before .before .loop in
     ⊎-elim
-    (λ w. rw (w .2, w .3) (listed-on (l .inv) (c .before .before .before .before .before .loop-test .taken) (eq-eqb _ _ (sym (c .before .reduce .ensures) ∙ w .0 .taken)) _ (ap (λ x. 128 * (16 * x + getD (a .ws .now) (a .at + 3 * l .j) 0) + l .j) (w .1 .ensures))))
-    (λ w. rw (w .1, w .2) (listed-off (l .inv) (c .before .before .before .before .before .loop-test .taken) (ne-eqb _ _ (λ e. w .0 .left (c .before .reduce .ensures ∙ e)))))
+    (λ w. rw (w .2, w .3) (listed-on (l .inv) (c .before .before .before .before .before .before .loop-test .taken) (eq-eqb _ _ (sym (c .before .reduce .ensures) ∙ w .0 .taken)) _ (ap (λ x. 128 * (16 * x + getD (a .ws .now) (a .at + 3 * l .j) 0) + l .j) (w .1 .ensures))))
+    (λ w. rw (w .1, w .2) (listed-off (l .inv) (c .before .before .before .before .before .before .loop-test .taken) (ne-eqb _ _ (λ e. w .0 .left (c .before .reduce .ensures ∙ e)))))
     (c .if1 .came)
 
 -- src/announce.rt:32:5
@@ -146,6 +146,9 @@ same-length c = c .before .before .arrange .kept .0 ∙ c .before .before .befor
 -- src/announce.rt:15:1
 returns : tie.Need-returns Inv-loop μ-loop
 returns c = listed-end (c .before .before .before .before .before .loop .inv) (c .before .before .before .before .loop-test .left) (c .before .before .before .before .before .before .before .before .before .pre .4) _ (c .before .before .arrange .ensures)
+
+cast-reduce-2 : tie.Need-cast-reduce-2 Inv-loop μ-loop
+cast-reduce-2 c = search needs
 
 pub outputs-spec : {M : Type 1} → statement M
 outputs-spec =
@@ -165,6 +168,7 @@ outputs-spec =
     add-reduce
     mul-reduce
     shared-slice-read-reduce
+    cast-reduce-2
     reduce-requires
     cast-padded
     padded-requires

@@ -56,7 +56,7 @@ enum-known-reason c = search needs
 
 -- src/explore.rt:48:56
 cast-t24 : tie.Need-cast-t24 Inv-loop μ-loop
-cast-t24 c = omega (arith, c .before .before .before .before .before .before .before .loop-test .taken, c .before .before .before .before .before .before .before .before .loop .inv .kept .few)
+cast-t24 c = omega (arith, c .before .loop-test .taken, c .before .before .loop .inv .kept .few)
 
 -- src/explore.rt:48:17
 same-length : tie.Need-same-length Inv-loop μ-loop
@@ -86,6 +86,9 @@ same-length-2 c = c .before .loop .inv .long ∙ c .before .before .before .befo
 returns-2 : tie.Need-returns-2 Inv-loop μ-loop
 returns-2 c = (running-end (c .before .before .before .before .before .before .before .before .before .before .before .before .before .args .arity .now) (c .before .before .before .before .before .before .before .before .before .before .before .before .before .args .tab .now) (c .before .before .before .before .before .before .before .before .before .before .before .before .before .args .shapes) _ (c .before .loop .inv) (c .loop-test .left), c .before .loop .inv .behind ∙ (running-begin (c .before .before .before .before .before .before .before .before .before .before .before .before .before .args .arity .now) (c .before .before .before .before .before .before .before .before .before .before .before .before .before .args .tab .now) (c .before .before .before .before .before .before .before .before .before .before .before .before .before .args .shapes) (c .before .before .before .before .before .before .before .before .before .before .before .before .before .args .scratch .now) (c .before .before .before .before .before .before .before .before .before .before .before .before .before .pre .0) (c .before .before .before .before .before .before .before .before .before .before .before .before .before .pre .1) _ _ (c .before .before .before .before .before .before .before .before .put-fresh .ensures .1) (c .before .before .before .before .add-state .ensures)) .1)
 
+cast-t26 : tie.Need-cast-t26 Inv-loop μ-loop
+cast-t26 c = omega (arith, c .before .before .before .before .before .before .before .loop-test .taken, c .before .before .before .before .before .before .before .before .loop .inv .kept .few)
+
 pub explore-spec : {M : Type 1} → statement M
 explore-spec =
     tie.close
@@ -97,11 +100,12 @@ explore-spec =
     slice-aggregate-add-state
     add-state-requires
     loop-holds
+    cast-t24
     explore-state-requires
     enum-known-states
     add-words
     enum-known-reason
-    cast-t24
+    cast-t26
     same-length
     returns
     add-i

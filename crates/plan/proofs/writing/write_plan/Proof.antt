@@ -134,6 +134,9 @@ same-length c = c .before .loop .inv .long ∙ head-length (c .before .before .b
 returns : tie.Need-returns Inv-loop μ-loop
 returns c = planned-end (c .before .before .before .before .before .before .args .arity .now) (c .before .before .before .before .before .before .args .tab .now) (c .before .before .before .before .before .before .args .shapes) (c .before .before .before .before .before .before .args .scratch .now) (c .before .before .before .before .before .before .args .m) (c .before .loop .inv) (c .loop-test .left) (c .before .before .before .before .before .before .args .plan .now) (c .before .before .before .before .before .before .args .total) (c .before .before .before .before .before .before .pre .4) refl
 
+cast-t25 : tie.Need-cast-t25 Inv-loop μ-loop
+cast-t25 c = omega (arith, c .before .before .loop-test .taken, c .before .before .before .before .before .before .before .before .pre .0 .few)
+
 pub write-plan-spec : {M : Type 1} → statement M
 write-plan-spec =
     tie.close
@@ -162,6 +165,7 @@ write-plan-spec =
     add-plan
     mul-plan
     slice-write-plan-5
+    cast-t25
     write-row-requires
     add-i
     loop-less
