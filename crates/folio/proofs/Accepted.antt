@@ -23,22 +23,22 @@ use Rattle.term.specs.Spans.{spansOf}
 use Rattle.term.proofs.OneTerm.{once}
 use Rattle.term.proofs.Sizes.{length-flatten, spans-are}
 use Rattle.term.proofs.TermWhole.{parse-flatten, parse-all}
-use Rattle.folio.specs.Bytes.{wordsOf}
-use Rattle.folio.specs.Sections.{trailerOf, sectionsOf}
-use Rattle.folio.specs.Tables.{blankWord, noBlank, shapeLevels, scoreLevels, Row, shapesOf, scoreOf}
+use Rattle.sections.specs.Bytes.{wordsOf}
+use Rattle.sections.specs.Sections.{trailerOf, sectionsOf}
+use Rattle.contents.specs.Tables.{blankWord, noBlank, shapeLevels, scoreLevels, Row, shapesOf, scoreOf}
 use Rattle.folio.specs.Opening.{Lent, Room, Out, lent, out, refuse, counts, stored, onScore, onShapes, held, onSections, opened}
 use Rattle.folio.specs.Folio as folio
 use Rattle.folio.specs.Folio.{GoodSymbols, startsAt, answered, IsScore, shapeTerms, orBlank, scoreTerm}
-use Rattle.folio.specs.declared.Places.{Places}
-use Rattle.folio.specs.declared.Sections.{Sections}
-use Rattle.folio.specs.declared.Sections.the-variants as sections
-use Rattle.folio.specs.declared.Shapes.{Shapes}
-use Rattle.folio.specs.declared.Shapes.the-variants as shapes
-use Rattle.folio.specs.declared.Score.{Score}
-use Rattle.folio.specs.declared.Score.the-variants as score
+use Rattle.sections.specs.declared.Places.{Places}
+use Rattle.sections.specs.declared.Sections.{Sections}
+use Rattle.sections.specs.declared.Sections.the-variants as sections
+use Rattle.contents.specs.declared.Shapes.{Shapes}
+use Rattle.contents.specs.declared.Shapes.the-variants as shapes
+use Rattle.contents.specs.declared.Score.{Score}
+use Rattle.contents.specs.declared.Score.the-variants as score
 use Rattle.folio.specs.declared.Counts.{Counts}
 use Rattle.folio.specs.declared.Opened.the-variants.{Folio, Refused}
-use Rattle.folio.proofs.LawsSections.{sections-in, sections-good}
+use Rattle.sections.proofs.LawsSections.{sections-in, sections-good}
 use Rattle.folio.proofs.LawsOpening.{stored-all, held-on, opened-at}
 use Rattle.folio.proofs.Symbols.{symbols-is, symbols-of}
 use Rattle.folio.proofs.ShapesFound.{length-starts, Each, found-shapes, shapes-found, all-once}

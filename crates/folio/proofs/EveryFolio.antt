@@ -13,14 +13,14 @@ use Rattle.kinds.specs.Lists.{gather}
 use Rattle.kinds.proofs.Members.{here, there}
 use Rattle.term.specs.Terms.{Term, flatten, span}
 use Rattle.term.proofs.Sizes.{length-flatten}
-use Rattle.folio.specs.Bytes.{wordAt, wordsOf}
-use Rattle.folio.specs.Sections.{places, distancesOf, trailerOf}
+use Rattle.sections.specs.Bytes.{wordAt, wordsOf}
+use Rattle.sections.specs.Sections.{places, distancesOf, trailerOf}
 use Rattle.folio.specs.Opening.{Lent, Room, opened}
 use Rattle.folio.specs.Folio as folio
 use Rattle.folio.specs.Folio.{startsAt, answered}
-use Rattle.folio.specs.declared.Places.{Places}
-use Rattle.folio.specs.declared.Sections.the-variants.{At}
-use Rattle.folio.proofs.LawsSections.{trailer-to, distances-at}
+use Rattle.sections.specs.declared.Places.{Places}
+use Rattle.sections.specs.declared.Sections.the-variants.{At}
+use Rattle.sections.proofs.LawsSections.{trailer-to, distances-at}
 use Rattle.folio.proofs.ShapesFound.{Each}
 use Rattle.folio.proofs.Accepted.{Meaning, each-shape, made}
 

@@ -24,17 +24,17 @@ use Rattle.term.specs.declared.Limits.{Limits}
 use Rattle.term.specs.declared.Met.{Met}
 use Rattle.term.specs.declared.Fault.{Fault}
 use Rattle.term.specs.declared.Reading.the-variants as read
-use Rattle.folio.specs.Sections.{symbolsOf}
-use Rattle.folio.specs.declared.Verdict.{Verdict}
-use Rattle.folio.specs.declared.Verdict.the-variants.{Good, Bad}
-use Rattle.folio.specs.Tables.{blankWord, shapesOf, scoreOf}
-use Rattle.folio.specs.declared.Shapes.{Shapes}
-use Rattle.folio.specs.declared.Shapes.the-variants as shapes
-use Rattle.folio.specs.declared.Score.{Score}
-use Rattle.folio.specs.declared.Score.the-variants as score
+use Rattle.sections.specs.Sections.{symbolsOf}
+use Rattle.sections.specs.declared.Verdict.{Verdict}
+use Rattle.sections.specs.declared.Verdict.the-variants.{Good, Bad}
+use Rattle.contents.specs.Tables.{blankWord, shapesOf, scoreOf}
+use Rattle.contents.specs.declared.Shapes.{Shapes}
+use Rattle.contents.specs.declared.Shapes.the-variants as shapes
+use Rattle.contents.specs.declared.Score.{Score}
+use Rattle.contents.specs.declared.Score.the-variants as score
 use Rattle.folio.specs.declared.Asked.{Asked}
 use Rattle.folio.specs.Again.{isGood, symbolsGood, isFound, isWhole, shapesGood, scoreGood, cut, pieceAt, askedOf, subtreeAt}
-use Rattle.folio.proofs.LawsTables.{found-count}
+use Rattle.contents.proofs.LawsTables.{found-count}
 
 module _ (ar : List ℕ) where
   pub symbols-bad : {r : Reason} {p : ℕ} → symbolsOf ar ≡ Bad r p → symbolsGood ar ≡ false

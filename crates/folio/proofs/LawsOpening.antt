@@ -15,19 +15,19 @@ use Rattle.kinds.proofs.ListLaws.{run-whole, drop-take}
 use Rattle.kinds.specs.declared.Reason.{Reason}
 use Rattle.kinds.specs.declared.Reason.the-variants as reason
 use Rattle.term.specs.Spans.{spansOf}
-use Rattle.folio.specs.Bytes.{wordsOf}
-use Rattle.folio.specs.Sections.{sectionsOf}
-use Rattle.folio.specs.declared.Places.{Places}
-use Rattle.folio.specs.declared.Sections.{Sections}
-use Rattle.folio.specs.declared.Sections.the-variants as sections
-use Rattle.folio.specs.Tables.{blankWord, shapesOf, scoreOf}
-use Rattle.folio.specs.declared.Shapes.the-variants as shapes
-use Rattle.folio.specs.declared.Score.the-variants as score
+use Rattle.sections.specs.Bytes.{wordsOf}
+use Rattle.sections.specs.Sections.{sectionsOf}
+use Rattle.sections.specs.declared.Places.{Places}
+use Rattle.sections.specs.declared.Sections.{Sections}
+use Rattle.sections.specs.declared.Sections.the-variants as sections
+use Rattle.contents.specs.Tables.{blankWord, shapesOf, scoreOf}
+use Rattle.contents.specs.declared.Shapes.the-variants as shapes
+use Rattle.contents.specs.declared.Score.the-variants as score
 use Rattle.folio.specs.declared.Opened.the-variants.{Folio}
 use Rattle.folio.specs.Opening.{Lent, lent, out, refuse, counts, stored, held, onSections, opened}
-use Rattle.folio.proofs.LawsBytes.{length-words, words-take, words-drop}
-use Rattle.folio.proofs.LawsSections.{Placed}
-use Rattle.folio.proofs.LawsTables.{found-count}
+use Rattle.sections.proofs.LawsBytes.{length-words, words-take, words-drop}
+use Rattle.sections.proofs.LawsSections.{Placed}
+use Rattle.contents.proofs.LawsTables.{found-count}
 
 module _ (ar ws st sc : List ℕ) (l : Lent) where
   pub stored-words : length (l .words) < length ws → stored ar ws st sc l ≡ refuse reason.Tables 0 l

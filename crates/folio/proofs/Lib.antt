@@ -1,7 +1,4 @@
 -- What is known of opening and of the checks that later calls repeat.
-pub mod LawsBytes
-pub mod LawsSections
-pub mod LawsTables
 pub mod LawsOpening
 pub mod LawsAgain
 pub mod Symbols

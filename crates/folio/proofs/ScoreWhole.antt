@@ -21,11 +21,11 @@ use Rattle.term.specs.declared.Reading.the-variants as read
 use Rattle.term.proofs.LawsReading.{whole-in}
 use Rattle.term.proofs.WholeTerm.{whole-term}
 use Rattle.term.proofs.TermWhole.{read-back}
-use Rattle.folio.specs.Bytes.{wordsOf}
-use Rattle.folio.specs.declared.Score.the-variants as score
-use Rattle.folio.specs.Tables.{noBlank, scoreLimits, scoreLevels, alone, scoreOf}
+use Rattle.sections.specs.Bytes.{wordsOf}
+use Rattle.contents.specs.declared.Score.the-variants as score
+use Rattle.contents.specs.Tables.{noBlank, scoreLimits, scoreLevels, alone, scoreOf}
 use Rattle.folio.specs.Folio.{IsScore, Scored}
-use Rattle.folio.proofs.LawsTables.{score-whole}
+use Rattle.contents.proofs.LawsTables.{score-whole}
 
 -- each number is below n
 abbrev pub Below : ℕ → List ℕ → Type 0

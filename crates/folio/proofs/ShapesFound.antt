@@ -27,10 +27,10 @@ use Rattle.term.proofs.WholeTerm.{TermAt, whole-term}
 use Rattle.term.proofs.TermWhole.{first, read-back}
 use Rattle.term.proofs.OneTerm.{once}
 use Rattle.term.proofs.Sizes.{length-flatten, span-pos}
-use Rattle.folio.specs.declared.Shapes.the-variants as shapes
-use Rattle.folio.specs.Tables.{blankWord, shapeLimits, shapeLevels, row, push, shape, shapesFrom, shapesOf}
+use Rattle.contents.specs.declared.Shapes.the-variants as shapes
+use Rattle.contents.specs.Tables.{blankWord, shapeLimits, shapeLevels, row, push, shape, shapesFrom, shapesOf}
 use Rattle.folio.specs.Folio.{isBlank, IsShape, startsAt, Shaped}
-use Rattle.folio.proofs.LawsTables.{never-found, shapes-done, shapes-some, found-from}
+use Rattle.contents.proofs.LawsTables.{never-found, shapes-done, shapes-some, found-from}
 
 pub length-starts : (at : ℕ) (ts : List Term) → length (startsAt at ts) ≡ length ts
 length-starts at [] = refl

@@ -17,8 +17,8 @@ use Rattle.term.specs.declared.Limits.{Limits}
 use Rattle.term.proofs.WholeTerm.{TermAt}
 use Rattle.term.proofs.TermWhole.{read-back}
 use Rattle.term.proofs.Sizes.{length-flatten, span-pos}
-use Rattle.term.proofs.FollowTree.{words-stand}
-use Rattle.folio.specs.Tables.{blankWord, shapeLimits, shapeLevels, scoreLimits, scoreLevels}
+use Rattle.following.proofs.FollowTree.{words-stand}
+use Rattle.contents.specs.Tables.{blankWord, shapeLimits, shapeLevels, scoreLimits, scoreLevels}
 use Rattle.folio.specs.Again.{pieceAt, subtreeAt}
 use Rattle.folio.specs.declared.Asked.the-variants as asked
 use Rattle.folio.specs.Folio.{GoodSymbols, IsScore}

@@ -14,11 +14,11 @@ use Rattle.kinds.specs.Lists.{unless}
 use Rattle.kinds.proofs.Options.{none-not}
 use Rattle.kinds.specs.declared.Reason.{Reason}
 use Rattle.kinds.specs.declared.Reason.the-variants.{Symbols, Children}
-use Rattle.folio.specs.Sections.{overAt, symbolsOf}
+use Rattle.sections.specs.Sections.{overAt, symbolsOf}
 use Rattle.folio.specs.Folio.{GoodSymbols}
-use Rattle.folio.specs.declared.Verdict.{Verdict}
-use Rattle.folio.specs.declared.Verdict.the-variants.{Good, Bad}
-use Rattle.folio.proofs.LawsSections.{never-bad, symbols-each}
+use Rattle.sections.specs.declared.Verdict.{Verdict}
+use Rattle.sections.specs.declared.Verdict.the-variants.{Good, Bad}
+use Rattle.sections.proofs.LawsSections.{never-bad, symbols-each}
 
 on-test {κ} : {C : Type κ} (b : Bool) (r : Reason) (p : ℕ) (v : Verdict) → unless b (Bad r p) v ≡ Good → (b ≡ true → v ≡ Good → C) → C
 on-test true r p v e k = k refl e

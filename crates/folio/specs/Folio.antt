@@ -19,7 +19,7 @@ use Rattle.kinds.proofs.Members.{_∈_}
 use Rattle.term.specs.Terms.{Term, blank, node, span, depth, flatten, sizes, Fits, Whole, Read, parse, parseAll}
 use Rattle.folio.specs.Opening.{Lent, Out, lent, out, counts}
 use Rattle.folio.specs.declared.Opened.the-variants as opening
-use Rattle.folio.specs.Tables.{blankWord, noBlank, shapeLevels, scoreLevels}
+use Rattle.contents.specs.Tables.{blankWord, noBlank, shapeLevels, scoreLevels}
 
 abbrev pub isBlank : Term → Bool
 isBlank (blank w) = true

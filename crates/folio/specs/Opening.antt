@@ -16,15 +16,15 @@ use Rattle.kinds.specs.Reasons.{Says, gives, refuses}
 use Rattle.kinds.specs.declared.Reason.{Reason}
 use Rattle.kinds.specs.declared.Reason.the-variants as reason
 use Rattle.term.specs.Spans.{spansOf}
-use Rattle.folio.specs.Bytes.{wordsOf}
-use Rattle.folio.specs.Sections.{sectionsOf}
-use Rattle.folio.specs.declared.Sections.{Sections}
-use Rattle.folio.specs.declared.Sections.the-variants as sections
-use Rattle.folio.specs.Tables.{blankWord, shapesOf, scoreOf}
-use Rattle.folio.specs.declared.Shapes.{Shapes}
-use Rattle.folio.specs.declared.Shapes.the-variants as shapes
-use Rattle.folio.specs.declared.Score.{Score}
-use Rattle.folio.specs.declared.Score.the-variants as score
+use Rattle.sections.specs.Bytes.{wordsOf}
+use Rattle.sections.specs.Sections.{sectionsOf}
+use Rattle.sections.specs.declared.Sections.{Sections}
+use Rattle.sections.specs.declared.Sections.the-variants as sections
+use Rattle.contents.specs.Tables.{blankWord, shapesOf, scoreOf}
+use Rattle.contents.specs.declared.Shapes.{Shapes}
+use Rattle.contents.specs.declared.Shapes.the-variants as shapes
+use Rattle.contents.specs.declared.Score.{Score}
+use Rattle.contents.specs.declared.Score.the-variants as score
 use Rattle.folio.specs.declared.Counts.{Counts}
 use Rattle.folio.specs.declared.Opened.{Opened}
 use Rattle.folio.specs.declared.Opened.the-variants.{Folio, Refused}

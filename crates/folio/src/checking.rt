@@ -2,14 +2,14 @@ ghost use mathlib.Core.Path.{_≡_};
 ghost use mathlib.Core.Bool.{Bool};
 ghost use Prim.Native.Nat.{ℕ};
 ghost use Rattle.folio.specs.Again.{shapesGood, scoreGood};
-use crate::BLANK;
-use crate::Score;
-use crate::Shapes;
-use crate::Verdict;
-use crate::finding::test_symbols;
-use crate::reading::read_score;
-use crate::reading::read_shapes;
+use contents::BLANK;
+use contents::Score;
+use contents::Shapes;
+use contents::reading::read_score;
+use contents::reading::read_shapes;
 use kinds::slices::equal;
+use sections::Verdict;
+use sections::finding::test_symbols;
 use term::spans::spans_are;
 
 // Whether symbols, shape words and starts, each by its whole length, are such as opening accepts and writes (else 19).

@@ -2,19 +2,19 @@ ghost use mathlib.Core.Path.{_≡_};
 ghost use Prim.Native.Nat.{ℕ, _≤_};
 ghost use lib.ListN.{length, take, drop};
 ghost use Rattle.folio.specs.Opening.{lent, out, stored, held, opened};
-use crate::BLANK;
 use crate::Counts;
 use crate::Opened;
-use crate::Score;
-use crate::Sections;
-use crate::Shapes;
-use crate::finding::fill;
-use crate::finding::find_sections;
-use crate::reading::read_score;
-use crate::reading::read_shapes;
 use crate::storing::put;
 use crate::storing::put_spans;
+use contents::BLANK;
+use contents::Score;
+use contents::Shapes;
+use contents::reading::read_score;
+use contents::reading::read_shapes;
 use kinds::Reason;
+use sections::Sections;
+use sections::finding::fill;
+use sections::finding::find_sections;
 
 // Opens a folio: writes its shape words, their starts, its score and the score's spans, or refuses it and writes nothing.
 pub fn open(

@@ -29,10 +29,10 @@ use Rattle.automaton.specs.Exploring.{Block, Made, refused, made, explored}
 use Rattle.automaton.specs.PlanWords.{Plan, halted, too-long, plan-of, planWords, toPlan, planned}
 use Rattle.automaton.specs.FinalBlocks.{allBlocks, SmallOn}
 use Rattle.automaton.proofs.BlocksAgain.{blocks-again}
-use Rattle.plan.specs.GoalWords.{GoalWords}
-use Rattle.plan.specs.WordStages.{sameW, amongW, withinW, sameStateW}
-use Rattle.plan.specs.WordMachine.{words, statesIn, Kept}
-use Rattle.plan.specs.GoodStates.{Ready}
+use Rattle.goals.specs.GoalWords.{GoalWords}
+use Rattle.goals.specs.WordStages.{sameW, amongW, withinW, sameStateW}
+use Rattle.decoding.specs.WordMachine.{words, statesIn, Kept}
+use Rattle.decoding.specs.GoodStates.{Ready}
 use Rattle.plan.specs.Meeting.{AllGood, wordsOf, ExploredIs}
 use Rattle.plan.specs.Building.{Out, cleared, size, written, planOf, buildOf, refuse}
 use Rattle.folio.specs.Folio.{shapeTerms}

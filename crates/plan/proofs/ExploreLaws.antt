@@ -29,24 +29,24 @@ use Rattle.automaton.specs.Exploring.{Succ, Block, Met, stopped, met, Made, ref
 use Rattle.automaton.specs.PlanWords.{blockWords}
 use Rattle.automaton.specs.FinalBlocks.{succOf}
 use Rattle.automaton.proofs.BlocksAgain.{meet-found, meets-found}
-use Rattle.plan.specs.GoalWords.{GoalWords, goalAt, goalsFrom, flat, Low, labelCode}
-use Rattle.plan.specs.WordStages.{freshesW, freshW, derivW, leastCode, liftW, sameStateW, pickedW, classesW, reduct, annKey, announces, outputsW}
-use Rattle.plan.specs.WordMachine.{words, stateIn, statesIn, Kept}
-use Rattle.plan.specs.GoodStates.{Ready, GoodState}
-use Rattle.plan.specs.Orders.{keyed, classAt, outItems, leadItems, goalOn}
+use Rattle.goals.specs.GoalWords.{GoalWords, goalAt, goalsFrom, flat, Low, labelCode}
+use Rattle.goals.specs.WordStages.{freshesW, freshW, derivW, leastCode, liftW, sameStateW, pickedW, classesW, reduct, annKey, announces, outputsW}
+use Rattle.decoding.specs.WordMachine.{words, stateIn, statesIn, Kept}
+use Rattle.decoding.specs.GoodStates.{Ready, GoodState}
+use Rattle.goals.specs.Orders.{keyed, classAt, outItems, leadItems, goalOn}
 use Rattle.plan.specs.Meeting.{placeOf, liftedW, AllGood, wordsOf, MetIs, RowIs, ExploredIs}
 use Rattle.plan.specs.declared.Met.{Met as Going}
 use Rattle.plan.specs.declared.Met.the-variants as going
 use Rattle.plan.specs.declared.Explored.the-variants as result
-use Rattle.plan.proofs.Room.{flat-length}
-use Rattle.plan.proofs.ClosedDecoded.{goals-length}
+use Rattle.decoding.proofs.Room.{flat-length}
+use Rattle.decoding.proofs.ClosedDecoded.{goals-length}
 use Rattle.plan.proofs.WordArrays.{flat-back, flat-thirds, picked-few, low-at}
 use Rattle.plan.proofs.StateLaws.{states-length, states-at, added, states-added, kept-added, added-behind}
-use Rattle.plan.proofs.SortLaws.{sort-length}
-use Rattle.plan.proofs.OrderLaws.{keyed-count}
+use Rattle.goals.proofs.SortLaws.{sort-length}
+use Rattle.goals.proofs.OrderLaws.{keyed-count}
 use Rattle.plan.proofs.InOrder.{outputs-in-order, items-low}
 use Rattle.plan.proofs.MeetLaws.{meet-big, meet-known, meet-full, meet-new, onto, meets-begin, meets-stop, meets-on, meets-end, row-stop, row-on, run-stop, run-on, run-end}
-use Rattle.plan.proofs.GoodLaws.{good-start, good-low, good-label, good-next, deriv-low, deriv-room}
+use Rattle.decoding.proofs.GoodLaws.{good-start, good-low, good-label, good-next, deriv-low, deriv-room}
 
 -- ---- one class
 pub class-few : (d : List (List Bool)) (ws : List ℕ) (n r : ℕ) → n ≤ 96 → length (classAt d ws n r) ≤ 96

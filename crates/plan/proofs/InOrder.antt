@@ -17,13 +17,13 @@ use Rattle.kinds.proofs.Members.{_∈_, in-sort}
 use Rattle.kinds.proofs.ListLaws.{gather-map}
 use Rattle.automaton.specs.Classes.{Square, entry, through, close, leads, rowsFrom}
 use Rattle.automaton.proofs.Closure.{Chain, link, step, chain-join, close-chain}
-use Rattle.plan.specs.GoalWords.{GoalWords, goalAt, goalsFrom}
-use Rattle.plan.specs.WordStages.{depW, pickedW, closedW, classKey, classesW, reduct, annKey, announces, outputsW}
-use Rattle.plan.specs.Squares.{cell}
-use Rattle.plan.specs.Links.{Linked, near, over}
-use Rattle.plan.specs.Orders.{keyed, classAt, begins, leadItems, goalOn, goesOut, outItems}
-use Rattle.plan.proofs.ClosedDecoded.{map-at, none-goal, goals-length, goals-at}
-use Rattle.plan.proofs.OrderLaws.{keyed-place, item-place, passing, sort-keyed}
+use Rattle.goals.specs.GoalWords.{GoalWords, goalAt, goalsFrom}
+use Rattle.goals.specs.WordStages.{depW, pickedW, closedW, classKey, classesW, reduct, annKey, announces, outputsW}
+use Rattle.classes.specs.Squares.{cell}
+use Rattle.classes.specs.Links.{Linked, near, over}
+use Rattle.goals.specs.Orders.{keyed, classAt, begins, leadItems, goalOn, goesOut, outItems}
+use Rattle.decoding.proofs.ClosedDecoded.{map-at, none-goal, goals-length, goals-at}
+use Rattle.goals.proofs.OrderLaws.{keyed-place, item-place, passing, sort-keyed}
 
 -- ---- rows that agree
 leads-same : (i : ℕ) (r s : List Bool) → ((b : ℕ) → b ≤ i → getD r b false ≡ getD s b false) → leads i r ≡ leads i s

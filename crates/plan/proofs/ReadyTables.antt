@@ -34,20 +34,20 @@ use Rattle.automaton.specs.Paper.{paper}
 use Rattle.automaton.specs.PlanWords.{planned}
 use Rattle.term.proofs.Subterms.{sub-depth, fits-proper}
 use Rattle.term.proofs.Sizes.{length-flatten}
-use Rattle.plan.specs.GoalWords.{Tabled, sizeOf}
-use Rattle.plan.specs.ShapeTables.{wordAt, spanAt, entryW, entriesFrom}
-use Rattle.plan.specs.Decoding.{roots, kidMasks, shapeAt, TableOf}
-use Rattle.plan.specs.GoodStates.{Ready}
-use Rattle.plan.specs.WordMachine.{words}
+use Rattle.goals.specs.GoalWords.{Tabled, sizeOf}
+use Rattle.tables.specs.ShapeTables.{wordAt, spanAt, entryW, entriesFrom}
+use Rattle.goals.specs.Decoding.{roots, kidMasks, shapeAt, TableOf}
+use Rattle.decoding.specs.GoodStates.{Ready}
+use Rattle.decoding.specs.WordMachine.{words}
 use Rattle.plan.specs.Building.{planOf}
-use Rattle.plan.proofs.ShapeNodes.{node-of, kidsIn}
-use Rattle.plan.proofs.TableLaws.{span-short, entry-none, entry-past, entry-in, word-2}
-use Rattle.plan.proofs.TableSeek.{Stands, Standss}
-use Rattle.plan.proofs.TableTold.{table-of}
-use Rattle.plan.proofs.TableFilled.{filled-is}
-use Rattle.plan.proofs.ReductDecoded.{kids-fit}
-use Rattle.plan.proofs.WordsSimulate.{plan-of-words}
-use Rattle.plan.proofs.GoalDecoded.{node-pos}
+use Rattle.decoding.proofs.ShapeNodes.{node-of, kidsIn}
+use Rattle.tables.proofs.TableLaws.{span-short, entry-none, entry-past, entry-in, word-2}
+use Rattle.decoding.proofs.TableSeek.{Stands, Standss}
+use Rattle.decoding.proofs.TableTold.{table-of}
+use Rattle.decoding.proofs.TableFilled.{filled-is}
+use Rattle.decoding.proofs.ReductDecoded.{kids-fit}
+use Rattle.decoding.proofs.WordsSimulate.{plan-of-words}
+use Rattle.decoding.proofs.GoalDecoded.{node-pos}
 
 -- ---- where shapes stand
 mutual

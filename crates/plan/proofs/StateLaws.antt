@@ -17,11 +17,11 @@ use lib.Seq.{sets, length-sets, length-take-le, drop-cons, drop-set-lt, getD-set
 use Rattle.kinds.specs.Lists.{find, range, orElse}
 use Rattle.kinds.proofs.Members.{_∈_, length-range, in-range}
 use Rattle.kinds.proofs.ListLaws.{map-append, map-same, range-next, sets-at, sets-behind}
-use Rattle.plan.specs.GoalWords.{GoalWords, goalsFrom}
-use Rattle.plan.specs.WordStages.{sameStateW}
-use Rattle.plan.specs.WordMachine.{stateIn, statesIn, Kept}
+use Rattle.goals.specs.GoalWords.{GoalWords, goalsFrom}
+use Rattle.goals.specs.WordStages.{sameStateW}
+use Rattle.decoding.specs.WordMachine.{stateIn, statesIn, Kept}
 use Rattle.plan.specs.Meeting.{placeOf}
-use Rattle.plan.proofs.SameLaws.{goals-same}
+use Rattle.classes.proofs.SameLaws.{goals-same}
 
 pub states-length : (sc : List ℕ) (m : ℕ) → length (statesIn sc m) ≡ m
 unfolding statesIn

@@ -11,11 +11,11 @@ use native.Mathlib.Omega.{arith}
 use native.Mathlib.Nat.{zero-add, add-zero}
 use lib.ListN.{length, getD}
 use lib.Seq.{sets}
-use Rattle.plan.specs.GoalWords.{GoalWords, goalAt, goalsFrom, flat, Low}
-use Rattle.plan.specs.WordStages.{pickedW}
-use Rattle.plan.specs.Orders.{goalOn}
-use Rattle.plan.proofs.Room.{flat-length}
-use Rattle.plan.proofs.SameLaws.{goals-same}
+use Rattle.goals.specs.GoalWords.{GoalWords, goalAt, goalsFrom, flat, Low}
+use Rattle.goals.specs.WordStages.{pickedW}
+use Rattle.goals.specs.Orders.{goalOn}
+use Rattle.decoding.proofs.Room.{flat-length}
+use Rattle.classes.proofs.SameLaws.{goals-same}
 use Rattle.plan.proofs.StateLaws.{sets-in}
 
 goals-shift : (x : ℕ) (ws : List ℕ) (at k : ℕ) → goalsFrom (x ∷ ws) (suc at) k ≡ goalsFrom ws at k

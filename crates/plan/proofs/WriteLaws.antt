@@ -24,16 +24,16 @@ use Rattle.kinds.proofs.Places.{getD-in, find-at, at-below, getElem-some}
 use Rattle.automaton.specs.Exploring.{Succ, Block}
 use Rattle.automaton.specs.PlanWords.{blockWords, startsFrom, planWords}
 use Rattle.automaton.specs.FinalBlocks.{succOf, blockOf, blocksOf, allBlocks, SmallOn}
-use Rattle.plan.specs.GoalWords.{GoalWords, goalsFrom, labelCode}
-use Rattle.plan.specs.WordStages.{derivW, leastCode, classesW, outputsW, sameStateW}
-use Rattle.plan.specs.WordMachine.{words, announcementW, stateIn, statesIn, Kept}
-use Rattle.plan.specs.GoodStates.{Ready, GoodState}
-use Rattle.plan.specs.Orders.{classAt, outItems, goalOn}
+use Rattle.goals.specs.GoalWords.{GoalWords, goalsFrom, labelCode}
+use Rattle.goals.specs.WordStages.{derivW, leastCode, classesW, outputsW, sameStateW}
+use Rattle.decoding.specs.WordMachine.{words, announcementW, stateIn, statesIn, Kept}
+use Rattle.decoding.specs.GoodStates.{Ready, GoodState}
+use Rattle.goals.specs.Orders.{classAt, outItems, goalOn}
 use Rattle.plan.specs.Meeting.{placeOf, liftedW, AllGood}
 use Rattle.plan.specs.FinalBlocks.{rowWords, pairs}
 use Rattle.plan.proofs.StateLaws.{states-length, states-at}
 use Rattle.plan.proofs.InOrder.{outputs-in-order}
-use Rattle.plan.proofs.GoodLaws.{output-back, least-back, label-back}
+use Rattle.decoding.proofs.GoodLaws.{output-back, least-back, label-back}
 use Rattle.plan.proofs.ExploreLaws.{classesBy, place-in, pairs-length, block-length}
 
 -- ---- a count and pairs of words

@@ -8,7 +8,7 @@ use Rattle.kinds.specs.Lists.{gather}
 use Rattle.automaton.specs.FinalBlocks.{blocksOf}
 pub use Rattle.automaton.specs.FinalBlocks.{blockOf, allBlocks, SmallOn}
 use Rattle.automaton.specs.PlanWords.{blockWords}
-use Rattle.plan.specs.WordMachine.{words, stateIn, statesIn}
+use Rattle.decoding.specs.WordMachine.{words, stateIn, statesIn}
 
 -- for tables and n shapes, scratch and m states in it
 unfoldable pub rowWords : List ℕ → ℕ → List ℕ → ℕ → ℕ → ℕ → List ℕ → List (List ℕ)

@@ -1,13 +1,3 @@
 pub mod Building
-pub mod GoalWords
-pub mod WordStages
-pub mod WordMachine
-pub mod Decoding
-pub mod GoodStates
-pub mod Sharing
-pub mod Squares
-pub mod Links
-pub mod ShapeTables
-pub mod Orders
 pub mod Meeting
 pub mod FinalBlocks

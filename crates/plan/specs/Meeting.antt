@@ -14,10 +14,10 @@ use Rattle.kinds.specs.Lists.{find, concat, orElse}
 use Rattle.kinds.proofs.Members.{_∈_}
 use Rattle.automaton.specs.Exploring.{Succ, Block, Met, stopped, met, Made, refused, made}
 use Rattle.automaton.specs.PlanWords.{blockWords}
-use Rattle.plan.specs.GoalWords.{GoalWords}
-use Rattle.plan.specs.WordStages.{sameStateW, leastCode, liftW}
-use Rattle.plan.specs.WordMachine.{statesIn, Kept}
-use Rattle.plan.specs.GoodStates.{GoodState}
+use Rattle.goals.specs.GoalWords.{GoalWords}
+use Rattle.goals.specs.WordStages.{sameStateW, leastCode, liftW}
+use Rattle.decoding.specs.WordMachine.{statesIn, Kept}
+use Rattle.decoding.specs.GoodStates.{GoodState}
 use Rattle.plan.specs.declared.Met.{Met as Going}
 use Rattle.plan.specs.declared.Met.the-variants as going
 use Rattle.plan.specs.declared.Explored.{Explored}

@@ -2,16 +2,16 @@ use crate::Built;
 use crate::Explored;
 use crate::Size;
 use crate::explore::explore;
-use crate::tables::fill_tables;
 use crate::writing::write_plan;
 use folio::checking::shapes_good;
 use kinds::Reason;
+use tables::filling::fill_tables;
 ghost use mathlib.Core.Path.{_≡_};
 ghost use Prim.Native.Nat.{ℕ, _≤_};
 ghost use lib.ListN.{length, drop};
 ghost use Rattle.automaton.specs.PlanWords.{planned};
-ghost use Rattle.plan.specs.WordMachine.{words as machine};
-ghost use Rattle.plan.specs.GoodStates.{Ready};
+ghost use Rattle.decoding.specs.WordMachine.{words as machine};
+ghost use Rattle.decoding.specs.GoodStates.{Ready};
 ghost use Rattle.plan.specs.Building.{buildOf, written, cleared};
 
 // Builds the plan of the shapes into `plan`, or refuses and leaves it as it was; the first 32,768 scratch words are zero afterwards, but for 19 and 23.

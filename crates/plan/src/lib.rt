@@ -1,21 +1,10 @@
 use kinds::Reason;
 use kinds::State;
 
-mod announce;
-pub mod building;
-mod classes;
-mod closure;
-mod derive;
-mod explore;
-mod goals;
-mod lift;
-mod order;
-mod same;
-mod sorting;
-mod square;
-mod states;
-mod tables;
-mod writing;
+pub mod building; // the call that builds a plan
+mod explore; // the first pass: states met
+mod states; // the states met, in scratch
+mod writing; // the second pass: the plan's words
 
 // How many states a plan has, and how many words.
 pub struct Size {
@@ -27,12 +16,6 @@ pub enum Built {
     Plan(Size),
     Refused(Reason),
     Stopped(Reason, State),
-}
-
-// The first obligation position that two goals share.
-pub enum Shared {
-    At(u32),
-    Nothing,
 }
 
 // How many states there are now, and how many words the blocks made take.

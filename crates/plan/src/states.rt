@@ -1,10 +1,10 @@
-use crate::same::same_state;
+use classes::same::same_state;
 ghost use mathlib.Core.Path.{_≡_};
 ghost use Prim.Native.Nat.{ℕ, _+_, _*_, _<_, _≤_};
 ghost use lib.ListN.{length, set, take};
 ghost use lib.Seq.{sets};
-ghost use Rattle.plan.specs.GoalWords.{goalsFrom};
-ghost use Rattle.plan.specs.WordMachine.{statesIn, Kept};
+ghost use Rattle.goals.specs.GoalWords.{goalsFrom};
+ghost use Rattle.decoding.specs.WordMachine.{statesIn, Kept};
 ghost use Rattle.plan.specs.Meeting.{placeOf};
 
 // The number of the first of m states that is the state of n goals in `ws`; m where none is.

@@ -23,7 +23,7 @@ use Rattle.folio.specs.declared.Opened.{Opened}
 use Rattle.folio.specs.declared.Opened.the-variants as opening
 use Rattle.folio.proofs.Accepted.{Accepted, accepted, made}
 use Rattle.folio.proofs.GoodTables.{shapes-good-shaped, shaped-good, score-good-scored, scored-good}
-use Rattle.folio.proofs.LawsSections.{sections-in}
+use Rattle.sections.proofs.LawsSections.{sections-in}
 use Rattle.automaton.specs.PlanWords.{Plan, halted, too-long, plan-of}
 use Rattle.plan.specs.Building.{planOf, written, buildOf}
 use Rattle.plan.specs.Building.{Out as Building}

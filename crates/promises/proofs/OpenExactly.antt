@@ -14,24 +14,24 @@ use Rattle.kinds.specs.declared.Reason.the-variants as reason
 use Rattle.kinds.proofs.Members.{in-take, in-drop}
 use Rattle.term.specs.Terms.{span}
 use Rattle.term.proofs.Sizes.{length-flatten}
-use Rattle.folio.specs.Bytes.{wordsOf}
-use Rattle.folio.specs.Sections.{trailerOf, symbolsOf, sectionsOf}
-use Rattle.folio.specs.Tables.{blankWord, Row, shapesOf, scoreOf}
+use Rattle.sections.specs.Bytes.{wordsOf}
+use Rattle.sections.specs.Sections.{trailerOf, symbolsOf, sectionsOf}
+use Rattle.contents.specs.Tables.{blankWord, Row, shapesOf, scoreOf}
 use Rattle.folio.specs.Opening.{Lent, Room, Out, refuse, stored, held, opened}
 use Rattle.folio.specs.Folio.{GoodSymbols, Scored, startsAt}
-use Rattle.folio.specs.declared.Places.{Places}
-use Rattle.folio.specs.declared.Sections.{Sections}
-use Rattle.folio.specs.declared.Sections.the-variants as sections
-use Rattle.folio.specs.declared.Verdict.{Verdict}
-use Rattle.folio.specs.declared.Verdict.the-variants as verdict
-use Rattle.folio.specs.declared.Shapes.{Shapes}
-use Rattle.folio.specs.declared.Shapes.the-variants as shapes
-use Rattle.folio.specs.declared.Score.{Score}
-use Rattle.folio.specs.declared.Score.the-variants as score
+use Rattle.sections.specs.declared.Places.{Places}
+use Rattle.sections.specs.declared.Sections.{Sections}
+use Rattle.sections.specs.declared.Sections.the-variants as sections
+use Rattle.sections.specs.declared.Verdict.{Verdict}
+use Rattle.sections.specs.declared.Verdict.the-variants as verdict
+use Rattle.contents.specs.declared.Shapes.{Shapes}
+use Rattle.contents.specs.declared.Shapes.the-variants as shapes
+use Rattle.contents.specs.declared.Score.{Score}
+use Rattle.contents.specs.declared.Score.the-variants as score
 use Rattle.folio.specs.declared.Counts.{Counts}
 use Rattle.folio.specs.declared.Opened.the-variants as opening
-use Rattle.folio.proofs.LawsBytes.{length-words}
-use Rattle.folio.proofs.LawsSections.{Placed, trailer-in, sections-trailer, sections-symbols, sections-good}
+use Rattle.sections.proofs.LawsBytes.{length-words}
+use Rattle.sections.proofs.LawsSections.{Placed, trailer-in, sections-trailer, sections-symbols, sections-good}
 use Rattle.folio.proofs.LawsOpening.{stored-words, stored-starts, stored-score, stored-spans, stored-all, held-shapes, held-score, held-on, opened-refused, opened-at}
 use Rattle.folio.proofs.Symbols.{symbols-is, symbols-of}
 use Rattle.folio.proofs.ScoreWhole.{Below, words-below, score-is, score-of}

@@ -21,9 +21,9 @@ use Rattle.term.proofs.LawsReading.{whole-in}
 use Rattle.term.proofs.WholeTerm.{TermAt, whole-term}
 use Rattle.term.proofs.TermWhole.{read-back}
 use Rattle.term.proofs.FirstFault.{fault-of, of-fault}
-use Rattle.folio.specs.Tables.{noBlank, scoreLevels, scoreLimits, scoreReason, alone, scoreOf}
-use Rattle.folio.specs.declared.Score.{Score}
-use Rattle.folio.specs.declared.Score.the-variants as score
+use Rattle.contents.specs.Tables.{noBlank, scoreLevels, scoreLimits, scoreReason, alone, scoreOf}
+use Rattle.contents.specs.declared.Score.{Score}
+use Rattle.contents.specs.declared.Score.the-variants as score
 use Rattle.promises.specs.Refusals.{ScoreFault, ScoreRow, row-13, row-14, row-15, row-16, row-17}
 
 module _ (ar sc : List ℕ) where

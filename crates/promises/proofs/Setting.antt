@@ -13,12 +13,12 @@ use Rattle.kinds.proofs.ListLaws.{stored-back, take-again}
 use Rattle.kinds.proofs.Places.{on-in}
 use Rattle.term.specs.Terms.{Term, span, flatten, sizes}
 use Rattle.term.proofs.Sizes.{length-flatten, length-sizes}
-use Rattle.folio.specs.Bytes as file-words
-use Rattle.folio.specs.Sections.{sectionsOf}
+use Rattle.sections.specs.Bytes as file-words
+use Rattle.sections.specs.Sections.{sectionsOf}
 use Rattle.folio.specs.declared.Counts.{Counts}
-use Rattle.folio.specs.declared.Sections.the-variants as sections
+use Rattle.sections.specs.declared.Sections.the-variants as sections
 use Rattle.folio.specs.declared.Opened.the-variants as opening
-use Rattle.folio.specs.declared.Places.{Places}
+use Rattle.sections.specs.declared.Places.{Places}
 use Rattle.folio.specs.Opening.{opened, counts}
 use Rattle.folio.specs.Opening.{Out as Opening}
 use Rattle.folio.specs.Folio.{Folio, startsAt, answered, shapeTerms, scoreTerm}

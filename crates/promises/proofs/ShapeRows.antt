@@ -32,11 +32,11 @@ use Rattle.term.proofs.WholeTerm.{TermAt, whole-term}
 use Rattle.term.proofs.TermWhole.{read-back}
 use Rattle.term.proofs.Sizes.{length-flatten}
 use Rattle.term.proofs.FirstFault.{fault-of, of-fault}
-use Rattle.folio.specs.Tables.{blankWord, shapeLevels, shapeLimits, shapeReason, Row, row, push, shape, shapesFrom, shapesOf}
+use Rattle.contents.specs.Tables.{blankWord, shapeLevels, shapeLimits, shapeReason, Row, row, push, shape, shapesFrom, shapesOf}
 use Rattle.folio.specs.Folio.{IsShape, startsAt}
-use Rattle.folio.specs.declared.Shapes.{Shapes}
-use Rattle.folio.specs.declared.Shapes.the-variants as shapes
-use Rattle.folio.proofs.LawsTables.{shapes-none, shapes-some}
+use Rattle.contents.specs.declared.Shapes.{Shapes}
+use Rattle.contents.specs.declared.Shapes.the-variants as shapes
+use Rattle.contents.proofs.LawsTables.{shapes-none, shapes-some}
 use Rattle.folio.proofs.ShapesFound.{Each, solid, head-word, found-shapes, shapes-found}
 use Rattle.promises.specs.Refusals.{ShapesTo, ShapeFault, ShapeRow, row-7, row-8, row-9, row-10, row-11, row-12-none, row-12-more, ShapesPass}
 

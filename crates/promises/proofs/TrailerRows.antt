@@ -15,14 +15,14 @@ use lib.ListN.{length, getD}
 use Rattle.kinds.specs.Lists.{unless}
 use Rattle.kinds.specs.declared.Reason.{Reason}
 use Rattle.kinds.specs.declared.Reason.the-variants.{Short, Long, EndBytes, Trailer, Symbols, Children}
-use Rattle.folio.specs.Bytes.{wordAt}
-use Rattle.folio.specs.Sections.{places, distancesOf, trailerOf, overAt, symbolsOf}
-use Rattle.folio.specs.declared.Places.{Places}
-use Rattle.folio.specs.declared.Sections.{Sections}
-use Rattle.folio.specs.declared.Sections.the-variants.{At, Refused}
-use Rattle.folio.specs.declared.Verdict.{Verdict}
-use Rattle.folio.specs.declared.Verdict.the-variants.{Good, Bad}
-use Rattle.folio.proofs.LawsSections.{trailer-short, trailer-long, trailer-first, trailer-second, trailer-to, distances-at, symbols-none, symbols-many, symbols-each}
+use Rattle.sections.specs.Bytes.{wordAt}
+use Rattle.sections.specs.Sections.{places, distancesOf, trailerOf, overAt, symbolsOf}
+use Rattle.sections.specs.declared.Places.{Places}
+use Rattle.sections.specs.declared.Sections.{Sections}
+use Rattle.sections.specs.declared.Sections.the-variants.{At, Refused}
+use Rattle.sections.specs.declared.Verdict.{Verdict}
+use Rattle.sections.specs.declared.Verdict.the-variants.{Good, Bad}
+use Rattle.sections.proofs.LawsSections.{trailer-short, trailer-long, trailer-first, trailer-second, trailer-to, distances-at, symbols-none, symbols-many, symbols-each}
 use Rattle.promises.specs.Refusals.{Sized, Signed, Distanced, trailerAt, toSymbols, toShapes, toScore, TrailerRow, row-1, row-2, row-3, row-4, Framed, SymbolRow, row-5, row-6}
 
 on-test {κ} : {C : Type κ} (t : Bool) (x y z : Sections) → unless t x y ≡ z → (t ≡ false → x ≡ z → C) → (t ≡ true → y ≡ z → C) → C

@@ -2,14 +2,15 @@
 use Prim.Native.Nat.{ℕ}
 use Rattle.kinds.specs.Positions.{decodeTo}
 use Rattle.term.specs.Reading.{childrenOf, headOf, reading}
-use Rattle.term.specs.Spans.{over, spansOf, sibling, childAt, follow, target}
-use Rattle.folio.specs.Bytes.{wordsOf}
-use Rattle.folio.specs.Sections.{distancesOf, trailerOf, overAt, symbolsOf, sectionsOf}
-use Rattle.folio.specs.Tables.{shapesFrom, shapesOf, scoreOf}
+use Rattle.term.specs.Spans.{over, spansOf}
+use Rattle.following.specs.Following.{sibling, childAt, follow, target}
+use Rattle.sections.specs.Bytes.{wordsOf}
+use Rattle.sections.specs.Sections.{distancesOf, trailerOf, overAt, symbolsOf, sectionsOf}
+use Rattle.contents.specs.Tables.{shapesFrom, shapesOf, scoreOf}
 use Rattle.folio.specs.Opening.{stored, held, opened}
 use Rattle.folio.specs.Again.{symbolsGood, shapesGood, scoreGood, pieceAt, subtreeAt}
 use Rattle.plan.specs.Building.{cleared, buildOf}
-use Rattle.walk.specs.PlanParts.{pairs, counted, blockAt, labelWord, blockOf, pairAt, labelOf, lengthsOf, announcementOf, successorOf}
+use Rattle.readers.specs.PlanParts.{pairs, counted, blockAt, labelWord, blockOf, pairAt, labelOf, lengthsOf, announcementOf, successorOf}
 use Rattle.walk.specs.Starting.{started}
 use Rattle.walk.specs.Stepping.{targets, look, marked, tried, stepped, run, runBy}
 use Rattle.report.specs.Counting.{anyTo, sumTo, someMatch, numberAt, total}

@@ -19,7 +19,7 @@ use Rattle.term.specs.Terms.{Term, span, flatten}
 use Rattle.folio.specs.Opening.{Lent, Room, refuse, opened}
 use Rattle.folio.specs.Opening.{Out as Opening}
 use Rattle.folio.specs.Folio.{Folio, GoodSymbols, Shaped, GoodScore, shapeTerms, answered}
-use Rattle.folio.specs.declared.Places.{Places}
+use Rattle.sections.specs.declared.Places.{Places}
 use Rattle.automaton.specs.PlanWords.{halted, too-long, plan-of}
 use Rattle.plan.specs.Building.{scratchWords, cleared, size, stateNumber, planOf, buildOf}
 use Rattle.plan.specs.Building.{Out as Building, refuse as refuseBuild}

@@ -17,12 +17,12 @@ use Rattle.term.specs.Terms.{Term, span, depth, flatten, Fits}
 use Rattle.term.specs.Faults.{FaultIn}
 use Rattle.term.specs.declared.Fault.{Fault}
 use Rattle.term.specs.declared.Fault.the-variants.{Ends, NoSymbol, Many, Deep}
-use Rattle.folio.specs.Bytes.{wordAt, wordsOf}
-use Rattle.folio.specs.Sections.{places}
-use Rattle.folio.specs.Tables.{blankWord, noBlank, shapeLevels, scoreLevels, shapeLimits, scoreLimits}
+use Rattle.sections.specs.Bytes.{wordAt, wordsOf}
+use Rattle.sections.specs.Sections.{places}
+use Rattle.contents.specs.Tables.{blankWord, noBlank, shapeLevels, scoreLevels, shapeLimits, scoreLimits}
 use Rattle.folio.specs.Opening.{Lent, Room}
 use Rattle.folio.specs.Folio.{IsShape, GoodSymbols, Scored}
-use Rattle.folio.specs.declared.Places.{Places}
+use Rattle.sections.specs.declared.Places.{Places}
 
 -- ---- 1 to 4
 module _ (file : List ℕ) where

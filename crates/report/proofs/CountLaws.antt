@@ -17,10 +17,10 @@ use lib.Seq.{drop-cons}
 use Rattle.kinds.proofs.BitLaws.{ones-bits}
 use Rattle.kinds.specs.declared.Reason.{Reason}
 use Rattle.kinds.specs.declared.Reason.the-variants.{BadScore, ShortBuffers, Surplus}
-use Rattle.folio.specs.Tables.{scoreLimits, scoreLevels, scoreOf, scoreReason, alone}
+use Rattle.contents.specs.Tables.{scoreLimits, scoreLevels, scoreOf, scoreReason, alone}
 use Rattle.folio.specs.Again.{scoreGood}
-use Rattle.folio.specs.declared.Score.{Score}
-use Rattle.folio.specs.declared.Score.the-variants as score
+use Rattle.contents.specs.declared.Score.{Score}
+use Rattle.contents.specs.declared.Score.the-variants as score
 use Rattle.folio.proofs.LawsAgain.{score-good-is}
 use Rattle.term.specs.Reading.{reading}
 use Rattle.term.proofs.LawsReading.{whole-in}

@@ -1,14 +1,11 @@
 -- What is known of terms, their words, and the one reader.
 pub mod LawsReading
 pub mod LawsSpans
-pub mod LawsFollowing
 pub mod WholeTerm
 pub mod TermWhole
 pub mod FirstFault
 pub mod OneTerm
 pub mod Sizes
 pub mod Numbers
-pub mod FollowTree
 pub mod Subterms
-pub mod NodeNumbers
 pub mod MatchTest

@@ -4,4 +4,3 @@ pub mod Places
 pub mod Reading
 pub mod Faults
 pub mod Spans
-pub mod Following

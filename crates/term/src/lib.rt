@@ -1,8 +1,5 @@
-use kinds::Node;
-
 pub mod reader; // one term, read in preorder
 pub mod spans; // the spans of its nodes
-pub mod following; // a position followed from a node by spans
 
 // What a reading is held to: words from `blanks` on are blanks (65,536: none is), and no node stands at `stop` or after it.
 pub struct Limits {
@@ -32,16 +29,4 @@ pub enum Count {
 pub enum Reading {
     Whole(Met),
     Refused(Fault, usize),
-}
-
-// Where a position under a node leads.
-pub enum Reached {
-    At(Node),
-    Nowhere,
-}
-
-// The index of a node among spans of any number.
-pub enum Index {
-    At(usize),
-    Nowhere,
 }

@@ -28,7 +28,7 @@ use Rattle.kinds.proofs.ListLaws.{none-left}
 use Rattle.term.specs.Terms.{Term, span}
 use Rattle.term.specs.Places.{sub, hd, headAt, Matches, number}
 use Rattle.term.proofs.Numbers.{sub-number, node-at}
-use Rattle.term.proofs.NodeNumbers.{num, num-is, num-below, num-inj}
+use Rattle.following.proofs.NodeNumbers.{num, num-is, num-below, num-inj}
 use Rattle.automaton.specs.Walking.{Scored, Walked}
 use Rattle.automaton.proofs.Invariant.{announced}
 use Rattle.automaton.proofs.Steps.{walked-invariant}

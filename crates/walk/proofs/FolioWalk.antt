@@ -7,7 +7,7 @@ use Prim.Native.Nat.{ℕ}
 use native.Mathlib.Omega.{arith}
 use lib.ListN.{length}
 use Rattle.term.specs.Terms.{Term}
-use Rattle.folio.specs.Tables.{blankWord, noBlank}
+use Rattle.contents.specs.Tables.{blankWord, noBlank}
 use Rattle.folio.specs.Folio.{Folio}
 use Rattle.folio.proofs.ShapesFound.{solid-node}
 use Rattle.automaton.specs.Paper.{paper}

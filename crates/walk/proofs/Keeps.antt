@@ -23,10 +23,10 @@ use Rattle.kinds.proofs.ListLaws.{length-onto, drop-onto}
 use Rattle.folio.specs.Again.{scoreGood}
 use Rattle.walk.specs.declared.Record.{Record}
 use Rattle.walk.specs.declared.Walked.the-variants.{On, Refused}
-use Rattle.walk.specs.PlanParts.{pairs, pairWords}
+use Rattle.readers.specs.PlanParts.{pairs, pairWords}
 use Rattle.walk.specs.Starting.{Walk, Out, walkOf, refuse, goOn, begun, roomFor, started}
 use Rattle.walk.specs.Stepping.{Found, look, onward, roomy, moved, tried, stepped}
-use Rattle.walk.proofs.LawsPairs.{pairWords-length}
+use Rattle.readers.proofs.LawsPairs.{pairWords-length}
 use Rattle.walk.proofs.MarkLaws.{marked-length}
 
 not-refused {κ} : {Z : Type κ} {c : Record} {r : Reason} → On c ≡ Refused r → Z

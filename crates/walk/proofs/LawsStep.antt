@@ -25,19 +25,21 @@ use Rattle.kinds.specs.Kinds.{position}
 use Rattle.kinds.proofs.Bools.{and-l, and-r, both, and-false, false-true, ltb-is, leb-is, half-leb}
 use Rattle.kinds.proofs.Options.{none-not, on-bind, on-need, bind-along, need-along}
 use Rattle.kinds.proofs.Places.{getElem-some}
-use Rattle.term.specs.Spans.{target}
-use Rattle.term.proofs.LawsFollowing.{target-in}
-use Rattle.walk.specs.declared.Label.the-variants as label
-use Rattle.walk.specs.PlanParts.{countsGood, pairs, pairWords, labelWord, toLabel, blockOf}
+use Rattle.following.specs.Following.{target}
+use Rattle.following.proofs.LawsFollowing.{target-in}
+use Rattle.readers.specs.declared.Label.the-variants as label
+use Rattle.readers.specs.PlanParts.{countsGood, pairs, pairWords, labelWord, toLabel, blockOf}
 use Rattle.walk.specs.Starting.{Walk, walkOf, counting, refuse, goOn}
 use Rattle.walk.specs.declared.Record.{Record}
 use Rattle.walk.specs.declared.Walked.{Walked}
 use Rattle.walk.specs.declared.Walked.the-variants.{On, Refused}
 use Rattle.walk.proofs.LawsStart.{told}
 use Rattle.walk.specs.Stepping.{targets, Found, look, marked, onward, roomy, moved, tried, orRefuse, stepped}
-use Rattle.walk.specs.ByIndex.{pairList, middle, outsAt, nextsAt, blockFits, blockStart, fine, landed, closedUp, lookHead, leadsFine, roomLeft, sighted}
-use Rattle.walk.proofs.LawsPairs.{fits-in, pairList-length, pairList-at, pairs-list, pairs-none, onward-length, onward-words}
-use Rattle.walk.proofs.LawsParts.{counts-of, no-label, a-label, block-start, start-fits}
+use Rattle.walk.specs.ByIndex.{fine, landed, closedUp, lookHead, leadsFine, roomLeft, sighted}
+use Rattle.readers.specs.BlockWords.{pairList, middle, outsAt, nextsAt, blockFits, blockStart}
+use Rattle.readers.proofs.LawsPairs.{fits-in, pairList-length, pairList-at, pairs-list, pairs-none}
+use Rattle.walk.proofs.LawsOnward.{onward-length, onward-words}
+use Rattle.readers.proofs.LawsParts.{counts-of, no-label, a-label, block-start, start-fits}
 use Rattle.walk.proofs.LawsTargets.{all-wider, fine-split, fine-fail, fine-small, landed-length}
 
 -- ---- the refusals that need no look

@@ -21,11 +21,12 @@ use lib.Seq.{sets, drop-cons, drop-set-lt}
 use Rattle.kinds.specs.Lists.{all}
 use Rattle.kinds.specs.Bits.{withBit}
 use Rattle.kinds.proofs.Bools.{and-l, and-r, both, and-false, false-true, ltb-is}
-use Rattle.term.specs.declared.Reached.the-variants as term
-use Rattle.walk.specs.PlanParts.{pairWords}
+use Rattle.following.specs.declared.Reached.the-variants as term
+use Rattle.readers.specs.PlanParts.{pairWords}
 use Rattle.walk.specs.Stepping.{targets, marked}
-use Rattle.walk.specs.ByIndex.{orZero, pairList, belowRoom, fine, landed, closedUp}
-use Rattle.walk.proofs.LawsPairs.{pairList-cons, pairList-end}
+use Rattle.walk.specs.ByIndex.{orZero, belowRoom, fine, landed, closedUp}
+use Rattle.readers.specs.BlockWords.{pairList}
+use Rattle.readers.proofs.LawsPairs.{pairList-cons, pairList-end}
 
 -- ---- one pair
 module _ (limit room : ℕ) (to : ℕ → Option ℕ) where

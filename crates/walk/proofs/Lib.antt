@@ -1,6 +1,4 @@
 -- What is known of a walk over words.
-pub mod LawsPairs
-pub mod LawsParts
 pub mod LawsTargets
 pub mod LawsStart
 pub mod LawsStep
@@ -12,3 +10,4 @@ pub mod TiedRuns
 pub mod AnyWalk
 pub mod FolioWalk
 pub mod Keeps
+pub mod LawsOnward

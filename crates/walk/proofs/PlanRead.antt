@@ -19,7 +19,7 @@ use Rattle.kinds.proofs.Places.{at-below, at-left, at-map, getElem-some}
 use Rattle.automaton.specs.Goals.{Announcement}
 use Rattle.automaton.specs.Exploring.{Construction, Succ, Block, Made, refused, made, explored}
 use Rattle.automaton.specs.PlanWords.{blockWords, startsFrom, too-long, plan-of, planWords, toPlan, planned}
-use Rattle.walk.specs.PlanParts.{countsGood, pairs, counted, blockAt, labelWord, blockOf}
+use Rattle.readers.specs.PlanParts.{countsGood, pairs, counted, blockAt, labelWord, blockOf}
 
 -- ---- a block at the head of the words
 pairs-of : {A : Type 0} (F G : A → ℕ) (xs : List A) (r : List ℕ) → pairs (length xs) (gather (λ x. F x ∷ G x ∷ []) xs ++ r) ≡ some (map (λ x. (F x, G x)) xs, r)

@@ -10,8 +10,8 @@ use Prim.Native.Nat.{ℕ, _<_}
 use lib.ListN.{length, getD, getElem?}
 use Rattle.kinds.proofs.Bools.{is-ltb}
 use Rattle.kinds.proofs.Members.{_∈_, here, there}
-use Rattle.term.specs.Spans.{target}
-use Rattle.walk.specs.PlanParts.{countsGood, pairs, labelWord, blockOf}
+use Rattle.following.specs.Following.{target}
+use Rattle.readers.specs.PlanParts.{countsGood, pairs, labelWord, blockOf}
 use Rattle.walk.specs.Starting.{Walk}
 use Rattle.walk.specs.Stepping.{targets, Found, look, onward, roomy, moved, tried}
 

@@ -24,9 +24,9 @@ use Rattle.kinds.proofs.Codes.{Small}
 use Rattle.kinds.proofs.BitLaws.{clear-or-set}
 use Rattle.term.specs.Terms.{Term, node, Terms, count, span, flatten, sizes}
 use Rattle.term.specs.Places.{sub}
-use Rattle.term.specs.Spans.{target}
-use Rattle.term.proofs.FollowTree.{word-at}
-use Rattle.term.proofs.NodeNumbers.{num, num-is, num-below, num-inj, target-num}
+use Rattle.following.specs.Following.{target}
+use Rattle.following.proofs.FollowTree.{word-at}
+use Rattle.following.proofs.NodeNumbers.{num, num-is, num-below, num-inj, target-num}
 use Rattle.automaton.specs.Goals.{Calculus, Goal, State, label, Announcement, outputs, announcement}
 use Rattle.automaton.specs.Exploring.{construction, Succ, Block}
 use Rattle.automaton.specs.Walking.{Setting, Scored, calculus, Item, looks, placed, announces, Walked, step}
@@ -40,11 +40,11 @@ use Rattle.automaton.proofs.Explored.{explored-numbered, label-small, out-small
 use Rattle.automaton.proofs.Invariant.{announced}
 use Rattle.automaton.proofs.Steps.{walked-invariant, new-only}
 use Rattle.automaton.proofs.Counts.{can-look, waiting-unread}
-use Rattle.walk.specs.PlanParts.{countsGood, pairWords}
+use Rattle.readers.specs.PlanParts.{countsGood, pairWords}
 use Rattle.walk.specs.Starting.{Walk}
 use Rattle.walk.specs.Stepping.{Found, look, marked, onward, roomy, moved, tried}
 use Rattle.walk.specs.OneFolio.{OneFolio, planIn}
-use Rattle.walk.proofs.LawsPairs.{pairs-words}
+use Rattle.readers.proofs.LawsPairs.{pairs-words}
 use Rattle.walk.proofs.PlanRead.{outPair, succPair, counts-read, label-read, block-read}
 use Rattle.walk.proofs.MarkLaws.{Marked, marked-is, marked-length}
 use Rattle.walk.proofs.StepParts.{targets-of, look-of, tried-of}

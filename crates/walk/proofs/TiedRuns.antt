@@ -24,7 +24,7 @@ use Rattle.kinds.proofs.BitLaws.{no-bit}
 use Rattle.term.specs.Terms.{Term}
 use Rattle.term.specs.Places.{sub}
 use Rattle.term.proofs.Sizes.{length-flatten, span-pos}
-use Rattle.term.proofs.NodeNumbers.{num, num-root, num-below}
+use Rattle.following.proofs.NodeNumbers.{num, num-root, num-below}
 use Rattle.automaton.specs.Goals.{State}
 use Rattle.automaton.specs.Walking.{Scored, calculus, begin}
 use Rattle.automaton.proofs.Numbered.{Numbered}

@@ -1,10 +1,5 @@
--- The plan's parts and a step's, by index into the words.
+-- A step's parts, by index into the words.
 --   orZero       a number, 0 where there is none
---   pairList     n pairs from word b on
---   middle       where a block's successors are counted
---   outsAt nextsAt   the announcements and the successors of the block at b
---   blockFits    the whole block lies within the words
---   blockStart   where the block of a state and symbol begins, if it is there and whole
 --   fine         a pair's number is below its limit, and its code leads to a node below room
 --   landed       each pair's number, and the node that its code leads to
 --   closedUp     the words from at + 2 up to end, moved down by two
@@ -12,21 +7,18 @@
 --   leadsFine    each announcement is a shape's and leads to a mark, each successor is a state's and leads to a node
 --   roomLeft     the log has room for one more, the waiting words for all items after the step
 --   sighted      what a step that is not refused 34 sees: the item's node, the node read, where the block begins
---   begins pairOf headOf sightOf   answers of the code's parts
-use mathlib.Core.List.{List, [], _∷_, map}
+--   headOf sightOf   answers of the code's parts
+use mathlib.Core.List.{List, map}
 use mathlib.Core.Bool.{Bool, false, _&&_}
 use mathlib.Core.Option.{Option, none, some}
-use Prim.Native.Nat.{ℕ, zero, suc, _+_, _*_, _-_}
+use Prim.Native.Nat.{ℕ, _+_, _*_, _-_}
 use lib.Dec.{ltb, leb}
 use lib.ListN.{length, getD, getElem?, take, drop}
 use lib.Seq.{sets}
 use Rattle.kinds.specs.Lists.{bind, need, all}
-use Rattle.term.specs.Spans.{target}
-use Rattle.walk.specs.PlanParts.{countsGood, labelWord}
-use Rattle.walk.specs.declared.Start.{Start}
-use Rattle.walk.specs.declared.Start.the-variants as start
-use Rattle.walk.specs.declared.Pair.{Pair}
-use Rattle.walk.specs.declared.Pair.the-variants as pair
+use Rattle.following.specs.Following.{target}
+use Rattle.readers.specs.PlanParts.{countsGood, labelWord}
+use Rattle.readers.specs.BlockWords.{middle, outsAt, nextsAt, blockStart}
 use Rattle.walk.specs.declared.Head.{Head}
 use Rattle.walk.specs.declared.Head.the-variants as head
 use Rattle.walk.specs.declared.Record.{Record}
@@ -36,28 +28,6 @@ use Rattle.walk.specs.declared.Sight.the-variants as sight
 abbrev pub orZero : Option ℕ → ℕ
 orZero (some x) = x
 orZero none = 0
-
-unfoldable pub pairList : List ℕ → ℕ → ℕ → List (ℕ × ℕ)
-pairList ws b zero = []
-pairList ws b (suc n) = (getD ws b 0, getD ws (b + 1) 0) ∷ pairList ws (b + 2) n
-
-abbrev pub middle : List ℕ → ℕ → ℕ
-middle plan b = b + 1 + 2 * getD plan b 0
-
-abbrev pub outsAt : List ℕ → ℕ → List (ℕ × ℕ)
-outsAt plan b = pairList plan (b + 1) (getD plan b 0)
-
-abbrev pub nextsAt : List ℕ → ℕ → List (ℕ × ℕ)
-nextsAt plan b = pairList plan (middle plan b + 1) (getD plan (middle plan b) 0)
-
-unfoldable pub blockFits : List ℕ → ℕ → Bool
-blockFits plan b = leb (middle plan b + 1 + 2 * getD plan (middle plan b) 0) (length plan)
-
-unfoldable pub blockStart : List ℕ → ℕ → ℕ → ℕ → ℕ → Option ℕ
-blockStart plan m k s f =
-    need (ltb s m)
-    (need (ltb f k)
-    (bind (getElem? plan (4 + m + (s * k + f))) (λ b. need (blockFits plan b) (some b))))
 
 abbrev pub belowRoom : ℕ → Option ℕ → Bool
 belowRoom room (some x) = ltb x room
@@ -96,14 +66,6 @@ sighted plan score spans items log marks r i =
     need (leadsFine plan (length score) spans from (h .1) marks)
     (need (roomLeft plan (h .1) (length items) log r)
     (some (from, h .0, h .1)))))
-
-abbrev pub begins : Start → Option ℕ
-begins (start.At b) = some b
-begins start.Nowhere = none
-
-abbrev pub pairOf : Pair → Option (ℕ × ℕ)
-pairOf (pair.Of n p) = some (n, p .0)
-pairOf pair.Nothing = none
 
 abbrev pub headOf : Head → Option (ℕ × ℕ)
 headOf (head.At x b) = some (x .0, b)

@@ -1,5 +1,4 @@
 -- What a walk means, on any words.
-pub mod PlanParts
 pub mod Starting
 pub mod Stepping
 pub mod ByIndex

@@ -20,10 +20,10 @@ use lib.ListN.{length, getD, getElem?, take, drop, set}
 use Rattle.kinds.specs.Lists.{bind, need, all, onto}
 use Rattle.kinds.specs.Bits.{withBit}
 use Rattle.kinds.specs.declared.Reason.the-variants.{NoSuchItem, OutOfRange}
-use Rattle.term.specs.Spans.{target}
+use Rattle.following.specs.Following.{target}
 use Rattle.walk.specs.declared.Walked.{Walked}
 use Rattle.walk.specs.declared.Walked.the-variants.{On, Refused}
-use Rattle.walk.specs.PlanParts.{countsGood, pairs, pairWords, labelWord, blockOf}
+use Rattle.readers.specs.PlanParts.{countsGood, pairs, pairWords, labelWord, blockOf}
 use Rattle.walk.specs.Starting.{Walk, Out, walkOf, counting, refuse, goOn}
 
 unfoldable pub targets : ℕ → (ℕ → Option ℕ) → List (ℕ × ℕ) → Option (List (ℕ × ℕ))

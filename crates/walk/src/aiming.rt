@@ -3,12 +3,13 @@ ghost use mathlib.Core.Bool.{Bool, true, false};
 ghost use Prim.Native.Nat.{ℕ, _+_, _*_, _≤_};
 ghost use lib.ListN.{length};
 ghost use Rattle.kinds.specs.Lists.{all};
-ghost use Rattle.term.specs.Spans.{target};
-ghost use Rattle.walk.specs.ByIndex.{orZero, pairList, fine};
+ghost use Rattle.following.specs.Following.{target};
+ghost use Rattle.walk.specs.ByIndex.{orZero, fine};
+ghost use Rattle.readers.specs.BlockWords.{pairList};
+use following::Reached;
+use following::positions::follow;
 use kinds::Node;
 use kinds::Position;
-use term::Reached;
-use term::following::follow;
 
 // Whether each of the pairs has a number below the limit and leads to a node below room.
 pub fn fine_pairs(

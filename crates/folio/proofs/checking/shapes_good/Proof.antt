@@ -1,9 +1,9 @@
-use Rattle.folio.specs.Tables.{blankWord}
+use Rattle.contents.specs.Tables.{blankWord}
 use Prim.Native.Nat.{ℕ}
 use mathlib.Core.Path.{sym, _∙_}
 use native.Mathlib.Omega.{arith}
 use lib.ListN.{replicate, length-replicate}
-use Rattle.folio.proofs.LawsTables.{found-count}
+use Rattle.contents.proofs.LawsTables.{found-count}
 use Rattle.folio.proofs.LawsAgain.{again-symbols, again-refused, again-found}
 use borrow.Author.Needs.{needs}
 use Rattle.folio.proofs.checking.shapes_good.Statement.{statement}

@@ -1,10 +1,10 @@
-use Rattle.folio.specs.Tables.{blankWord}
+use Rattle.contents.specs.Tables.{blankWord}
 use Prim.Native.Nat.{ℕ, _-_}
 use mathlib.Core.Path.{sym, _∙_}
 use native.Mathlib.Omega.{arith}
 use lib.ListN.{length, take, drop, replicate, length-replicate}
 use Rattle.folio.specs.Opening.{lent}
-use Rattle.folio.proofs.LawsTables.{shapes-refused-in, score-refused-in, found-count}
+use Rattle.contents.proofs.LawsTables.{shapes-refused-in, score-refused-in, found-count}
 use Rattle.folio.proofs.LawsOpening.{ws-length, sc-length, parts-shapes, parts-score, parts-on}
 use borrow.Author.Needs.{needs}
 use Rattle.folio.proofs.opening.hold.Statement.{statement}

@@ -3,7 +3,7 @@ use mathlib.Core.Path.{sym, _∙_}
 use native.Mathlib.Omega.{arith}
 use lib.ListN.{replicate, length-replicate}
 use Rattle.folio.specs.Opening.{lent}
-use Rattle.folio.proofs.LawsSections.{sections-placed}
+use Rattle.sections.proofs.LawsSections.{sections-placed}
 use Rattle.folio.proofs.LawsOpening.{opened-refused, opened-held, both-length, bytes-length}
 use borrow.Author.Needs.{needs}
 use Rattle.folio.proofs.opening.open.Statement.{statement}

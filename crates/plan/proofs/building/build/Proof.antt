@@ -1,6 +1,6 @@
 use Rattle.plan.proofs.BuildLaws.{built-bad, built-short, built-on, written-clears, cleared-again}
 use Rattle.plan.proofs.ReadyTables.{ready, plan-of-tables}
-use Rattle.plan.specs.WordMachine.{words}
+use Rattle.decoding.specs.WordMachine.{words}
 use Rattle.plan.specs.Building.{Out}
 use Rattle.automaton.specs.PlanWords.{planned}
 use lib.ListN.{length, replicate}
@@ -15,7 +15,7 @@ use Rattle.plan.proofs.building.build.Lts as lts
 use Rattle.folio.proofs.checking.shapes_good.Reads as shapes-good-reads
 use Rattle.plan.proofs.building.clear.Reads as clear-reads
 use Rattle.plan.proofs.building.make.Reads as make-reads
-use Rattle.plan.proofs.tables.fill_tables.Reads as fill-tables-reads
+use Rattle.tables.proofs.filling.fill_tables.Reads as fill-tables-reads
 
 -- src/building.rt:23:8
 shapes-good-requires : tie.Need-shapes-good-requires

@@ -8,7 +8,7 @@ use Rattle.plan.proofs.explore.explore.Statement.{statement}
 use Rattle.plan.proofs.explore.explore.Tie as tie
 use Rattle.plan.proofs.explore.explore.Reads as reads
 use Rattle.plan.proofs.explore.explore.Lts as lts
-use Rattle.plan.proofs.derive.put_fresh.Reads as put-fresh-reads
+use Rattle.goals.proofs.derive.put_fresh.Reads as put-fresh-reads
 use Rattle.plan.proofs.explore.explore_state.Reads as explore-state-reads
 use Rattle.plan.proofs.states.add_state.Reads as add-state-reads
 

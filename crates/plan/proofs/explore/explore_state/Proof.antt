@@ -1,8 +1,8 @@
 use Rattle.plan.proofs.ExploreLaws.{state-in, Rowing, rowing-begin, rowing-on, rowing-stop, rowing-end}
-use Rattle.plan.proofs.GoodLaws.{good-low, good-label}
-use Rattle.plan.specs.GoodStates.{GoodState}
-use Rattle.plan.specs.GoalWords.{labelCode}
-use Rattle.plan.specs.WordMachine.{stateIn}
+use Rattle.decoding.proofs.GoodLaws.{good-low, good-label}
+use Rattle.decoding.specs.GoodStates.{GoodState}
+use Rattle.goals.specs.GoalWords.{labelCode}
+use Rattle.decoding.specs.WordMachine.{stateIn}
 use lib.ListN.{length, getD}
 use Prim.Native.Nat.{ℕ, _≤_, _<_, _+_, _-_, _*_, _/_, _%_}
 use mathlib.Core.Path.{_≡_, refl, ap, ap₂, sym, _∙_}
@@ -13,7 +13,7 @@ use Rattle.plan.proofs.explore.explore_state.Tie as tie
 use Rattle.plan.proofs.explore.explore_state.Reads as reads
 use Rattle.plan.proofs.explore.explore_state.Lts as lts
 use Rattle.plan.proofs.explore.explore_symbol.Reads as explore-symbol-reads
-use Rattle.plan.proofs.goals.label.Reads as label-reads
+use Rattle.goals.proofs.obligations.label.Reads as label-reads
 
 abbrev Inv-loop : tie.InvT-loop
 Inv-loop tab arity shapes scratch₀ m state i n c states₀ words₀ f₀ scratch states words f = Rowing arity tab shapes scratch₀ m (state .0) scratch states words f

@@ -1,13 +1,13 @@
 use Rattle.plan.proofs.ExploreLaws.{state-in, Derived, derived, derive-small, derive-room, met-same, part-count, part-is, part-few, part-low, outs-many, outputs-few}
-use Rattle.plan.proofs.GoodLaws.{good-low, good-label}
+use Rattle.decoding.proofs.GoodLaws.{good-low, good-label}
 use Rattle.plan.proofs.WordArrays.{low-at}
-use Rattle.plan.proofs.ClosureLaws.{empty-square}
+use Rattle.classes.proofs.ClosureLaws.{empty-square}
 use Rattle.plan.proofs.InOrder.{classes-in-order}
-use Rattle.plan.specs.GoodStates.{GoodState}
-use Rattle.plan.specs.GoalWords.{goalsFrom, labelCode}
-use Rattle.plan.specs.WordStages.{classKey, classesW, outputsW}
-use Rattle.plan.specs.WordMachine.{words, stateIn, statesIn}
-use Rattle.plan.specs.Orders.{classAt, begins}
+use Rattle.decoding.specs.GoodStates.{GoodState}
+use Rattle.goals.specs.GoalWords.{goalsFrom, labelCode}
+use Rattle.goals.specs.WordStages.{classKey, classesW, outputsW}
+use Rattle.decoding.specs.WordMachine.{words, stateIn, statesIn}
+use Rattle.goals.specs.Orders.{classAt, begins}
 use Rattle.automaton.specs.Exploring.{meets}
 use lib.ListN.{length, getD, replicate}
 use Prim.Native.Nat.{ℕ, _≤_, _<_, _+_, _-_, _*_, _/_, _%_}
@@ -19,11 +19,11 @@ use Rattle.plan.proofs.explore.explore_symbol.Statement.{statement}
 use Rattle.plan.proofs.explore.explore_symbol.Tie as tie
 use Rattle.plan.proofs.explore.explore_symbol.Reads as reads
 use Rattle.plan.proofs.explore.explore_symbol.Lts as lts
-use Rattle.plan.proofs.announce.outputs.Reads as outputs-reads
-use Rattle.plan.proofs.derive.derive.Reads as derive-reads
+use Rattle.goals.proofs.announce.outputs.Reads as outputs-reads
+use Rattle.goals.proofs.derive.derive.Reads as derive-reads
 use Rattle.plan.proofs.explore.meet_all.Reads as meet-all-reads
-use Rattle.plan.proofs.order.class_order.Reads as class-order-reads
-use Rattle.plan.proofs.square.dependency.Reads as dependency-reads
+use Rattle.classes.proofs.order.class_order.Reads as class-order-reads
+use Rattle.classes.proofs.square.dependency.Reads as dependency-reads
 
 cast-i : tie.Need-cast-i
 cast-i c = search needs

@@ -2,8 +2,8 @@ use mathlib.Core.List.{List, [], _∷_, _++_}
 use Rattle.plan.proofs.ExploreLaws.{class-few, class-room, Lifting, lifting, met-known, met-full, met-new}
 use Rattle.plan.proofs.MeetLaws.{meet-big}
 use Rattle.plan.proofs.WordArrays.{flat-thirds}
-use Rattle.plan.specs.WordMachine.{words, statesIn}
-use Rattle.plan.specs.Orders.{classAt}
+use Rattle.decoding.specs.WordMachine.{words, statesIn}
+use Rattle.goals.specs.Orders.{classAt}
 use lib.ListN.{length, replicate}
 use lib.Seq.{length-sets}
 use Prim.Native.Nat.{ℕ, _≤_, _<_, _+_, _-_, _*_}
@@ -14,9 +14,9 @@ use Rattle.plan.proofs.explore.meet.Statement.{statement}
 use Rattle.plan.proofs.explore.meet.Tie as tie
 use Rattle.plan.proofs.explore.meet.Reads as reads
 use Rattle.plan.proofs.explore.meet.Lts as lts
-use Rattle.plan.proofs.classes.put_class.Reads as put-class-reads
-use Rattle.plan.proofs.lift.least.Reads as least-reads
-use Rattle.plan.proofs.lift.put_lifted.Reads as put-lifted-reads
+use Rattle.classes.proofs.members.put_class.Reads as put-class-reads
+use Rattle.goals.proofs.lift.least.Reads as least-reads
+use Rattle.goals.proofs.lift.put_lifted.Reads as put-lifted-reads
 use Rattle.plan.proofs.states.add_state.Reads as add-state-reads
 use Rattle.plan.proofs.states.find_state.Reads as find-state-reads
 

@@ -1,5 +1,5 @@
 use Rattle.plan.proofs.StateLaws.{placeFrom, place-all, place-here, place-next, place-end}
-use Rattle.plan.specs.GoalWords.{goalsFrom}
+use Rattle.goals.specs.GoalWords.{goalsFrom}
 use Prim.Native.Nat.{ℕ, _≤_, _<_, _+_, _-_, _*_}
 use lib.ListN.{length, getD}
 use mathlib.Core.Path.{_≡_, refl, ap, sym, _∙_}
@@ -9,7 +9,7 @@ use Rattle.plan.proofs.states.find_state.Statement.{statement}
 use Rattle.plan.proofs.states.find_state.Tie as tie
 use Rattle.plan.proofs.states.find_state.Reads as reads
 use Rattle.plan.proofs.states.find_state.Lts as lts
-use Rattle.plan.proofs.same.same_state.Reads as same-state-reads
+use Rattle.classes.proofs.same.same_state.Reads as same-state-reads
 
 abbrev Inv-loop : tie.InvT-loop
 Inv-loop scratch m ws n i₀ i = (i ≤ m) × (placeFrom (goalsFrom ws 0 n) scratch m 0 ≡ placeFrom (goalsFrom ws 0 n) scratch m i)

@@ -1,8 +1,8 @@
 use Rattle.plan.proofs.WriteLaws.{Planned, planned-begin, planned-room, planned-below, planned-on, planned-end, plan-total, head-length}
 use Rattle.plan.proofs.ExploreLaws.{state-in}
-use Rattle.plan.proofs.GoodLaws.{good-low, good-label}
-use Rattle.plan.specs.WordMachine.{stateIn, statesIn}
-use Rattle.plan.specs.GoodStates.{GoodState}
+use Rattle.decoding.proofs.GoodLaws.{good-low, good-label}
+use Rattle.decoding.specs.WordMachine.{stateIn, statesIn}
+use Rattle.decoding.specs.GoodStates.{GoodState}
 use lib.ListN.{length, getD, set, length-set}
 use Prim.Native.Nat.{ℕ, _≤_, _<_, _+_, _-_, _*_, _/_, _%_}
 use mathlib.Core.Path.{_≡_, refl, ap, ap₂, sym, _∙_}
@@ -12,7 +12,7 @@ use Rattle.plan.proofs.writing.write_plan.Statement.{statement}
 use Rattle.plan.proofs.writing.write_plan.Tie as tie
 use Rattle.plan.proofs.writing.write_plan.Reads as reads
 use Rattle.plan.proofs.writing.write_plan.Lts as lts
-use Rattle.plan.proofs.goals.label.Reads as label-reads
+use Rattle.goals.proofs.obligations.label.Reads as label-reads
 use Rattle.plan.proofs.writing.write_row.Reads as write-row-reads
 
 abbrev Inv-loop : tie.InvT-loop

@@ -1,5 +1,5 @@
 use Rattle.plan.proofs.ExploreLaws.{state-in}
-use Rattle.plan.specs.WordMachine.{stateIn}
+use Rattle.decoding.specs.WordMachine.{stateIn}
 use Rattle.plan.proofs.WriteLaws.{Rowed, rowed-begin, rowed-room, rowed-on, rowed-end}
 use lib.ListN.{length, getD, set, length-set}
 use Prim.Native.Nat.{ℕ, _≤_, _<_, _+_, _-_, _*_, _/_, _%_}

@@ -2,8 +2,8 @@ use Rattle.plan.proofs.ExploreLaws.{class-few, class-room, Lifting, lif
 use Rattle.plan.proofs.WriteLaws.{two-stores, place-le}
 use Rattle.plan.proofs.WordArrays.{flat-thirds}
 use Rattle.plan.proofs.StateLaws.{states-length}
-use Rattle.plan.specs.WordMachine.{statesIn}
-use Rattle.plan.specs.Orders.{classAt}
+use Rattle.decoding.specs.WordMachine.{statesIn}
+use Rattle.goals.specs.Orders.{classAt}
 use Rattle.plan.specs.Meeting.{placeOf, liftedW}
 use lib.ListN.{length, getD, set, length-set, replicate}
 use lib.Seq.{sets}
@@ -16,9 +16,9 @@ use Rattle.plan.proofs.writing.write_successor.Statement.{statement}
 use Rattle.plan.proofs.writing.write_successor.Tie as tie
 use Rattle.plan.proofs.writing.write_successor.Reads as reads
 use Rattle.plan.proofs.writing.write_successor.Lts as lts
-use Rattle.plan.proofs.classes.put_class.Reads as put-class-reads
-use Rattle.plan.proofs.lift.least.Reads as least-reads
-use Rattle.plan.proofs.lift.put_lifted.Reads as put-lifted-reads
+use Rattle.classes.proofs.members.put_class.Reads as put-class-reads
+use Rattle.goals.proofs.lift.least.Reads as least-reads
+use Rattle.goals.proofs.lift.put_lifted.Reads as put-lifted-reads
 use Rattle.plan.proofs.states.find_state.Reads as find-state-reads
 
 -- src/writing.rt:125:41

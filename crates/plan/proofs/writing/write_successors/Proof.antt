@@ -1,7 +1,7 @@
 use Rattle.plan.proofs.WriteLaws.{Paired, paired-begin, paired-on, paired-end}
-use Rattle.plan.specs.WordStages.{leastCode}
-use Rattle.plan.specs.WordMachine.{statesIn}
-use Rattle.plan.specs.Orders.{classAt}
+use Rattle.goals.specs.WordStages.{leastCode}
+use Rattle.decoding.specs.WordMachine.{statesIn}
+use Rattle.goals.specs.Orders.{classAt}
 use Rattle.plan.specs.Meeting.{placeOf, liftedW}
 use lib.ListN.{length, getD, set, length-set}
 use Prim.Native.Nat.{ℕ, _≤_, _<_, _+_, _-_, _*_, _%_}

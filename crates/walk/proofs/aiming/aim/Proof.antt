@@ -1,7 +1,7 @@
-use Rattle.term.specs.Spans.{target}
+use Rattle.following.specs.Following.{target}
 use mathlib.Core.Path.{ap, sym, _∙_}
 use Rattle.walk.specs.ByIndex.{orZero}
-use Rattle.term.proofs.LawsFollowing as after
+use Rattle.following.proofs.LawsFollowing as after
 use borrow.Author.Needs.{needs}
 use Rattle.walk.proofs.aiming.aim.Statement.{statement}
 use Rattle.walk.proofs.aiming.aim.Tie as tie

@@ -1,5 +1,5 @@
 use mathlib.Core.Path.{sym, _∙_}
-use Rattle.term.proofs.LawsFollowing as after
+use Rattle.following.proofs.LawsFollowing as after
 use Rattle.walk.proofs.LawsTargets as law
 use borrow.Author.Needs.{needs}
 use Rattle.walk.proofs.aiming.fine_pair.Statement.{statement}

@@ -4,8 +4,9 @@ use native.Mathlib.Omega.{arith}
 use borrow.Author.Tests.{not-true, not-false}
 use lib.ListN.{length}
 use Rattle.kinds.specs.Lists.{all}
-use Rattle.term.specs.Spans.{target}
-use Rattle.walk.specs.ByIndex.{pairList, fine}
+use Rattle.following.specs.Following.{target}
+use Rattle.walk.specs.ByIndex.{fine}
+use Rattle.readers.specs.BlockWords.{pairList}
 use Rattle.walk.proofs.LawsTargets as law
 use borrow.Author.Needs.{needs}
 use Rattle.walk.proofs.aiming.fine_pairs.Statement.{statement}

@@ -3,9 +3,10 @@ use Prim.Native.Nat.{_+_, _*_, _≤_}
 use native.Mathlib.Omega.{arith}
 use lib.ListN.{length, length-set}
 use lib.Seq.{sets}
-use Rattle.term.specs.Spans.{target}
-use Rattle.walk.specs.PlanParts.{pairWords}
-use Rattle.walk.specs.ByIndex.{pairList, landed}
+use Rattle.following.specs.Following.{target}
+use Rattle.readers.specs.PlanParts.{pairWords}
+use Rattle.walk.specs.ByIndex.{landed}
+use Rattle.readers.specs.BlockWords.{pairList}
 use Rattle.walk.proofs.LawsTargets as law
 use borrow.Author.Needs.{needs}
 use Rattle.walk.proofs.queueing.append_pairs.Statement.{statement}

@@ -4,9 +4,10 @@ use Prim.Native.Nat.{_+_, _*_, _≤_}
 use native.Mathlib.Omega.{arith}
 use lib.ListN.{length, length-set}
 use Rattle.kinds.specs.Lists.{all}
-use Rattle.term.specs.Spans.{target}
+use Rattle.following.specs.Following.{target}
 use Rattle.walk.specs.Stepping.{marked}
-use Rattle.walk.specs.ByIndex.{pairList, fine, landed}
+use Rattle.walk.specs.ByIndex.{fine, landed}
+use Rattle.readers.specs.BlockWords.{pairList}
 use Rattle.walk.proofs.LawsTargets as law
 use borrow.Author.Needs.{needs}
 use Rattle.walk.proofs.queueing.mark_pairs.Statement.{statement}

@@ -1,5 +1,5 @@
 use native.Mathlib.Omega.{arith}
-use Rattle.walk.specs.ByIndex.{middle}
+use Rattle.readers.specs.BlockWords.{middle}
 use Rattle.walk.proofs.LawsStep as law
 use borrow.Author.Needs.{needs}
 use Rattle.walk.proofs.stepping.advance.Statement.{statement}

@@ -1,9 +1,9 @@
 use mathlib.Core.Path.{ap, sym, _∙_}
 use native.Mathlib.Omega.{arith}
 use borrow.Author.Tests.{not-true, not-false}
-use Rattle.walk.specs.ByIndex.{begins}
-use Rattle.walk.proofs.LawsParts as parts
-use Rattle.term.proofs.LawsFollowing as aims
+use Rattle.readers.specs.BlockWords.{begins}
+use Rattle.readers.proofs.LawsParts as parts
+use Rattle.following.proofs.LawsFollowing as aims
 use Rattle.walk.proofs.LawsStep as law
 use borrow.Author.Needs.{needs}
 use Rattle.walk.proofs.stepping.find_head.Statement.{statement}

@@ -1,9 +1,9 @@
 use mathlib.Core.Path.{sym, _∙_}
 use native.Mathlib.Omega.{arith}
 use borrow.Author.Tests.{not-true, not-false}
-use Rattle.walk.specs.ByIndex.{middle}
-use Rattle.walk.proofs.LawsPairs.{fits-in}
-use Rattle.walk.proofs.LawsParts.{counts-of}
+use Rattle.readers.specs.BlockWords.{middle}
+use Rattle.readers.proofs.LawsPairs.{fits-in}
+use Rattle.readers.proofs.LawsParts.{counts-of}
 use Rattle.walk.proofs.LawsStep as law
 use Rattle.walk.proofs.stepping.leads_fine.Statement.{statement}
 use Rattle.walk.proofs.stepping.leads_fine.Tie as tie

@@ -1,7 +1,7 @@
 use mathlib.Core.Path.{sym}
 use native.Mathlib.Omega.{arith}
-use Rattle.walk.specs.ByIndex.{middle}
-use Rattle.walk.proofs.LawsPairs.{fits-in}
+use Rattle.readers.specs.BlockWords.{middle}
+use Rattle.readers.proofs.LawsPairs.{fits-in}
 use Rattle.walk.proofs.LawsStep as law
 use borrow.Author.Needs.{needs}
 use Rattle.walk.proofs.stepping.room_left.Statement.{statement}

@@ -1,0 +1,3 @@
+pub mod SameLaws
+pub mod ClosureLaws
+pub mod SquareLaws

@@ -1,0 +1,38 @@
+use Rattle.classes.proofs.ClosureLaws.{Rows, rows-more, grown-refl}
+use Rattle.classes.specs.Squares.{cell, Square, Reach, one, via, Grown}
+use mathlib.Core.Bool.{Bool, true, false}
+use mathlib.Core.Path.{_≡_, refl, ap, sym, _∙_}
+use native.Mathlib.Omega.{arith}
+use Prim.Native.Nat.{ℕ, _≤_, _<_, _+_, _-_}
+use borrow.Author.Needs.{needs}
+use Rattle.classes.proofs.closure.round.Statement.{statement}
+use Rattle.classes.proofs.closure.round.Tie as tie
+
+abbrev Inv-loop : tie.InvT-loop
+Inv-loop dep₀ n k i₀ dep i = Rows n k dep₀ dep i
+
+abbrev μ-loop : tie.MeasureT-loop
+μ-loop dep₀ n k i₀ dep i = n - i
+
+loop-holds : tie.Need-loop-holds Inv-loop μ-loop
+loop-holds c = record { within = omega arith; square = c .pre .2; grown = grown-refl _ _; joined = λ a h. absurd (omega arith) }
+
+join-row-requires : tie.Need-join-row-requires Inv-loop μ-loop
+join-row-requires c κs = (c .before .before .before .pre .0, c .before .before .before .pre .1, c .before .loop-test .taken, c .before .before .loop .inv .square)
+
+add-i : tie.Need-add-i Inv-loop μ-loop
+add-i c = search needs
+
+loop-less : tie.Need-loop-less Inv-loop μ-loop
+loop-less c = search needs
+
+loop-again : tie.Need-loop-again Inv-loop μ-loop
+loop-again c = let e = c .join-row .ensures in rows-more (c .before .before .loop-test .taken) (c .before .before .before .loop .inv) (e .0) (e .1 .0) (e .1 .1)
+
+returns : tie.Need-returns Inv-loop μ-loop
+returns c = let r = c .before .loop .inv in (r .square, (r .grown, λ a b ha hb ak kb. r .joined a (omega arith) b hb ak kb))
+
+pub round-spec : {M : Type 1} → statement M
+round-spec =
+    tie.close
+    (tie.spec Inv-loop μ-loop loop-holds join-row-requires add-i loop-less loop-again returns)

@@ -1,0 +1,117 @@
+use Rattle.goals.proofs.OrderLaws.{Listed, listed-begin, listed-on, listed-off, listed-end, key-of, key-small}
+use Rattle.goals.specs.Orders.{begins, classAt}
+use Rattle.goals.specs.GoalWords.{pad}
+use Rattle.goals.specs.WordStages.{classKey}
+use Prim.Native.Nat.{ℕ, _≤_, _<_, _+_, _-_, _*_}
+use lib.ListN.{length, getD}
+use mathlib.Core.Logic.{⊎-elim}
+use mathlib.Core.Path.{_≡_, refl, ap, sym, _∙_}
+use native.Mathlib.Omega.{arith}
+use borrow.Author.Needs.{needs}
+use Rattle.classes.proofs.order.class_order.Statement.{statement}
+use Rattle.classes.proofs.order.class_order.Tie as tie
+use Rattle.classes.proofs.order.class_order.Reads as reads
+use Rattle.classes.proofs.order.class_order.Lts as lts
+use Rattle.classes.proofs.members.leader.Reads as leader-reads
+use Rattle.goals.proofs.obligations.padded.Reads as padded-reads
+use Rattle.classes.proofs.order.first_in_row.Reads as first-in-row-reads
+use Rattle.goals.proofs.sorting.arrange.Reads as arrange-reads
+
+abbrev Inv-loop : tie.InvT-loop
+Inv-loop tab ws n dep items₀ k₀ i₀ items k i = Listed (begins dep) (λ x. classKey tab (classAt dep ws n x)) n items₀ items k i
+
+abbrev μ-loop : tie.MeasureT-loop
+μ-loop tab ws n dep items₀ k₀ i₀ items k i = n - i
+
+-- src/order.rt:31:5
+loop-holds : tie.Need-loop-holds Inv-loop μ-loop
+loop-holds c = listed-begin (begins (c .before .before .before .args .dep .now)) (λ x. classKey (c .before .before .before .args .tab .now) (classAt (c .before .before .before .args .dep .now) (c .before .before .before .args .ws .now) (c .before .before .before .args .n) x)) (c .before .before .before .args .n) (c .before .before .before .args .items .now)
+
+-- src/order.rt:32:12
+leader-requires : tie.Need-leader-requires Inv-loop μ-loop
+leader-requires c κs = (omega (arith, c .loop-test .taken, c .before .before .before .before .before .pre .1), c .before .before .before .before .before .pre .4)
+
+-- src/order.rt:33:37
+first-in-row-requires : tie.Need-first-in-row-requires Inv-loop μ-loop
+first-in-row-requires c κs = (c .before .before .before .before .before .before .before .pre .0, c .before .before .before .before .before .before .before .pre .1, c .before .before .before .before .before .before .before .pre .2, c .before .before .before .before .before .before .before .pre .3, c .before .before .before .before .before .before .before .pre .4, omega (arith, c .before .before .loop-test .taken, c .before .before .before .before .before .before .before .pre .1))
+
+-- src/order.rt:33:30
+padded-requires : tie.Need-padded-requires Inv-loop μ-loop
+padded-requires c κs = search needs
+
+-- src/order.rt:33:24
+mul-items : tie.Need-mul-items Inv-loop μ-loop
+mul-items c = let e = c .padded .ensures ∙ ap pad (c .before .first-in-row .ensures) ∙ sym (key-of (c .before .before .before .before .before .before .before .before .before .args .tab .now) (classAt (c .before .before .before .before .before .before .before .before .before .args .dep .now) (c .before .before .before .before .before .before .before .before .before .args .ws .now) (c .before .before .before .before .before .before .before .before .before .args .n) (c .before .before .before .before .before .loop .i))) in
+    omega (arith, e, key-small (c .before .before .before .before .before .before .before .before .before .args .tab .now) (classAt (c .before .before .before .before .before .before .before .before .before .args .dep .now) (c .before .before .before .before .before .before .before .before .before .args .ws .now) (c .before .before .before .before .before .before .before .before .before .args .n) (c .before .before .before .before .before .loop .i)))
+
+-- src/order.rt:33:73
+cast-items : tie.Need-cast-items Inv-loop μ-loop
+cast-items c = search needs
+
+-- src/order.rt:33:24
+add-items : tie.Need-add-items Inv-loop μ-loop
+add-items c = let e = c .padded .ensures ∙ ap pad (c .before .first-in-row .ensures) ∙ sym (key-of (c .before .before .before .before .before .before .before .before .before .args .tab .now) (classAt (c .before .before .before .before .before .before .before .before .before .args .dep .now) (c .before .before .before .before .before .before .before .before .before .args .ws .now) (c .before .before .before .before .before .before .before .before .before .args .n) (c .before .before .before .before .before .loop .i))) in
+    omega (arith, e, key-small (c .before .before .before .before .before .before .before .before .before .args .tab .now) (classAt (c .before .before .before .before .before .before .before .before .before .args .dep .now) (c .before .before .before .before .before .before .before .before .before .args .ws .now) (c .before .before .before .before .before .before .before .before .before .args .n) (c .before .before .before .before .before .loop .i)))
+
+-- src/order.rt:33:13
+mul-items-2 : tie.Need-mul-items-2 Inv-loop μ-loop
+mul-items-2 c = let s = c .before .before .before .before .before .loop .inv in omega (arith, s .few, s .long, c .before .before .before .before .before .before .before .before .before .pre .5, c .before .before .before .before .before .before .before .before .before .pre .1)
+
+-- src/order.rt:33:13
+slice-write-items : tie.Need-slice-write-items Inv-loop μ-loop
+slice-write-items c = let s = c .before .before .before .before .before .loop .inv in omega (arith, s .few, s .long, c .before .before .before .before .before .before .before .before .before .pre .5, c .before .before .before .before .before .before .before .before .before .pre .1)
+
+-- src/order.rt:34:13
+add-k : tie.Need-add-k Inv-loop μ-loop
+add-k c = let s = c .before .before .before .before .before .loop .inv in omega (arith, s .few, c .before .before .before .before .before .before .before .before .before .pre .1)
+
+-- src/order.rt:36:9
+add-i : tie.Need-add-i Inv-loop μ-loop
+add-i c = search needs
+
+-- src/order.rt:31:5
+loop-less : tie.Need-loop-less Inv-loop μ-loop
+loop-less c = search needs
+
+-- src/order.rt:31:5
+loop-again : tie.Need-loop-again Inv-loop μ-loop
+loop-again c = let a = c .before .before .before .before .before .before .before .args in let l = c .before .before .before .loop in
+    ⊎-elim
+    (λ w. rw (w .3, w .4) (listed-on (l .inv) (c .before .before .loop-test .taken) (sym (c .before .leader .ensures) ∙ w .0 .taken) _ (ap (λ x. 128 * x + l .i) (w .2 .ensures ∙ ap pad (w .1 .ensures) ∙ sym (key-of (a .tab .now) (classAt (a .dep .now) (a .ws .now) (a .n) (l .i)))))))
+    (λ w. rw (w .1, w .2) (listed-off (l .inv) (c .before .before .loop-test .taken) (sym (c .before .leader .ensures) ∙ w .0 .left)))
+    (c .if1 .came)
+
+-- src/order.rt:38:5
+arrange-requires : tie.Need-arrange-requires Inv-loop μ-loop
+arrange-requires c κs = let s = c .before .before .loop .inv in omega (arith, s .few, s .long, s .below, c .before .before .before .before .before .before .pre .5)
+
+-- src/order.rt:18:1
+same-length : tie.Need-same-length Inv-loop μ-loop
+same-length c = c .before .before .arrange .kept .0 ∙ c .before .before .before .before .before .loop .inv .long
+
+-- src/order.rt:18:1
+returns : tie.Need-returns Inv-loop μ-loop
+returns c = listed-end (c .before .before .before .before .before .loop .inv) (c .before .before .before .before .loop-test .left) (c .before .before .before .before .before .before .before .before .before .pre .5) _ (c .before .before .arrange .ensures)
+
+pub class-order-spec : {M : Type 1} → statement M
+class-order-spec =
+    tie.close
+    (tie.spec
+    Inv-loop
+    μ-loop
+    loop-holds
+    leader-requires
+    first-in-row-requires
+    padded-requires
+    mul-items
+    cast-items
+    add-items
+    mul-items-2
+    slice-write-items
+    add-k
+    add-i
+    loop-less
+    loop-again
+    arrange-requires
+    same-length
+    returns)

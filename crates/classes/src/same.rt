@@ -1,0 +1,81 @@
+ghost use mathlib.Core.Path.{_≡_};
+ghost use mathlib.Core.Bool.{Bool, true, false};
+ghost use Prim.Native.Nat.{ℕ, _+_, _*_, _<_, _≤_};
+ghost use lib.ListN.{length, take, drop};
+ghost use lib.Seq.{sets};
+ghost use Rattle.goals.specs.GoalWords.{goalsFrom, goalW};
+ghost use Rattle.goals.specs.WordStages.{sameW, amongW, withinW, sameStateW};
+
+fn same_goal(s: u16, a: u16, m: u16, t: u16, b: u16, o: u16) -> bool
+    ensures { λ r. ⌜ r ≡ sameW (goalW s a m) (goalW t b o) ⌝ }
+{
+    if s != t {
+        return false;
+    }
+    if a != b {
+        return false;
+    }
+    m == o
+}
+
+// Does the goal of three words stand among the k goals from `at` on?
+fn among(s: u16, a: u16, m: u16, vs: &[u16], at: usize, k: usize) -> bool
+    requires { ⌜ (k ≤ 96) × (at + 3 * k ≤ length (now vs)) ⌝ }
+    ensures { λ r. ⌜ r ≡ amongW (goalW s a m) (goalsFrom (now (vs .entry)) at k) ⌝ }
+{
+    let mut here = at;
+    let mut left = k;
+    while 0 < left {
+        if same_goal(s, a, m, vs[here], vs[here + 1], vs[here + 2]) {
+            return true;
+        }
+        here += 3;
+        left -= 1;
+    }
+    false
+}
+
+// Is each of the n goals from `from` on among the k goals from `at` on?
+fn within(ws: &[u16], from: usize, n: usize, vs: &[u16], at: usize, k: usize) -> bool
+    requires { ⌜ (n ≤ 96) × (from + 3 * n ≤ length (now ws)) × (k ≤ 96) × (at + 3 * k ≤ length (now vs)) ⌝ }
+    ensures { λ r. ⌜ r ≡ withinW (goalsFrom (now (ws .entry)) from n) (goalsFrom (now (vs .entry)) at k) ⌝ }
+{
+    let mut here = from;
+    let mut left = n;
+    while 0 < left {
+        if among(ws[here], ws[here + 1], ws[here + 2], vs, at, k) {
+            here += 3;
+            left -= 1;
+        } else {
+            return false;
+        }
+    }
+    true
+}
+
+// The words from `at` on, as many as `out` has, into `out`.
+fn copy_words(ws: &[u16], at: usize, n: usize, out: &mut [u16])
+    requires { ⌜ (at + n ≤ length (now ws)) × (n ≤ length (now out)) ⌝ }
+    ensures { λ r. ⌜ now (out .exit) ≡ sets (now (out .entry)) 0 (take n (drop at (now (ws .entry)))) ⌝ }
+{
+    let mut i = 0;
+    while i < n {
+        out[i] = ws[at + i];
+        i += 1;
+    }
+}
+
+// Are two states of at most 32 goals the same set of goals?
+pub fn same_state(ws: &[u16], from: usize, n: usize, vs: &[u16], at: usize, k: usize) -> bool
+    requires { ⌜ (n ≤ 32) × (from + 3 * n ≤ length (now ws)) × (k ≤ 32) × (at + 3 * k ≤ length (now vs)) ⌝ }
+    ensures { λ r. ⌜ r ≡ sameStateW (goalsFrom (now (ws .entry)) from n) (goalsFrom (now (vs .entry)) at k) ⌝ }
+{
+    let mut xs = [0u16; 96];
+    let mut ys = [0u16; 96];
+    copy_words(ws, from, 3 * n, &mut xs);
+    copy_words(vs, at, 3 * k, &mut ys);
+    if within(&xs, 0, n, &ys, 0, k) {
+        return within(&ys, 0, k, &xs, 0, n);
+    }
+    false
+}

@@ -1,0 +1,89 @@
+-- Refusals 7 to 17, at word indices. "Within shapes: 12 where a shape begins; else at each node 8, 7, 10, 11; then 9 when the shape is complete.
+-- Within score, at each node: 14, 13, 17, 15; then 16."
+--   blankWord        "65,535 is a blank": the first word that is one; noBlank in a score
+--   shapeLimits      16 nodes from a shape's first word; shapeLevels: depth at most 5
+--   scoreLimits      4,096 nodes; scoreLevels: depth at most 64
+--   shapeReason      the reason of a fault in a shape; scoreReason: in the score
+--   Row              an answer, and the starts of the shapes that were whole before it
+--   shapesFrom       the shapes from a word on, after n others, with room for c more
+--   shapesOf         1 to 16 shapes and nothing left over
+--   scoreOf          one tree and nothing left over
+use Prim.Native.Nat.{ℕ, zero, suc, _+_}
+use mathlib.Core.List.{List, [], _∷_}
+use mathlib.Core.Bool.{Bool, cond}
+use lib.Dec.{ltb, leb}
+use lib.ListN.{length, getD}
+use Rattle.term.specs.Reading.{limits, reading}
+use Rattle.term.specs.declared.Limits.{Limits}
+use Rattle.term.specs.declared.Fault.{Fault}
+use Rattle.term.specs.declared.Fault.the-variants.{Ends, NoSymbol, Many, Deep}
+use Rattle.term.specs.declared.Reading.{Reading}
+use Rattle.term.specs.declared.Reading.the-variants as read
+use Rattle.kinds.specs.declared.Reason.{Reason}
+use Rattle.kinds.specs.declared.Reason.the-variants as reason
+use Rattle.contents.specs.declared.Shapes.{Shapes}
+use Rattle.contents.specs.declared.Shapes.the-variants as shapes
+use Rattle.contents.specs.declared.Score.{Score}
+use Rattle.contents.specs.declared.Score.the-variants as score
+
+abbrev pub blankWord : ℕ
+blankWord = 65535
+
+abbrev pub noBlank : ℕ
+noBlank = 65536
+
+abbrev pub shapeLevels : ℕ
+shapeLevels = 6
+
+abbrev pub scoreLevels : ℕ
+scoreLevels = 65
+
+abbrev pub shapeLimits : ℕ → ℕ → Limits
+shapeLimits bl at = limits bl (at + 16)
+
+abbrev pub scoreLimits : ℕ → Limits
+scoreLimits at = limits noBlank (at + 4096)
+
+abbrev pub shapeReason : Fault → Reason
+shapeReason Ends = reason.ShapeEnds
+shapeReason NoSymbol = reason.ShapeWord
+shapeReason Many = reason.ShapeNodes
+shapeReason Deep = reason.ShapeDepth
+
+abbrev pub scoreReason : Fault → Reason
+scoreReason Ends = reason.ScoreEnds
+scoreReason NoSymbol = reason.ScoreWord
+scoreReason Many = reason.ScoreNodes
+scoreReason Deep = reason.ScoreDepth
+
+pub record Row : Type 0 where
+  pub answer : Shapes
+  pub starts : List ℕ
+
+abbrev pub row : Shapes → List ℕ → Row
+row a s = record { answer = a; starts = s }
+
+abbrev pub push : ℕ → Row → Row
+push at r = row (r .answer) (at ∷ r .starts)
+
+-- the shape at `at`, whose first word is a blank or not, and then what comes after it
+abbrev pub shape : Reading → ℕ → Bool → (ℕ → Row) → Row
+shape (read.Refused f p) at lone k = row (shapes.Refused (shapeReason f) p) []
+shape (read.Whole m) at lone k = cond lone (row (shapes.Refused reason.LoneBlank at) []) (push at (k (m .end)))
+
+unfoldable pub shapesFrom : List ℕ → ℕ → List ℕ → ℕ → ℕ → ℕ → Row
+shapesFrom ar bl ws zero n at = cond (ltb at (length ws)) (row (shapes.Refused reason.Shapes at) []) (row (shapes.Found n) [])
+shapesFrom ar bl ws (suc c) n at =
+    cond (ltb at (length ws))
+    (shape (reading ar ws (shapeLimits bl at) shapeLevels at) at (leb bl (getD ws at 0)) (shapesFrom ar bl ws c (n + 1)))
+    (row (shapes.Found n) [])
+
+unfoldable pub shapesOf : List ℕ → ℕ → List ℕ → Row
+shapesOf ar bl ws = cond (ltb 0 (length ws)) (shapesFrom ar bl ws 16 0 0) (row (shapes.Refused reason.Shapes 0) [])
+
+abbrev pub alone : Reading → ℕ → Score
+alone (read.Refused f p) n = score.Refused (scoreReason f) p
+alone (read.Whole m) n = cond (ltb (m .end) n) (score.Refused reason.Surplus (m .end)) score.Whole
+
+unfoldable pub scoreOf : List ℕ → List ℕ → Score
+scoreOf ar ws = alone (reading ar ws (scoreLimits 0) scoreLevels 0) (length ws)

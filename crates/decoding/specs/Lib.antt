@@ -1,0 +1,2 @@
+pub mod WordMachine
+pub mod GoodStates

@@ -1,0 +1,41 @@
+-- The construction on words, as numbering and layout take it; and the states met, as scratch holds them.
+--   announcementW   a goal's announcement
+--   words           for tables and n shapes
+--   stateIn         state i of scratch: 128 counts of goals, then 96 words a state
+--   statesIn        the first m states
+--   Kept            what code asks of scratch that holds m states
+use mathlib.Core.List.{List, map}
+use Prim.Native.Nat.{ℕ, _+_, _*_, _≤_, _<_}
+use lib.ListN.{length, getD}
+use Rattle.kinds.specs.Lists.{range}
+use Rattle.kinds.specs.Positions.{decode}
+use Rattle.automaton.specs.Goals.{Announcement}
+use Rattle.automaton.specs.Exploring.{Construction}
+use Rattle.goals.specs.GoalWords.{GoalWords, goalsFrom, Low, labelCode}
+use Rattle.goals.specs.WordStages.{freshesW, derivW, sameStateW, leastCode, liftW, classesW, outputsW}
+
+abbrev pub announcementW : GoalWords → Announcement
+announcementW g = record { shape = g .sh; at = decode (g .an) }
+
+abbrev pub words : List ℕ → ℕ → Construction (List GoalWords)
+words tab n = record {
+  start = freshesW n 0;
+  label = λ gs. decode (labelCode tab gs);
+  outputs = λ gs f k. map announcementW (outputsW tab (labelCode tab gs) f gs);
+  classes = λ gs f k. classesW tab (derivW tab n (labelCode tab gs) f k gs);
+  size = length;
+  gcp = λ gs. decode (leastCode 65535 gs);
+  lift = λ gs. map (liftW (leastCode 65535 gs)) gs;
+  same = sameStateW;
+}
+
+abbrev pub stateIn : List ℕ → ℕ → List GoalWords
+stateIn sc i = goalsFrom sc (128 + 96 * i) (getD sc i 0)
+
+unfoldable pub statesIn : List ℕ → ℕ → List (List GoalWords)
+statesIn sc m = map (stateIn sc) (range 0 m)
+
+pub record Kept (sc : List ℕ) (m : ℕ) : Type 0 where
+  pub long : 12416 ≤ length sc
+  pub few : m ≤ 128
+  pub counts : (i : ℕ) → i < m → getD sc i 0 ≤ 32

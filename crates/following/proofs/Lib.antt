@@ -1,0 +1,3 @@
+pub mod LawsFollowing
+pub mod FollowTree
+pub mod NodeNumbers

@@ -1,0 +1,6 @@
+pub mod GoalLaws
+pub mod DeriveLaws
+pub mod LiftLaws
+pub mod ClassLaws
+pub mod SortLaws
+pub mod OrderLaws

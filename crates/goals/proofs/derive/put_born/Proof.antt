@@ -1,0 +1,74 @@
+use Rattle.kinds.proofs.ListLaws.{sets-append}
+use Rattle.goals.proofs.DeriveLaws.{bornFrom, born-next, born-end, born-all}
+use Rattle.goals.specs.GoalWords.{flat}
+use Rattle.goals.specs.WordStages.{freshesW, bornW}
+use Prim.Native.Nat.{ℕ, suc, _+_, _*_, _-_, _≤_}
+use mathlib.Core.List.{List, [], _∷_, _++_}
+use lib.Seq.{sets}
+use lib.ListN.{length, getD, length-set, length-append}
+use mathlib.Core.Path.{_≡_, refl, ap, ap₂, sym, _∙_}
+use native.Mathlib.Omega.{arith}
+use borrow.Author.Needs.{needs}
+use Rattle.goals.proofs.derive.put_born.Statement.{statement}
+use Rattle.goals.proofs.derive.put_born.Tie as tie
+
+abbrev Inv-loop : tie.InvT-loop
+Inv-loop out₀ to n c k next₀ i₀ out next i = (i ≤ k) × (length out ≡ length out₀) × (next + length (bornFrom n c k i) ≡ to + length (flat (bornW n c k))) × (sets out₀ to (flat (bornW n c k)) ≡ sets out next (bornFrom n c k i))
+
+abbrev μ-loop : tie.MeasureT-loop
+μ-loop out₀ to n c k next₀ i₀ out next i = k - i
+
+loop-holds : tie.Need-loop-holds Inv-loop μ-loop
+loop-holds c = let a = c .before .args in let e = born-all (a .n) (a .c) (a .k) in (omega arith, refl, omega (arith, ap length e), ap (sets (a .out .now) (a .to)) e)
+
+add-i : tie.Need-add-i Inv-loop μ-loop
+add-i c = search needs
+
+mul-put-fresh : tie.Need-mul-put-fresh Inv-loop μ-loop
+mul-put-fresh c = search needs
+
+add-put-fresh : tie.Need-add-put-fresh Inv-loop μ-loop
+add-put-fresh c = search needs
+
+put-fresh-requires : tie.Need-put-fresh-requires Inv-loop μ-loop
+put-fresh-requires c κs = let a = c .before .before .before .before .args in let l = c .before .before .loop in
+    let p = born-next (a .n) (a .c) (a .k) (l .i) (c .before .loop-test .taken) in
+    (c .before .before .before .before .pre .0, omega (arith, ap length p, length-append (flat (freshesW (a .n) (5 * a .c + (l .i + 1)))) (bornFrom (a .n) (a .c) (a .k) (l .i + 1))))
+
+loop-less : tie.Need-loop-less Inv-loop μ-loop
+loop-less c = search needs
+
+loop-again : tie.Need-loop-again Inv-loop μ-loop
+loop-again c = let a = c .before .before .before .before .before .before .before .args in let l = c .before .before .before .before .before .loop in
+    let p = born-next (a .n) (a .c) (a .k) (l .i) (c .before .before .before .before .loop-test .taken) in
+    let one = flat (freshesW (a .n) (5 * a .c + (l .i + 1))) in
+    let rest = bornFrom (a .n) (a .c) (a .k) (l .i + 1) in (
+      omega arith,
+      c .before .before .put-fresh .kept .0 ∙ l .inv .1,
+      omega (arith, c .before .before .put-fresh .ensures .0, ap length p, length-append one rest),
+      l .inv .3 ∙ ap (sets (l .out) (l .next)) p ∙ sets-append (l .out) (l .next) one rest ∙ ap₂ (λ o i. sets o i rest) (sym (c .before .before .put-fresh .ensures .1)) (sym (c .before .before .put-fresh .ensures .0)),
+    )
+
+same-length : tie.Need-same-length Inv-loop μ-loop
+same-length c = search needs
+
+returns : tie.Need-returns Inv-loop μ-loop
+returns c = let a = c .before .before .before .args in let l = c .before .loop in
+    let p = born-end (a .n) (a .c) (a .k) (l .i) (c .loop-test .left) in
+    (omega (arith, ap length p), sym (l .inv .3 ∙ ap (sets (l .out) (l .next)) p))
+
+pub put-born-spec : {M : Type 1} → statement M
+put-born-spec =
+    tie.close
+    (tie.spec
+    Inv-loop
+    μ-loop
+    loop-holds
+    add-i
+    mul-put-fresh
+    add-put-fresh
+    put-fresh-requires
+    loop-less
+    loop-again
+    same-length
+    returns)

@@ -1,0 +1,46 @@
+use Rattle.goals.proofs.DeriveLaws.{goes, goes-out, goes-not, flat-none, flat-one}
+use Rattle.goals.specs.GoalWords.{goalW, flat}
+use Rattle.goals.specs.WordStages.{goesOn, withMask}
+use Prim.Native.Nat.{ℕ, suc, _+_, _*_, _-_, _≤_}
+use mathlib.Core.List.{List, [], _∷_, _++_}
+use lib.Seq.{sets}
+use lib.ListN.{length, getD, length-set, length-append}
+use mathlib.Core.Path.{_≡_, refl, ap, ap₂, sym, _∙_}
+use native.Mathlib.Omega.{arith}
+use borrow.Author.Needs.{needs}
+use Rattle.goals.proofs.derive.put_moved.Statement.{statement}
+use Rattle.goals.proofs.derive.put_moved.Tie as tie
+
+returns : tie.Need-returns
+returns c = let a = c .before .before .args in let g = goalW (a .s) (a .a) 0 in
+    let e = flat-none (goesOn (a .x) g) (goes-out (a .x) g (c .if1 .taken)) in
+    (omega (arith, ap length e), sym (ap (sets (a .out .now) (a .to)) e))
+
+returns-2 : tie.Need-returns-2
+returns-2 c = let a = c .before .before .before .args in let g = goalW (a .s) (a .a) 0 in
+    let e = flat-none (goesOn (a .x) g) (goes-not (a .x) g (c .before .if1 .left) (c .if2 .taken)) in
+    (omega (arith, ap length e), sym (ap (sets (a .out .now) (a .to)) e))
+
+cast-put-goal : tie.Need-cast-put-goal
+cast-put-goal c = search needs
+
+put-goal-requires : tie.Need-put-goal-requires
+put-goal-requires c κs = let a = c .before .before .before .before .args in let g = goalW (a .s) (a .a) 0 in
+    let e = flat-one (goesOn (a .x) g) (withMask g (a .x)) (goes (a .x) g (c .before .before .if1 .left) (c .before .if2 .left)) in
+    omega (arith, ap length e)
+
+add-result : tie.Need-add-result
+add-result c = search needs
+
+same-length : tie.Need-same-length
+same-length c = search needs
+
+returns-3 : tie.Need-returns-3
+returns-3 c = let a = c .before .before .before .before .before .before .before .args in let g = goalW (a .s) (a .a) 0 in
+    let e = flat-one (goesOn (a .x) g) (withMask g (a .x)) (goes (a .x) g (c .before .before .before .before .before .if1 .left) (c .before .before .before .before .if2 .left)) in
+    (omega (arith, ap length e), c .before .before .put-goal .ensures ∙ sym (ap (sets (a .out .now) (a .to)) e))
+
+pub put-moved-spec : {M : Type 1} → statement M
+put-moved-spec =
+    tie.close
+    (tie.spec returns returns-2 cast-put-goal put-goal-requires add-result same-length returns-3)

@@ -1,0 +1,61 @@
+use Rattle.goals.proofs.GoalLaws.{word-mul}
+use lib.ListN.{length, getD, drop, set, length-set}
+use Prim.Native.Nat.{ℕ, _≤_, _<_, _+_, _-_, _*_, _/_, _%_, _^_}
+use mathlib.Core.Path.{_≡_, refl, ap, ap₂, sym, _∙_}
+use native.Mathlib.Omega.{arith}
+use borrow.Author.Needs.{needs}
+use Rattle.goals.proofs.obligations.code_at.Statement.{statement}
+use Rattle.goals.proofs.obligations.code_at.Tie as tie
+
+mul-at : tie.Need-mul-at
+mul-at c = search needs
+
+add-at : tie.Need-add-at
+add-at c = search needs
+
+add-result : tie.Need-add-result
+add-result c = search needs
+
+mul-result : tie.Need-mul-result
+mul-result c = search needs
+
+shared-slice-read-result : tie.Need-shared-slice-read-result
+shared-slice-read-result c = search needs
+
+cast-result : tie.Need-cast-result
+cast-result c = omega (arith, c .shared-slice-known .given (256 + (16 * c .before .args .s + c .before .args .r)))
+
+mul-result-2 : tie.Need-mul-result-2
+mul-result-2 c = omega (arith, word-mul (c .before .args .a) (getD (c .before .args .tab .now) (256 + (16 * c .before .args .s + c .before .args .r)) 0) (omega arith) (omega (arith, c .shared-slice-known .given (256 + (16 * c .before .args .s + c .before .args .r)))))
+
+mul-result-3 : tie.Need-mul-result-3
+mul-result-3 c = search needs
+
+shared-slice-read-result-2 : tie.Need-shared-slice-read-result-2
+shared-slice-read-result-2 c = search needs
+
+cast-result-2 : tie.Need-cast-result-2
+cast-result-2 c = omega (arith, c .shared-slice-known2 .given (16 * c .before .before .args .s + c .before .before .args .r))
+
+add-result-2 : tie.Need-add-result-2
+add-result-2 c = omega (arith, c .shared-slice-known2 .given (16 * c .before .before .args .s + c .before .before .args .r), word-mul (c .before .before .args .a) (getD (c .before .before .args .tab .now) (256 + (16 * c .before .before .args .s + c .before .before .args .r)) 0) (omega arith) (omega (arith, c .before .shared-slice-known .given (256 + (16 * c .before .before .args .s + c .before .before .args .r)))))
+
+returns : tie.Need-returns
+returns c = refl
+
+pub code-at-spec : {M : Type 1} → statement M
+code-at-spec =
+    tie.close
+    (tie.spec
+    mul-at
+    add-at
+    add-result
+    mul-result
+    shared-slice-read-result
+    cast-result
+    mul-result-2
+    mul-result-3
+    shared-slice-read-result-2
+    cast-result-2
+    add-result-2
+    returns)

@@ -1,0 +1,47 @@
+use Rattle.goals.proofs.GoalLaws.{owed-short, front}
+use Rattle.goals.specs.GoalWords.{owedCodes, sizeOf, firstCode}
+use lib.Seq.{sets}
+use Prim.Native.Nat.{ℕ, _-_}
+use lib.ListN.{length, replicate, take, drop}
+use mathlib.Core.Path.{_≡_, refl, ap, ap₂, sym, _∙_}
+use native.Mathlib.Omega.{arith}
+use borrow.Author.Needs.{needs}
+use Rattle.goals.proofs.obligations.first_owed.Statement.{statement}
+use Rattle.goals.proofs.obligations.first_owed.Tie as tie
+
+slice-aggregate-owed : tie.Need-slice-aggregate-owed
+slice-aggregate-owed c = search needs
+
+owed-requires : tie.Need-owed-requires
+owed-requires c κs = search needs
+
+sub-first-of : tie.Need-sub-first-of
+sub-first-of c = search needs
+
+part-first-of-start : tie.Need-part-first-of-start
+part-first-of-start c = search needs
+
+part-first-of-end : tie.Need-part-first-of-end
+part-first-of-end c = let a = c .before .before .before .before .before .args in omega (arith, c .before .before .owed .ensures .0, owed-short (a .tab .now) (a .s) (a .a) (sizeOf (a .tab .now) (a .s)) 0 (a .m), c .before .before .before .before .before .pre .0 .sizes (a .s) (c .before .before .before .before .before .pre .1), c .before .before .owed .kept .1 .1 .1 .1 .0)
+
+first-of-requires : tie.Need-first-of-requires
+first-of-requires c κs = search needs
+
+returns : tie.Need-returns
+returns c = let a = c .before .before .before .before .before .before .before .args in
+    let zs = replicate {A = ℕ} 16 0 in
+    let xs = owedCodes (a .tab .now) (a .s) (a .a) (a .m) in
+    c .first-of .ensures ∙ ap (firstCode (a .best))
+    (ap (λ l. take (c .before .before .before .before .owed .result - 0) (drop 0 l)) (c .before .before .before .before .owed .ensures .1) ∙ front zs xs (c .before .before .before .before .owed .result) (omega (arith, owed-short (a .tab .now) (a .s) (a .a) (sizeOf (a .tab .now) (a .s)) 0 (a .m), c .before .before .before .before .before .before .before .pre .0 .sizes (a .s) (c .before .before .before .before .before .before .before .pre .1))) (c .before .before .before .before .owed .ensures .0))
+
+pub first-owed-spec : {M : Type 1} → statement M
+first-owed-spec =
+    tie.close
+    (tie.spec
+    slice-aggregate-owed
+    owed-requires
+    sub-first-of
+    part-first-of-start
+    part-first-of-end
+    first-of-requires
+    returns)

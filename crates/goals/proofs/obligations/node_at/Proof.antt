@@ -1,0 +1,82 @@
+use mathlib.Core.Logic.{⊎-elim}
+use mathlib.Core.Path.{_≡_, refl, ap, ap₂, sym, _∙_}
+use Rattle.goals.proofs.GoalLaws.{node-here, node-other, node-off, node-end}
+use Rattle.goals.specs.GoalWords.{nodeFrom, nodeAt, sizeOf, codeAt, Tabled}
+use lib.ListN.{length, getD, drop, set, length-set}
+use Prim.Native.Nat.{ℕ, _≤_, _<_, _+_, _-_, _*_, _/_, _%_, _^_}
+use mathlib.Core.Path.{_≡_, refl, ap, sym, _∙_}
+use native.Mathlib.Omega.{arith}
+use borrow.Author.Needs.{needs}
+use Rattle.goals.proofs.obligations.node_at.Statement.{statement}
+use Rattle.goals.proofs.obligations.node_at.Tie as tie
+
+abbrev Inv-loop : tie.InvT-loop
+Inv-loop tab s a m c left₀ mask₀ r₀ left mask r = (r + left ≡ sizeOf tab s) × (nodeAt tab s a m c ≡ nodeFrom tab s a c left r mask)
+
+abbrev μ-loop : tie.MeasureT-loop
+μ-loop tab s a m c left₀ mask₀ r₀ left mask r = left
+
+mul-left : tie.Need-mul-left Inv-loop μ-loop
+mul-left c = search needs
+
+add-left : tie.Need-add-left Inv-loop μ-loop
+add-left c = search needs
+
+mul-left-2 : tie.Need-mul-left-2 Inv-loop μ-loop
+mul-left-2 c = search needs
+
+shared-slice-read-left : tie.Need-shared-slice-read-left Inv-loop μ-loop
+shared-slice-read-left c = search needs
+
+cast-left : tie.Need-cast-left Inv-loop μ-loop
+cast-left c = omega (arith, c .shared-slice-known2 .given (512 + 16 * c .before .before .args .s))
+
+loop-holds : tie.Need-loop-holds Inv-loop μ-loop
+loop-holds c = (omega arith, refl)
+
+code-at-requires : tie.Need-code-at-requires Inv-loop μ-loop
+code-at-requires c κs = (c .before .before .before .before .before .pre .0, c .before .before .before .before .before .pre .1, omega (arith, c .before .before .before .before .before .pre .0 .sizes (c .before .before .before .before .before .args .s) (c .before .before .before .before .before .pre .1)))
+
+returns : tie.Need-returns Inv-loop μ-loop
+returns c = sym (c .before .before .before .before .loop .inv .1 ∙ node-here _ _ _ _ _ _ _ (c .before .before .before .loop-test .taken) (c .before .before .if1 .taken) (sym (c .before .code-at .ensures) ∙ c .if2 .taken))
+
+add-r : tie.Need-add-r Inv-loop μ-loop
+add-r c = omega (arith, c .before .before .before .before .before .pre .0 .sizes (c .before .before .before .before .before .args .s) (c .before .before .before .before .before .pre .1))
+
+sub-left : tie.Need-sub-left Inv-loop μ-loop
+sub-left c = search needs
+
+loop-less : tie.Need-loop-less Inv-loop μ-loop
+loop-less c = search needs
+
+loop-again : tie.Need-loop-again Inv-loop μ-loop
+loop-again c =
+    let a = c .before .before .before .before .before .args in
+    let l = c .before .before .loop in
+    ⊎-elim
+    (λ w. (omega arith, l .inv .1 ∙ node-other (a .tab .now) (a .s) (a .a) (a .c) (l .left) (l .r) (l .mask) (c .before .loop-test .taken) (w .0 .taken) (λ e. w .2 .left (w .1 .ensures ∙ e))))
+    (λ w. (omega arith, l .inv .1 ∙ node-off (a .tab .now) (a .s) (a .a) (a .c) (l .left) (l .r) (l .mask) (c .before .loop-test .taken) (w .left)))
+    (c .if1 .came)
+
+returns-2 : tie.Need-returns-2 Inv-loop μ-loop
+returns-2 c = sym (c .before .loop .inv .1 ∙ node-end _ _ _ _ _ _ _ (c .loop-test .left))
+
+pub node-at-spec : {M : Type 1} → statement M
+node-at-spec =
+    tie.close
+    (tie.spec
+    Inv-loop
+    μ-loop
+    mul-left
+    add-left
+    mul-left-2
+    shared-slice-read-left
+    cast-left
+    loop-holds
+    code-at-requires
+    returns
+    add-r
+    sub-left
+    loop-less
+    loop-again
+    returns-2)

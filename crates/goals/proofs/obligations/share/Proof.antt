@@ -1,0 +1,70 @@
+use Rattle.goals.proofs.GoalLaws.{owed-short, front}
+use Rattle.goals.specs.Sharing.{firstShared}
+use Rattle.goals.specs.GoalWords.{owedCodes, sizeOf}
+use lib.Seq.{sets}
+use lib.ListN.{length, replicate, take, drop}
+use Prim.Native.Nat.{ℕ, _-_}
+use mathlib.Core.Path.{_≡_, refl, ap, ap₂, sym, _∙_}
+use native.Mathlib.Omega.{arith}
+use borrow.Author.Needs.{needs}
+use Rattle.goals.proofs.obligations.share.Statement.{statement}
+use Rattle.goals.proofs.obligations.share.Tie as tie
+
+slice-aggregate-owed : tie.Need-slice-aggregate-owed
+slice-aggregate-owed c = search needs
+
+owed-requires : tie.Need-owed-requires
+owed-requires c κs = search needs
+
+slice-aggregate-owed-2 : tie.Need-slice-aggregate-owed-2
+slice-aggregate-owed-2 c = search needs
+
+owed-requires-2 : tie.Need-owed-requires-2
+owed-requires-2 c κs = search needs
+
+sub-common : tie.Need-sub-common
+sub-common c = search needs
+
+part-common-start : tie.Need-part-common-start
+part-common-start c = search needs
+
+part-common-end : tie.Need-part-common-end
+part-common-end c = let a = c .before .before .before .before .before .before .before .before .args in omega (arith, c .before .before .before .before .before .owed .ensures .0, owed-short (a .tab .now) (a .s) (a .a) (sizeOf (a .tab .now) (a .s)) 0 (a .m), c .before .before .before .before .before .before .before .before .pre .0 .sizes (a .s) (c .before .before .before .before .before .before .before .before .pre .1), c .before .before .before .before .before .owed .kept .1 .1 .1 .1 .0)
+
+sub-common-2 : tie.Need-sub-common-2
+sub-common-2 c = search needs
+
+part-common-start-2 : tie.Need-part-common-start-2
+part-common-start-2 c = search needs
+
+part-common-end-2 : tie.Need-part-common-end-2
+part-common-end-2 c = let a = c .before .before .before .before .before .before .before .before .before .before .args in omega (arith, c .before .before .before .before .owed2 .ensures .0, owed-short (a .tab .now) (a .t) (a .b) (sizeOf (a .tab .now) (a .t)) 0 (a .o), c .before .before .before .before .before .before .before .before .before .before .pre .0 .sizes (a .t) (c .before .before .before .before .before .before .before .before .before .before .pre .2), c .before .before .before .before .owed2 .kept .1 .1 .1 .1 .0)
+
+common-requires : tie.Need-common-requires
+common-requires c κs = search needs
+
+returns : tie.Need-returns
+returns c = let a = c .before .before .before .before .before .before .before .before .before .before .before .before .args in
+    let zs = replicate {A = ℕ} 16 0 in
+    let xs = owedCodes (a .tab .now) (a .s) (a .a) (a .m) in
+    let ys = owedCodes (a .tab .now) (a .t) (a .b) (a .o) in
+    c .common .ensures ∙ ap₂ firstShared
+    (ap (λ l. take (c .before .before .before .before .before .before .before .before .before .owed .result - 0) (drop 0 l)) (c .before .before .before .before .before .before .before .before .before .owed .ensures .1) ∙ front zs xs (c .before .before .before .before .before .before .before .before .before .owed .result) (omega (arith, owed-short (a .tab .now) (a .s) (a .a) (sizeOf (a .tab .now) (a .s)) 0 (a .m), c .before .before .before .before .before .before .before .before .before .before .before .before .pre .0 .sizes (a .s) (c .before .before .before .before .before .before .before .before .before .before .before .before .pre .1))) (c .before .before .before .before .before .before .before .before .before .owed .ensures .0))
+    (ap (λ l. take (c .before .before .before .before .before .before .owed2 .result - 0) (drop 0 l)) (c .before .before .before .before .before .before .owed2 .ensures .1) ∙ front zs ys (c .before .before .before .before .before .before .owed2 .result) (omega (arith, owed-short (a .tab .now) (a .t) (a .b) (sizeOf (a .tab .now) (a .t)) 0 (a .o), c .before .before .before .before .before .before .before .before .before .before .before .before .pre .0 .sizes (a .t) (c .before .before .before .before .before .before .before .before .before .before .before .before .pre .2))) (c .before .before .before .before .before .before .owed2 .ensures .0))
+
+pub share-spec : {M : Type 1} → statement M
+share-spec =
+    tie.close
+    (tie.spec
+    slice-aggregate-owed
+    owed-requires
+    slice-aggregate-owed-2
+    owed-requires-2
+    sub-common
+    part-common-start
+    part-common-end
+    sub-common-2
+    part-common-start-2
+    part-common-end-2
+    common-requires
+    returns)

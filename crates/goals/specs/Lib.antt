@@ -1,0 +1,5 @@
+pub mod GoalWords
+pub mod WordStages
+pub mod Decoding
+pub mod Sharing
+pub mod Orders

@@ -1,0 +1,11 @@
+pub mod obligations; // what a goal owes, and a state's label
+pub mod derive; // a state's goals after a symbol
+pub mod announce; // what is announced after a symbol
+pub mod lift; // goals moved up under a common position
+pub mod sorting; // numbers in order
+
+// The first obligation position that two goals share.
+pub enum Shared {
+    At(u32),
+    Nothing,
+}

@@ -1,0 +1,166 @@
+use crate::Shared;
+ghost use mathlib.Core.Path.{_≡_};
+ghost use mathlib.Core.Bool.{Bool, true, false};
+ghost use Prim.Native.Nat.{ℕ, _+_, _*_, _<_, _≤_};
+ghost use lib.ListN.{length};
+ghost use lib.Seq.{sets};
+ghost use Rattle.goals.specs.GoalWords.{Tabled, codeAt, owedCodes, nodeAt, maskAfter, pad, firstCode, goalsFrom, Low, labelCode};
+ghost use Rattle.goals.specs.Sharing.{firstShared};
+
+// A code of at most six digits, padded with zeros to six.
+pub fn padded(c: u32) -> u32
+    ensures { λ r. ⌜ r ≡ pad c ⌝ }
+{
+    if c < 5 {
+        return c * 3125;
+    }
+    if c < 25 {
+        return c * 625;
+    }
+    if c < 125 {
+        return c * 125;
+    }
+    if c < 625 {
+        return c * 25;
+    }
+    if c < 3125 {
+        return c * 5;
+    }
+    c
+}
+
+// The code of node r of shape s, announced at code a.
+pub fn code_at(tab: &[u16], s: usize, a: u16, r: usize) -> u32
+    requires { ⌜ Tabled (now tab) × (s < 16) × (r < 16) ⌝ }
+    ensures { λ c. ⌜ c ≡ codeAt (now (tab .entry)) s a r ⌝ }
+{
+    let at = 16 * s + r;
+    a as u32 * tab[256 + at] as u32 + tab[at] as u32
+}
+
+// The codes of a goal's obligations, in document order, into `out`; answers how many.
+pub fn owed(tab: &[u16], s: usize, a: u16, m: u16, out: &mut [u32]) -> usize
+    requires { ⌜ Tabled (now tab) × (s < 16) × (16 ≤ length (now out)) ⌝ }
+    ensures count { λ k. ⌜ k ≡ length (owedCodes (now (tab .entry)) s a m) ⌝ }
+    ensures wrote { λ k. ⌜ now (out .exit) ≡ sets (now (out .entry)) 0 (owedCodes (now (tab .entry)) s a m) ⌝ }
+{
+    let mut left = tab[512 + 16 * s] as usize;
+    let mut mask = m;
+    let mut r = 0;
+    let mut k = 0;
+    while 0 < left {
+        if mask % 2 == 1 {
+            out[k] = code_at(tab, s, a, r);
+            k += 1;
+        }
+        mask /= 2;
+        r += 1;
+        left -= 1;
+    }
+    k
+}
+
+// The open node of a goal that stands at code c; 16 where none does.
+pub fn node_at(tab: &[u16], s: usize, a: u16, m: u16, c: u32) -> usize
+    requires { ⌜ Tabled (now tab) × (s < 16) ⌝ }
+    ensures { λ k. ⌜ k ≡ nodeAt (now (tab .entry)) s a m c ⌝ }
+{
+    let mut left = tab[512 + 16 * s] as usize;
+    let mut mask = m;
+    let mut r = 0;
+    while 0 < left {
+        if mask % 2 == 1 {
+            if code_at(tab, s, a, r) == c {
+                return r;
+            }
+        }
+        mask /= 2;
+        r += 1;
+        left -= 1;
+    }
+    16
+}
+
+// The mask without node r, with the nodes of `kids`.
+pub fn mask_after(m: u16, r: usize, kids: u16) -> u16
+    requires { ⌜ r < 16 ⌝ }
+    ensures { λ x. ⌜ x ≡ maskAfter m r kids ⌝ }
+{
+    (m ^ (1 << r)) | kids
+}
+
+// The first of the codes in `a` that stands in `b`.
+pub fn common(a: &[u32], b: &[u32]) -> Shared
+    ensures { λ r. ⌜ r ≡ firstShared (now (a .entry)) (now (b .entry)) ⌝ }
+{
+    let mut i = 0;
+    'outer: loop {
+        if a.len() <= i {
+            break Shared::Nothing;
+        }
+        let x = a[i];
+        let mut j = 0;
+        while j < b.len() {
+            if b[j] == x {
+                break 'outer Shared::At(x);
+            }
+            j += 1;
+        }
+        i += 1;
+    }
+}
+
+// The first obligation position of one goal that is the other's too.
+pub fn share(tab: &[u16], s: usize, a: u16, m: u16, t: usize, b: u16, o: u16) -> Shared
+    requires { ⌜ Tabled (now tab) × (s < 16) × (t < 16) ⌝ }
+    ensures { λ r. ⌜ r ≡ firstShared (owedCodes (now (tab .entry)) s a m) (owedCodes (now (tab .entry)) t b o) ⌝ }
+{
+    let mut xs = [0u32; 16];
+    let mut ys = [0u32; 16];
+    let j = owed(tab, s, a, m, &mut xs);
+    let k = owed(tab, t, b, o, &mut ys);
+    common(&xs[0..j], &ys[0..k])
+}
+
+// The first in document order of `best` and the codes.
+pub fn first_of(cs: &[u32], best: u32) -> u32
+    ensures { λ r. ⌜ r ≡ firstCode best (now (cs .entry)) ⌝ }
+{
+    let mut found = best;
+    let mut i = 0;
+    while i < cs.len() {
+        if padded(cs[i]) < padded(found) {
+            found = cs[i];
+        }
+        i += 1;
+    }
+    found
+}
+
+// The first in document order of `best` and a goal's obligations.
+pub fn first_owed(tab: &[u16], s: usize, a: u16, m: u16, best: u32) -> u32
+    requires { ⌜ Tabled (now tab) × (s < 16) ⌝ }
+    ensures { λ r. ⌜ r ≡ firstCode best (owedCodes (now (tab .entry)) s a m) ⌝ }
+{
+    let mut xs = [0u32; 16];
+    let k = owed(tab, s, a, m, &mut xs);
+    first_of(&xs[0..k], best)
+}
+
+// The code of a state's label; 65535 where no goal announces at the root.
+pub fn label(tab: &[u16], ws: &[u16], at: usize, n: usize) -> u32
+    requires { ⌜ Tabled (now tab) × (n ≤ 96) × (at + 3 * n ≤ length (now ws)) × Low (goalsFrom (now ws) at n) ⌝ }
+    ensures { λ r. ⌜ r ≡ labelCode (now (tab .entry)) (goalsFrom (now (ws .entry)) at n) ⌝ }
+{
+    let mut best: u32 = 65535;
+    let mut here = at;
+    let mut left = n;
+    while 0 < left {
+        if ws[here + 1] == 0 {
+            best = first_owed(tab, ws[here] as usize, 0, ws[here + 2], best);
+        }
+        here += 3;
+        left -= 1;
+    }
+    best
+}

@@ -1,0 +1,2 @@
+pub mod LawsPairs
+pub mod LawsParts

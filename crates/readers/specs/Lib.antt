@@ -1,0 +1,2 @@
+pub mod PlanParts
+pub mod BlockWords

@@ -1,0 +1,109 @@
+ghost use mathlib.Core.Path.{_≡_};
+ghost use mathlib.Core.Bool.{Bool, true, false};
+ghost use Prim.Native.Nat.{ℕ, _+_, _*_, _≤_};
+ghost use lib.ListN.{length, getD};
+ghost use Rattle.readers.specs.PlanParts.{countsGood, labelWord, toLabel, pairAt};
+ghost use Rattle.readers.specs.BlockWords.{blockStart, blockFits, begins, pairList, pairOf};
+use crate::Label;
+use crate::Pair;
+use crate::Start;
+use kinds::Position;
+use kinds::Reason;
+use kinds::State;
+use kinds::Symbol;
+
+// There are 1 to 128 states, 1 to 32 symbols and 1 to 16 shapes, and the header is there.
+pub fn counts_good(plan: &[u16]) -> bool
+    ensures { λ r. ⌜ r ≡ countsGood (now (plan .entry)) ⌝ }
+{
+    if plan.len() < 4 {
+        return false;
+    }
+    if plan[0] == 0 {
+        return false;
+    }
+    if 128 < plan[0] {
+        return false;
+    }
+    if plan[1] == 0 {
+        return false;
+    }
+    if 32 < plan[1] {
+        return false;
+    }
+    if plan[2] == 0 {
+        return false;
+    }
+    plan[2] <= 16
+}
+
+// The label of a state, whatever its code.
+pub fn state_label(plan: &[u16], states: u16, state: State) -> Label
+    ensures { λ r. ⌜ r ≡ toLabel (labelWord (now (plan .entry)) states (state .0)) ⌝ }
+{
+    if states <= state.0 {
+        return Label::Refused(Reason::OutOfRange);
+    }
+    let at = 4 + state.0 as usize;
+    if plan.len() <= at {
+        return Label::Refused(Reason::OutOfRange);
+    }
+    Label::At(Position(plan[at]))
+}
+
+// Where the block of a state and symbol begins, if it is there and whole.
+pub fn block_start(plan: &[u16], states: u16, symbols: u16, state: State, symbol: Symbol) -> Start
+    ensures { λ r. ⌜ begins r ≡ blockStart (now (plan .entry)) states symbols (state .0) (symbol .0) ⌝ }
+{
+    if states <= state.0 {
+        return Start::Nowhere;
+    }
+    if symbols <= symbol.0 {
+        return Start::Nowhere;
+    }
+    let place = 4 + states as usize + (state.0 as usize * symbols as usize + symbol.0 as usize);
+    if plan.len() <= place {
+        return Start::Nowhere;
+    }
+    let b = plan[place] as usize;
+    let whole = block_fits(plan, b);
+    if !whole {
+        return Start::Nowhere;
+    }
+    Start::At(b)
+}
+
+// The whole block lies within the plan words.
+fn block_fits(plan: &[u16], b: usize) -> bool
+    ensures { λ r. ⌜ r ≡ blockFits (now (plan .entry)) b ⌝ }
+{
+    if plan.len() <= b {
+        return false;
+    }
+    let mid = b + 1 + 2 * plan[b] as usize;
+    if plan.len() <= mid {
+        return false;
+    }
+    mid + 1 + 2 * plan[mid] as usize <= plan.len()
+}
+
+// Pair i of those counted at a word, its number below a limit and its code in use.
+pub fn pair_at(plan: &[u16], at: usize, limit: u16, i: usize) -> Pair
+    requires { ⌜ at + 1 + 2 * getD (now plan) at 0 ≤ length (now plan) ⌝ }
+    ensures { λ r. ⌜ pairOf r ≡ pairAt limit (pairList (now (plan .entry)) (at + 1) (getD (now (plan .entry)) at 0)) i ⌝ }
+{
+    let n = plan[at] as usize;
+    if n <= i {
+        return Pair::Nothing;
+    }
+    let number = plan[at + 1 + 2 * i];
+    let by = Position(plan[at + 2 + 2 * i]);
+    if limit <= number {
+        return Pair::Nothing;
+    }
+    let good = by.is_good();
+    if !good {
+        return Pair::Nothing;
+    }
+    Pair::Of(number, by)
+}

@@ -1,0 +1,2 @@
+pub mod LawsBytes
+pub mod LawsSections

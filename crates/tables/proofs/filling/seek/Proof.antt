@@ -1,0 +1,83 @@
+use Rattle.tables.proofs.TableLaws.{seek-end, seek-there, seek-down, seek-on}
+use Rattle.tables.specs.ShapeTables.{seekFrom, spanAt}
+use mathlib.Core.Path.{_≡_, refl, ap, ap₂, sym, _∙_}
+use mathlib.Core.Logic.{⊎-elim}
+use native.Mathlib.Omega.{arith}
+use lib.ListN.{length, getD}
+use Prim.Native.Nat.{ℕ, _≤_, _<_, _+_, _-_, _*_, _%_}
+use borrow.Author.Needs.{needs}
+use Rattle.tables.proofs.filling.seek.Statement.{statement}
+use Rattle.tables.proofs.filling.seek.Tie as tie
+
+abbrev Inv-loop : tie.InvT-loop
+Inv-loop arity words st r one v c₀ here₀ left₀ c here left = (left ≤ 16) × (c + 16 * left ≤ 256) × (here ≤ 65535) × (seekFrom arity words st r one 16 0 v ≡ seekFrom arity words st r one left c here)
+
+abbrev μ-loop : tie.MeasureT-loop
+μ-loop arity words st r one v c₀ here₀ left₀ c here left = left
+
+loop-holds : tie.Need-loop-holds Inv-loop μ-loop
+loop-holds c = (omega arith, omega arith, omega arith, refl)
+
+returns : tie.Need-returns Inv-loop μ-loop
+returns c = (sym (c .before .before .loop .inv .3 ∙ seek-there (c .before .before .before .before .before .args .arity .now) (c .before .before .before .before .before .args .words .now) (c .before .before .before .before .before .args .st) (c .before .before .before .before .before .args .r) (c .before .before .before .before .before .args .one) (c .before .before .loop .left) (c .before .before .loop .c) (c .before .before .loop .here) (c .if1 .taken)), c .before .before .loop .inv .2)
+
+add-span-at : tie.Need-add-span-at Inv-loop μ-loop
+add-span-at c = search needs
+
+span-at-requires : tie.Need-span-at-requires Inv-loop μ-loop
+span-at-requires c κs = search needs
+
+add-if2 : tie.Need-add-if2 Inv-loop μ-loop
+add-if2 c = search needs
+
+add-c : tie.Need-add-c Inv-loop μ-loop
+add-c c = search needs
+
+mul-here : tie.Need-mul-here Inv-loop μ-loop
+mul-here c = search needs
+
+add-here : tie.Need-add-here Inv-loop μ-loop
+add-here c = search needs
+
+add-c-2 : tie.Need-add-c-2 Inv-loop μ-loop
+add-c-2 c = search needs
+
+add-here-2 : tie.Need-add-here-2 Inv-loop μ-loop
+add-here-2 c = search needs
+
+sub-left : tie.Need-sub-left Inv-loop μ-loop
+sub-left c = search needs
+
+loop-less : tie.Need-loop-less Inv-loop μ-loop
+loop-less c = search needs
+
+loop-again : tie.Need-loop-again Inv-loop μ-loop
+loop-again c = let a = c .before .before .before .before .before .before .before .args in let l = c .before .before .before .before .loop in let s = c .before .span-at .ensures in let i = l .inv in
+    ⊎-elim
+    (λ w. (omega arith, omega (arith, w .1), omega (arith, w .2), rw (w .1, w .2) (i .3 ∙ seek-down (a .arity .now) (a .words .now) (a .st) (a .r) (a .one) (l .left) (l .c) (l .here) (c .before .before .before .loop-test .taken) (omega arith) (omega (arith, s .0, w .0 .taken)))))
+    (λ w. (omega arith, omega (arith, w .1, s .1), omega (arith, w .2), rw (w .1, w .2, s .0) (i .3 ∙ seek-on (a .arity .now) (a .words .now) (a .st) (a .r) (a .one) (l .left) (l .c) (l .here) (c .before .before .before .loop-test .taken) (omega arith) (omega (arith, s .0, w .0 .left)))))
+    (c .if2 .came)
+
+returns-2 : tie.Need-returns-2 Inv-loop μ-loop
+returns-2 c = (sym (c .before .loop .inv .3 ∙ seek-end (c .before .before .before .before .args .arity .now) (c .before .before .before .before .args .words .now) (c .before .before .before .before .args .st) (c .before .before .before .before .args .r) (c .before .before .before .before .args .one) (c .before .loop .left) (c .before .loop .c) (c .before .loop .here) (c .loop-test .left)), c .before .loop .inv .2)
+
+pub seek-spec : {M : Type 1} → statement M
+seek-spec =
+    tie.close
+    (tie.spec
+    Inv-loop
+    μ-loop
+    loop-holds
+    returns
+    add-span-at
+    span-at-requires
+    add-if2
+    add-c
+    mul-here
+    add-here
+    add-c-2
+    add-here-2
+    sub-left
+    loop-less
+    loop-again
+    returns-2)

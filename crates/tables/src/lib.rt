@@ -1,0 +1,1 @@
+pub mod filling; // each shape's nodes as words: position, symbol, children
