@@ -1,12 +1,12 @@
 use crate::first;
+use counting::Counted;
+use counting::marks::clashes;
+use counting::marks::matches;
 use kinds::Node;
 use kinds::Reason;
 use kinds::Shape;
 use libc::STDOUT_FILENO;
-use report::Counted;
 use report::Written;
-use report::counting::clashes;
-use report::counting::matches;
 use report::lines::put_first;
 use report::lines::put_line;
 use report::lines::put_refusal;

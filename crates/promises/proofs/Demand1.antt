@@ -31,10 +31,10 @@ use Rattle.plan.proofs.BuildLaws.{built-bad, built-short, built-on}
 use Rattle.walk.specs.Starting.{Walk, goOn, begun, roomFor, started}
 use Rattle.walk.specs.Starting.{Out as Walking, refuse as refuseWalk}
 use Rattle.walk.specs.Stepping.{tried, stepped}
-use Rattle.report.specs.Counting.{counted, total}
-use Rattle.report.specs.Clashes.{clash, clashNumber}
-use Rattle.report.specs.declared.Counted.{Counted}
-use Rattle.report.specs.declared.Counted.the-variants as count
+use Rattle.counting.specs.Counting.{counted, total}
+use Rattle.counting.specs.Clashes.{clash, clashNumber}
+use Rattle.counting.specs.declared.Counted.{Counted}
+use Rattle.counting.specs.declared.Counted.the-variants as count
 use Rattle.promises.specs.Refusals.{symbolsAt}
 use Rattle.promises.specs.Demand1 as rows
 use Rattle.promises.specs.Demand1.{By, Below, Means, OpenRow, BuildRow, GoodShapes, Good, Roomy, StartRow, CountRow, StepRow, Demand1}

@@ -17,8 +17,8 @@ use Rattle.term.specs.Terms.{Term, span, sizes}
 use Rattle.term.specs.Places.{Matches, number}
 use Rattle.term.proofs.Numbers.{node-at}
 use Rattle.term.proofs.Sizes.{length-sizes}
-use Rattle.report.specs.Counting.{total}
-use Rattle.report.specs.Clashes.{clash, clashNumber}
+use Rattle.counting.specs.Counting.{total}
+use Rattle.counting.specs.Clashes.{clash, clashNumber}
 use Rattle.report.specs.Text.{firstLine, lines, report}
 use Rattle.walk.specs.Starting.{Walk, Out, refuse}
 use Rattle.walk.specs.declared.Walked.the-variants.{On, Refused}

@@ -16,8 +16,8 @@ use Rattle.kinds.proofs.Position.length.Reads as length
 use Rattle.kinds.proofs.number.Reads as number
 use Rattle.kinds.proofs.slices.equal.Reads as equal
 use Rattle.plan.proofs.building.build.Reads as build
-use Rattle.report.proofs.counting.clashes.Reads as clashes
-use Rattle.report.proofs.counting.matches.Reads as matches
+use Rattle.counting.proofs.marks.clashes.Reads as clashes
+use Rattle.counting.proofs.marks.matches.Reads as matches
 use Rattle.report.proofs.lines.put_first.Reads as put-first
 use Rattle.report.proofs.lines.put_line.Reads as put-line
 use Rattle.report.proofs.lines.put_refusal.Reads as put-refusal

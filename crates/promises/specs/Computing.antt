@@ -12,9 +12,10 @@ use Rattle.folio.specs.Again.{symbolsGood, shapesGood, scoreGood, pieceAt, subt
 use Rattle.plan.specs.Building.{cleared, buildOf}
 use Rattle.readers.specs.PlanParts.{pairs, counted, blockAt, labelWord, blockOf, pairAt, labelOf, lengthsOf, announcementOf, successorOf}
 use Rattle.walk.specs.Starting.{started}
-use Rattle.walk.specs.Stepping.{targets, look, marked, tried, stepped, run, runBy}
-use Rattle.report.specs.Counting.{anyTo, sumTo, someMatch, numberAt, total}
-use Rattle.report.specs.Counting.{counted as countedIn}
+use Rattle.walk.specs.Stepping.{look, tried, stepped, run, runBy}
+use Rattle.queue.specs.Targets.{targets, marked}
+use Rattle.counting.specs.Counting.{anyTo, sumTo, someMatch, numberAt, total}
+use Rattle.counting.specs.Counting.{counted as countedIn}
 use Rattle.report.specs.Paths.{childOn, pathTo}
 use Rattle.report.specs.Text.{digitsTo, digits, pathText, texts, lines, report}
 

@@ -27,10 +27,10 @@ use Rattle.plan.specs.declared.Built.the-variants as built
 use Rattle.walk.specs.Starting.{Walk, goOn, begun, started}
 use Rattle.walk.specs.Starting.{Out as Walking, refuse as refuseWalk}
 use Rattle.walk.specs.Stepping.{tried, stepped}
-use Rattle.report.specs.Counting.{counted, total}
-use Rattle.report.specs.Clashes.{clashNumber, clash}
-use Rattle.report.specs.declared.Counted.{Counted}
-use Rattle.report.specs.declared.Counted.the-variants as count
+use Rattle.counting.specs.Counting.{counted, total}
+use Rattle.counting.specs.Clashes.{clashNumber, clash}
+use Rattle.counting.specs.declared.Counted.{Counted}
+use Rattle.counting.specs.declared.Counted.the-variants as count
 use Rattle.promises.specs.Refusals.{Given, Framed, symbolsAt, shapesAt, scoreAt}
 
 abbrev pub By : {A : Type 0} → (A → Type 0) → A → Type 0

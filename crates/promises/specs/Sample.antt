@@ -15,8 +15,8 @@ use Rattle.plan.specs.Building.{buildOf, builtSays}
 use Rattle.plan.specs.Building.{Out as Building}
 use Rattle.walk.specs.Starting.{Walk, walkOf, counting, started, walkedSays}
 use Rattle.walk.specs.Stepping.{stepped, runBy}
-use Rattle.report.specs.Counting.{matchesOf, countedSays}
-use Rattle.report.specs.Clashes.{clashesOf}
+use Rattle.counting.specs.Counting.{matchesOf, countedSays}
+use Rattle.counting.specs.Clashes.{clashesOf}
 use Rattle.report.specs.Quoted.{bytes}
 use Rattle.report.specs.Text.{report}
 use Rattle.promises.specs.Computing.{computing}

@@ -12,7 +12,7 @@ use Rattle.kinds.specs.Lists.{unless}
 use Rattle.kinds.specs.Reasons.{Says, gives, refuses}
 use Rattle.kinds.specs.declared.Reason.{Reason}
 use Rattle.kinds.specs.declared.Reason.the-variants.{ShortBuffers}
-use Rattle.report.specs.Counting.{matchAt}
+use Rattle.counting.specs.Counting.{matchAt}
 use Rattle.report.specs.Text.{line, firstLine, refusalText}
 use Rattle.report.specs.declared.Written.{Written}
 use Rattle.report.specs.declared.Written.the-variants.{Bytes, Refused}

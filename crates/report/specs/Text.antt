@@ -18,8 +18,8 @@ use Rattle.kinds.specs.Lists.{gather}
 use Rattle.kinds.specs.Positions.{Pos}
 use Rattle.kinds.specs.Reasons.{numberOf}
 use Rattle.kinds.specs.declared.Reason.{Reason}
-use Rattle.report.specs.Counting.{Match, matchAt, found, total}
-use Rattle.report.specs.Clashes.{clashNumber, clash}
+use Rattle.counting.specs.Counting.{Match, matchAt, found, total}
+use Rattle.counting.specs.Clashes.{clashNumber, clash}
 use Rattle.report.specs.Quoted.{bytes}
 use Rattle.report.specs.Paths.{pathTo}
 use Rattle.report.specs.declared.Step.{Step}

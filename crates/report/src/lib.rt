@@ -1,13 +1,7 @@
 use kinds::Reason;
 
-pub mod counting; // matches and clashes
 pub mod lines; // the lines of the report
 mod text; // their pieces
-
-pub enum Counted {
-    Number(usize),
-    Refused(Reason),
-}
 
 // A child's number and its node.
 pub enum Step {

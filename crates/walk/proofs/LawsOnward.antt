@@ -10,7 +10,7 @@ use Rattle.kinds.proofs.ListLaws.{sets-append}
 use Rattle.readers.specs.PlanParts.{pairWords}
 use Rattle.readers.specs.BlockWords.{pairList}
 use Rattle.walk.specs.Stepping.{onward}
-use Rattle.walk.specs.ByIndex.{closedUp}
+use Rattle.queue.specs.Targets.{closedUp}
 use Rattle.readers.proofs.LawsPairs.{pairList-take, pairList-drop, pairWords-append, pairWords-length, pairWords-list}
 
 pub onward-length : (i n : ℕ) (its ns : List (ℕ × ℕ)) → i < n → length its ≡ n → length (onward i its ns) ≡ n - 1 + length ns

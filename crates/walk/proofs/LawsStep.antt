@@ -34,13 +34,15 @@ use Rattle.walk.specs.declared.Record.{Record}
 use Rattle.walk.specs.declared.Walked.{Walked}
 use Rattle.walk.specs.declared.Walked.the-variants.{On, Refused}
 use Rattle.walk.proofs.LawsStart.{told}
-use Rattle.walk.specs.Stepping.{targets, Found, look, marked, onward, roomy, moved, tried, orRefuse, stepped}
-use Rattle.walk.specs.ByIndex.{fine, landed, closedUp, lookHead, leadsFine, roomLeft, sighted}
+use Rattle.walk.specs.Stepping.{Found, look, onward, roomy, moved, tried, orRefuse, stepped}
+use Rattle.queue.specs.Targets.{targets, marked}
+use Rattle.walk.specs.ByIndex.{lookHead, leadsFine, roomLeft, sighted}
+use Rattle.queue.specs.Targets.{fine, landed, closedUp}
 use Rattle.readers.specs.BlockWords.{pairList, middle, outsAt, nextsAt, blockFits, blockStart}
 use Rattle.readers.proofs.LawsPairs.{fits-in, pairList-length, pairList-at, pairs-list, pairs-none}
 use Rattle.walk.proofs.LawsOnward.{onward-length, onward-words}
 use Rattle.readers.proofs.LawsParts.{counts-of, no-label, a-label, block-start, start-fits}
-use Rattle.walk.proofs.LawsTargets.{all-wider, fine-split, fine-fail, fine-small, landed-length}
+use Rattle.queue.proofs.LawsTargets.{all-wider, fine-split, fine-fail, fine-small, landed-length}
 
 -- ---- the refusals that need no look
 module _ (plan score spans : List ℕ) (i : ℕ) (w : Walk) where

@@ -1,5 +1,4 @@
 -- What is known of a walk over words.
-pub mod LawsTargets
 pub mod LawsStart
 pub mod LawsStep
 pub mod PlanRead

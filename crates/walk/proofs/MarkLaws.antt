@@ -12,7 +12,7 @@ use lib.Seq.{getD-set-same, getD-set-other}
 use Rattle.kinds.specs.Bits.{bit, withBit}
 use Rattle.kinds.proofs.BitLaws.{bit-same, bit-other}
 use Rattle.kinds.proofs.Members.{_∈_, here, there}
-use Rattle.walk.specs.Stepping.{marked}
+use Rattle.queue.specs.Targets.{marked}
 
 -- a bit and a node
 abbrev pub Marked : List ℕ → ℕ × ℕ → Type 0

@@ -13,7 +13,8 @@ use Rattle.kinds.proofs.Members.{_∈_, here, there}
 use Rattle.following.specs.Following.{target}
 use Rattle.readers.specs.PlanParts.{countsGood, pairs, labelWord, blockOf}
 use Rattle.walk.specs.Starting.{Walk}
-use Rattle.walk.specs.Stepping.{targets, Found, look, onward, roomy, moved, tried}
+use Rattle.walk.specs.Stepping.{Found, look, onward, roomy, moved, tried}
+use Rattle.queue.specs.Targets.{targets}
 
 pub targets-of : {A : Type 0} (limit : ℕ) (to : ℕ → Option ℕ) (N C D : A → ℕ) (xs : List A) → ((x : A) → x ∈ xs → (N x < limit) × (to (C x) ≡ some (D x)))
     → targets limit to (map (λ x. (N x, C x)) xs) ≡ some (map (λ x. (N x, D x)) xs)

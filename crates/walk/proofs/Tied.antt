@@ -42,7 +42,8 @@ use Rattle.automaton.proofs.Steps.{walked-invariant, new-only}
 use Rattle.automaton.proofs.Counts.{can-look, waiting-unread}
 use Rattle.readers.specs.PlanParts.{countsGood, pairWords}
 use Rattle.walk.specs.Starting.{Walk}
-use Rattle.walk.specs.Stepping.{Found, look, marked, onward, roomy, moved, tried}
+use Rattle.walk.specs.Stepping.{Found, look, onward, roomy, moved, tried}
+use Rattle.queue.specs.Targets.{marked}
 use Rattle.walk.specs.OneFolio.{OneFolio, planIn}
 use Rattle.readers.proofs.LawsPairs.{pairs-words}
 use Rattle.walk.proofs.PlanRead.{outPair, succPair, counts-read, label-read, block-read}

@@ -1,8 +1,4 @@
 -- A step's parts, by index into the words.
---   orZero       a number, 0 where there is none
---   fine         a pair's number is below its limit, and its code leads to a node below room
---   landed       each pair's number, and the node that its code leads to
---   closedUp     the words from at + 2 up to end, moved down by two
 --   lookHead     the node that an item reads, and where its block begins
 --   leadsFine    each announcement is a shape's and leads to a mark, each successor is a state's and leads to a node
 --   roomLeft     the log has room for one more, the waiting words for all items after the step
@@ -17,6 +13,7 @@ use lib.ListN.{length, getD, getElem?, take, drop}
 use lib.Seq.{sets}
 use Rattle.kinds.specs.Lists.{bind, need, all}
 use Rattle.following.specs.Following.{target}
+use Rattle.queue.specs.Targets.{fine}
 use Rattle.readers.specs.PlanParts.{countsGood, labelWord}
 use Rattle.readers.specs.BlockWords.{middle, outsAt, nextsAt, blockStart}
 use Rattle.walk.specs.declared.Head.{Head}
@@ -24,23 +21,6 @@ use Rattle.walk.specs.declared.Head.the-variants as head
 use Rattle.walk.specs.declared.Record.{Record}
 use Rattle.walk.specs.declared.Sight.{Sight}
 use Rattle.walk.specs.declared.Sight.the-variants as sight
-
-abbrev pub orZero : Option ℕ → ℕ
-orZero (some x) = x
-orZero none = 0
-
-abbrev pub belowRoom : ℕ → Option ℕ → Bool
-belowRoom room (some x) = ltb x room
-belowRoom room none = false
-
-unfoldable pub fine : ℕ → ℕ → (ℕ → Option ℕ) → ℕ × ℕ → Bool
-fine limit room to x = ltb (x .0) limit && belowRoom room (to (x .1))
-
-unfoldable pub landed : (ℕ → Option ℕ) → List (ℕ × ℕ) → List (ℕ × ℕ)
-landed to ps = map (λ x. (x .0, orZero (to (x .1)))) ps
-
-abbrev pub closedUp : List ℕ → ℕ → ℕ → List ℕ
-closedUp xs at end = sets xs at (take (end - (at + 2)) (drop (at + 2) xs))
 
 unfoldable pub lookHead : List ℕ → List ℕ → List ℕ → ℕ × ℕ → Option (ℕ × ℕ)
 lookHead plan score spans it =

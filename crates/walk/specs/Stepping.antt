@@ -1,8 +1,6 @@
 -- A step over any words: document 01, "The walk". "Step: 32 before 34." Each condition of 34 is a named test or a reader that may find nothing.
---   targets   for each pair of a number and a code, the number, below its count, and the node that the code leads to
 --   Found     what an item finds: the node read, what is announced where, what goes on where
 --   look      "The node at the item's node followed by the state's label is read"
---   marked    "Bit j of the mark at a node is set when shape j is announced there"
 --   onward    "A step takes item i; later ones close up. Successors are appended in block order."
 --   roomy     "the log has room for one more, the waiting list for all items before and after the step, and every place named exists in its buffer"
 --   moved     every buffer after the step
@@ -23,12 +21,9 @@ use Rattle.kinds.specs.declared.Reason.the-variants.{NoSuchItem, OutOfRange}
 use Rattle.following.specs.Following.{target}
 use Rattle.walk.specs.declared.Walked.{Walked}
 use Rattle.walk.specs.declared.Walked.the-variants.{On, Refused}
+use Rattle.queue.specs.Targets.{targets, marked}
 use Rattle.readers.specs.PlanParts.{countsGood, pairs, pairWords, labelWord, blockOf}
 use Rattle.walk.specs.Starting.{Walk, Out, walkOf, counting, refuse, goOn}
-
-unfoldable pub targets : ℕ → (ℕ → Option ℕ) → List (ℕ × ℕ) → Option (List (ℕ × ℕ))
-targets limit to [] = some []
-targets limit to (x ∷ xs) = need (ltb (x .0) limit) (bind (to (x .1)) (λ y. bind (targets limit to xs) (λ ys. some ((x .0, y) ∷ ys))))
 
 pub record Found : Type 0 where
   pub node : ℕ
@@ -50,10 +45,6 @@ look plan score spans it =
     some (record { node = x; outs = os; nexts = ns }))))))))
 
 -- shape by shape and node by node
-unfoldable pub marked : List (ℕ × ℕ) → List ℕ → List ℕ
-marked [] ms = ms
-marked (x ∷ xs) ms = marked xs (set ms (x .1) (withBit (getD ms (x .1) 0) (x .0)))
-
 abbrev pub onward : ℕ → List (ℕ × ℕ) → List (ℕ × ℕ) → List (ℕ × ℕ)
 onward i its ns = take i its ++ (drop (suc i) its ++ ns)
 

@@ -3,8 +3,6 @@ use kinds::Reason;
 
 pub mod starting; // a walk begins
 pub mod stepping; // one step of it
-mod queueing; // what a step writes
-mod aiming; // pairs of a number and a code, and the nodes that they lead to
 
 // Of a walk: how many items wait, and how many nodes are logged.
 pub struct Record {

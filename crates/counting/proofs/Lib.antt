@@ -1,0 +1,3 @@
+pub mod AnyLaws
+pub mod CountLaws
+pub mod ClashLaws

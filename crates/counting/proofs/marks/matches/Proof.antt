@@ -1,0 +1,48 @@
+use Rattle.counting.proofs.CountLaws.{count-bad, count-short, count-is, few-nodes}
+use Rattle.counting.specs.Counting.{total}
+use mathlib.Core.Path.{_≡_, refl, ap, sym, _∙_}
+use native.Mathlib.Omega.{arith}
+use native.Mathlib.Nat.{sub-zero}
+use lib.ListN.{length, take, length-take}
+use Rattle.counting.specs.declared.Counted.the-variants.{Number}
+use Prim.Native.Nat.{ℕ, _-_, _≤_}
+use borrow.Author.Needs.{needs}
+use Rattle.counting.proofs.marks.matches.Statement.{statement}
+use Rattle.counting.proofs.marks.matches.Tie as tie
+
+score-good-requires : tie.Need-score-good-requires
+score-good-requires c κs = search needs
+
+returns : tie.Need-returns
+returns c = sym (count-short total _ _ _ _ (sym (c .before .before .score-good .ensures) ∙ c .before .if1 .taken) (c .if2 .taken))
+
+sub-ones-of : tie.Need-sub-ones-of
+sub-ones-of c = search needs
+
+part-ones-of-start : tie.Need-part-ones-of-start
+part-ones-of-start c = search needs
+
+part-ones-of-end : tie.Need-part-ones-of-end
+part-ones-of-end c = search needs
+
+ones-of-requires : tie.Need-ones-of-requires
+ones-of-requires c κs = omega (arith, few-nodes _ _ _ (sym (c .before .before .before .score-good .ensures) ∙ c .before .before .if1 .taken), length-take (length (c .before .before .before .before .before .before .before .before .args .score .now) - 0) (c .before .before .before .before .before .before .before .before .args .marks .now))
+
+returns-2 : tie.Need-returns-2
+returns-2 c = ap Number (c .ones-of .ensures) ∙ sym (count-is total (c .before .before .before .before .before .before .before .before .before .args .arity .now) (c .before .before .before .before .before .before .before .before .before .args .score .now) (c .before .before .before .before .before .before .before .before .before .args .spans .now) (c .before .before .before .before .before .before .before .before .before .args .marks .now) (sym (c .before .before .before .before .score-good .ensures) ∙ c .before .before .before .if1 .taken) (c .before .before .if2 .left))
+
+returns-3 : tie.Need-returns-3
+returns-3 c = sym (count-bad total _ _ _ _ (sym (c .before .score-good .ensures) ∙ c .if1 .left))
+
+pub matches-spec : {M : Type 1} → statement M
+matches-spec =
+    tie.close
+    (tie.spec
+    score-good-requires
+    returns
+    sub-ones-of
+    part-ones-of-start
+    part-ones-of-end
+    ones-of-requires
+    returns-2
+    returns-3)

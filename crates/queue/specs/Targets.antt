@@ -1,0 +1,36 @@
+-- Pairs of a number and a code, and what they lead to.
+--   targets    for each pair the number, below its count, and the node that the code leads to
+--   marked     "Bit j of the mark at a node is set when shape j is announced there"
+--   fine       a pair's number is below its limit, and its code leads to a node below room
+--   landed     each pair's number, and the node that its code leads to
+--   closedUp   the words from at + 2 up to end, moved down by two
+use mathlib.Core.List.{List, [], _∷_, map}
+use mathlib.Core.Bool.{Bool, false, _&&_}
+use mathlib.Core.Option.{Option, none, some}
+use Prim.Native.Nat.{ℕ, _+_, _-_}
+use lib.Dec.{ltb}
+use lib.ListN.{getD, take, drop, set}
+use lib.Seq.{sets}
+use Rattle.kinds.specs.Lists.{bind, need, orElse}
+use Rattle.kinds.specs.Bits.{withBit}
+
+unfoldable pub targets : ℕ → (ℕ → Option ℕ) → List (ℕ × ℕ) → Option (List (ℕ × ℕ))
+targets limit to [] = some []
+targets limit to (x ∷ xs) = need (ltb (x .0) limit) (bind (to (x .1)) (λ y. bind (targets limit to xs) (λ ys. some ((x .0, y) ∷ ys))))
+
+unfoldable pub marked : List (ℕ × ℕ) → List ℕ → List ℕ
+marked [] ms = ms
+marked (x ∷ xs) ms = marked xs (set ms (x .1) (withBit (getD ms (x .1) 0) (x .0)))
+
+abbrev pub belowRoom : ℕ → Option ℕ → Bool
+belowRoom room (some x) = ltb x room
+belowRoom room none = false
+
+unfoldable pub fine : ℕ → ℕ → (ℕ → Option ℕ) → ℕ × ℕ → Bool
+fine limit room to x = ltb (x .0) limit && belowRoom room (to (x .1))
+
+unfoldable pub landed : (ℕ → Option ℕ) → List (ℕ × ℕ) → List (ℕ × ℕ)
+landed to ps = map (λ x. (x .0, orElse (to (x .1)) 0)) ps
+
+abbrev pub closedUp : List ℕ → ℕ → ℕ → List ℕ
+closedUp xs at end = sets xs at (take (end - (at + 2)) (drop (at + 2) xs))
