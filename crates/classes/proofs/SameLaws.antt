@@ -15,6 +15,16 @@ use Rattle.goals.specs.GoalWords.{GoalWords, goalAt, goalsFrom}
 use Rattle.goals.specs.WordStages.{sameW, amongW, withinW}
 use Rattle.goals.proofs.GoalLaws.{goals-next, goals-end}
 
+module _ (g h : GoalWords) where
+  pub other-shape : (g .sh ≡ h .sh → ⊥) → sameW g h ≡ false
+  other-shape d = rw (ne-eqb _ _ d) refl
+
+  pub other-place : g .sh ≡ h .sh → (g .an ≡ h .an → ⊥) → sameW g h ≡ false
+  other-place e d = rw (eq-eqb _ _ e, ne-eqb _ _ d) refl
+
+  pub by-mask : g .sh ≡ h .sh → g .an ≡ h .an → sameW g h ≡ eqb (g .mask) (h .mask)
+  by-mask e d = rw (eq-eqb _ _ e, eq-eqb _ _ d) refl
+
 module _ (g : GoalWords) (vs : List ℕ) (at k : ℕ) where
   pub among-next : 0 < k → amongW g (goalsFrom vs at k) ≡ (sameW g (goalAt vs at) || amongW g (goalsFrom vs (at + 3) (k - 1)))
   unfolding amongW

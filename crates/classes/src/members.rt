@@ -1,5 +1,5 @@
-use goals::derive::put_goal;
-use goals::obligations::first_owed;
+use goals::words::goal_at;
+use goals::words::put_goal;
 ghost use mathlib.Core.Path.{_≡_};
 ghost use mathlib.Core.Bool.{Bool, true, false};
 ghost use mathlib.Core.List.{List, []};
@@ -7,8 +7,7 @@ ghost use Prim.Native.Nat.{ℕ, _+_, _*_, _<_, _≤_};
 ghost use lib.ListN.{length, getD};
 ghost use lib.Seq.{sets};
 ghost use Rattle.automaton.specs.Classes.{leads};
-ghost use Rattle.kinds.specs.Lists.{gather};
-ghost use Rattle.goals.specs.GoalWords.{Tabled, Low, owedBy, firstCode, goalsFrom, flat};
+ghost use Rattle.goals.specs.GoalWords.{goalsFrom, flat};
 ghost use Rattle.goals.specs.WordStages.{pickedW};
 ghost use Rattle.classes.specs.Squares.{cell, Square};
 
@@ -38,27 +37,11 @@ pub fn put_class(dep: &[[bool; 96]; 96], i: usize, ws: &[u16], n: usize, out: &m
     let mut j = 0;
     while j < n {
         if dep[i][j] {
-            put_goal(out, next, ws[here], ws[here + 1], ws[here + 2]);
+            put_goal(out, next, goal_at(ws, here));
             next += 3;
         }
         here += 3;
         j += 1;
     }
     next
-}
-
-// The first obligation position of n goals, as a code; 65535 where they have none.
-pub fn first_all(tab: &[u16], ws: &[u16], at: usize, n: usize) -> u32
-    requires { ⌜ Tabled (now tab) × (n ≤ 96) × (at + 3 * n ≤ length (now ws)) × Low (goalsFrom (now ws) at n) ⌝ }
-    ensures { λ r. ⌜ r ≡ firstCode 65535 (gather (owedBy (now (tab .entry))) (goalsFrom (now (ws .entry)) at n)) ⌝ }
-{
-    let mut best: u32 = 65535;
-    let mut here = at;
-    let mut left = n;
-    while 0 < left {
-        best = first_owed(tab, ws[here] as usize, ws[here + 1], ws[here + 2], best);
-        here += 3;
-        left -= 1;
-    }
-    best
 }

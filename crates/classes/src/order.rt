@@ -2,6 +2,7 @@ use crate::members::leader;
 use goals::obligations::first_owed;
 use goals::obligations::padded;
 use goals::sorting::arrange;
+use goals::words::goal_at;
 ghost use mathlib.Core.Path.{_≡_};
 ghost use mathlib.Core.List.{List, []};
 ghost use Prim.Native.Nat.{ℕ, _+_, _*_, _<_, _≤_};
@@ -48,7 +49,7 @@ fn first_in_row(tab: &[u16], ws: &[u16], n: usize, dep: &[[bool; 96]; 96], i: us
     let mut j = 0;
     while j < n {
         if dep[i][j] {
-            best = first_owed(tab, ws[3 * j] as usize, ws[3 * j + 1], ws[3 * j + 2], best);
+            best = first_owed(tab, goal_at(ws, 3 * j), best);
         }
         j += 1;
     }

@@ -1,32 +1,35 @@
+use goals::Goal;
+use goals::words::goal_at;
 ghost use mathlib.Core.Path.{_≡_};
 ghost use mathlib.Core.Bool.{Bool, true, false};
 ghost use Prim.Native.Nat.{ℕ, _+_, _*_, _<_, _≤_};
 ghost use lib.ListN.{length, take, drop};
 ghost use lib.Seq.{sets};
-ghost use Rattle.goals.specs.GoalWords.{goalsFrom, goalW};
+ghost use Rattle.goals.specs.GoalWords.{goalsFrom};
+ghost use Rattle.goals.specs.GoalKinds.{wordsOf};
 ghost use Rattle.goals.specs.WordStages.{sameW, amongW, withinW, sameStateW};
 
-fn same_goal(s: u16, a: u16, m: u16, t: u16, b: u16, o: u16) -> bool
-    ensures { λ r. ⌜ r ≡ sameW (goalW s a m) (goalW t b o) ⌝ }
+fn same_goal(g: Goal, h: Goal) -> bool
+    ensures { λ r. ⌜ r ≡ sameW (wordsOf g) (wordsOf h) ⌝ }
 {
-    if s != t {
+    if g.shape.0 != h.shape.0 {
         return false;
     }
-    if a != b {
+    if g.at.0 != h.at.0 {
         return false;
     }
-    m == o
+    g.mask == h.mask
 }
 
-// Does the goal of three words stand among the k goals from `at` on?
-fn among(s: u16, a: u16, m: u16, vs: &[u16], at: usize, k: usize) -> bool
+// Does a goal stand among the k goals from `at` on?
+fn among(g: Goal, vs: &[u16], at: usize, k: usize) -> bool
     requires { ⌜ (k ≤ 96) × (at + 3 * k ≤ length (now vs)) ⌝ }
-    ensures { λ r. ⌜ r ≡ amongW (goalW s a m) (goalsFrom (now (vs .entry)) at k) ⌝ }
+    ensures { λ r. ⌜ r ≡ amongW (wordsOf g) (goalsFrom (now (vs .entry)) at k) ⌝ }
 {
     let mut here = at;
     let mut left = k;
     while 0 < left {
-        if same_goal(s, a, m, vs[here], vs[here + 1], vs[here + 2]) {
+        if same_goal(g, goal_at(vs, here)) {
             return true;
         }
         here += 3;
@@ -43,7 +46,7 @@ fn within(ws: &[u16], from: usize, n: usize, vs: &[u16], at: usize, k: usize) ->
     let mut here = from;
     let mut left = n;
     while 0 < left {
-        if among(ws[here], ws[here + 1], ws[here + 2], vs, at, k) {
+        if among(goal_at(ws, here), vs, at, k) {
             here += 3;
             left -= 1;
         } else {

@@ -1,21 +1,24 @@
 use crate::closure::close;
+use goals::Goal;
 use goals::Shared;
 use goals::obligations::share;
+use goals::words::goal_at;
 ghost use mathlib.Core.Path.{_≡_};
 ghost use mathlib.Core.Bool.{Bool, true, false};
 ghost use Prim.Native.Nat.{ℕ, _+_, _*_, _<_, _≤_};
 ghost use lib.ListN.{length};
-ghost use Rattle.goals.specs.GoalWords.{Tabled, goalW, goalAt, goalsFrom, Low};
+ghost use Rattle.goals.specs.GoalWords.{Tabled, goalAt};
+ghost use Rattle.goals.specs.GoalKinds.{wordsOf};
 ghost use Rattle.goals.specs.WordStages.{depW};
 ghost use Rattle.classes.specs.Links.{Linked};
 ghost use Rattle.classes.specs.Squares.{cell, Square, Reach};
 
 // Do two goals share an obligation position?
-fn depends(tab: &[u16], s: usize, a: u16, m: u16, t: usize, b: u16, o: u16) -> bool
-    requires { ⌜ Tabled (now tab) × (s < 16) × (t < 16) ⌝ }
-    ensures { λ r. ⌜ r ≡ depW (now (tab .entry)) (goalW s a m) (goalW t b o) ⌝ }
+fn depends(tab: &[u16], g: Goal, h: Goal) -> bool
+    requires { ⌜ Tabled (now tab) × (g .shape .0 < 16) × (h .shape .0 < 16) ⌝ }
+    ensures { λ r. ⌜ r ≡ depW (now (tab .entry)) (wordsOf g) (wordsOf h) ⌝ }
 {
-    match share(tab, s, a, m, t, b, o) {
+    match share(tab, g, h) {
         Shared::At(x) => true,
         Shared::Nothing => false,
     }
@@ -28,20 +31,10 @@ fn fill_row(tab: &[u16], ws: &[u16], n: usize, i: usize, dep: &mut [[bool; 96]; 
     ensures row { λ r. ⌜ ((b : ℕ) → b < n → cell (now (dep .exit)) i b ≡ depW (now (tab .entry)) (goalAt (now (ws .entry)) (3 * i)) (goalAt (now (ws .entry)) (3 * b))) ⌝ }
     ensures others { λ r. ⌜ ((a b : ℕ) → (a ≡ i → ⊥) → cell (now (dep .exit)) a b ≡ cell (now (dep .entry)) a b) ⌝ }
 {
-    let s = ws[3 * i] as usize;
-    let a = ws[3 * i + 1];
-    let m = ws[3 * i + 2];
+    let g = goal_at(ws, 3 * i);
     let mut j = 0;
     while j < n {
-        dep[i][j] = depends(
-            tab,
-            s,
-            a,
-            m,
-            ws[3 * j] as usize,
-            ws[3 * j + 1],
-            ws[3 * j + 2],
-        );
+        dep[i][j] = depends(tab, g, goal_at(ws, 3 * j));
         j += 1;
     }
 }

@@ -3,3 +3,4 @@ pub mod WordStages
 pub mod Decoding
 pub mod Sharing
 pub mod Orders
+pub mod GoalKinds

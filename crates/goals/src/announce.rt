@@ -1,6 +1,7 @@
 use crate::derive::reduce;
 use crate::obligations::padded;
 use crate::sorting::arrange;
+use crate::words::goal_at;
 use kinds::Position;
 use kinds::Symbol;
 ghost use mathlib.Core.Path.{_≡_};
@@ -30,11 +31,9 @@ pub fn outputs(
     let mut k = 0;
     let mut j = 0;
     while j < n {
-        let g = at + 3 * j;
-        let s = ws[g];
-        let a = ws[g + 1];
-        if reduce(tab, s as usize, a, ws[g + 2], root.0 as u32, symbol.0) == 0 {
-            items[k] = 128 * (16 * padded(a as u32) + s as u32) + j as u32;
+        let g = goal_at(ws, at + 3 * j);
+        if reduce(tab, g, root, symbol) == 0 {
+            items[k] = 128 * (16 * padded(g.at.0 as u32) + g.shape.0 as u32) + j as u32;
             k += 1;
         }
         j += 1;

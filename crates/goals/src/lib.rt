@@ -1,8 +1,19 @@
+use kinds::Position;
+use kinds::Shape;
+
+pub mod words; // a goal as three words
 pub mod obligations; // what a goal owes, and a state's label
 pub mod derive; // a state's goals after a symbol
 pub mod announce; // what is announced after a symbol
 pub mod lift; // goals moved up under a common position
 pub mod sorting; // numbers in order
+
+// A shape awaited: what it announces, and a mask of its nodes that are open.
+pub struct Goal {
+    pub shape: Shape,
+    pub at: Position,
+    pub mask: u16,
+}
 
 // The first obligation position that two goals share.
 pub enum Shared {

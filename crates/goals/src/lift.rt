@@ -1,4 +1,7 @@
-use crate::derive::put_goal;
+use crate::Goal;
+use crate::words::goal_at;
+use crate::words::put_goal;
+use kinds::Position;
 ghost use mathlib.Core.Path.{_≡_};
 ghost use mathlib.Core.List.{List, [], _∷_, map};
 ghost use Prim.Native.Nat.{ℕ, _+_, _*_, _<_, _≤_};
@@ -7,12 +10,12 @@ ghost use lib.Seq.{sets};
 ghost use Rattle.goals.specs.GoalWords.{goalsFrom, flat};
 ghost use Rattle.goals.specs.WordStages.{leastCode, underCode, liftW};
 
-// The least announcement code of n goals from `at` on, and `best`.
-pub fn least(ws: &[u16], at: usize, n: usize, best: u16) -> u16
+// The position of the least code among `best` and those that n goals from `at` on announce.
+pub fn least(ws: &[u16], at: usize, n: usize, best: Position) -> Position
     requires { ⌜ (n ≤ 96) × (at + 3 * n ≤ length (now ws)) ⌝ }
-    ensures { λ r. ⌜ r ≡ leastCode best (goalsFrom (now (ws .entry)) at n) ⌝ }
+    ensures { λ r. ⌜ r .0 ≡ leastCode (best .0) (goalsFrom (now (ws .entry)) at n) ⌝ }
 {
-    let mut found = best;
+    let mut found = best.0;
     let mut here = at;
     let mut left = n;
     while 0 < left {
@@ -22,38 +25,49 @@ pub fn least(ws: &[u16], at: usize, n: usize, best: u16) -> u16
         here += 3;
         left -= 1;
     }
-    found
+    Position(found)
 }
 
-// What is left of code c below code g.
-pub fn under(g: u16, c: u16) -> u16
-    ensures { λ r. ⌜ r ≡ underCode g c ⌝ }
+// What is left of a position below another.
+pub fn under(top: Position, place: Position) -> Position
+    ensures { λ r. ⌜ r .0 ≡ underCode (top .0) (place .0) ⌝ }
 {
-    let mut top = c as u32;
+    let mut up = place.0 as u32;
     let mut weight: u32 = 1;
     let mut left: usize = 7;
     while 0 < left {
-        if top <= g as u32 {
-            return (c as u32 % weight) as u16;
+        if up <= top.0 as u32 {
+            return Position((place.0 as u32 % weight) as u16);
         }
-        top /= 5;
+        up /= 5;
         weight *= 5;
         left -= 1;
     }
-    (c as u32 % weight) as u16
+    Position((place.0 as u32 % weight) as u16)
 }
 
-// A class of n goals from `at` on, lifted by code c, into `out`.
-pub fn put_lifted(ws: &[u16], at: usize, n: usize, c: u16, out: &mut [u16])
+// A class of n goals from `at` on, lifted by a position, into `out`.
+pub fn put_lifted(ws: &[u16], at: usize, n: usize, top: Position, out: &mut [u16])
     requires { ⌜ (n ≤ 96) × (at + 3 * n ≤ length (now ws)) × (3 * n ≤ length (now out)) ⌝ }
-    ensures { λ r. ⌜ now (out .exit) ≡ sets (now (out .entry)) 0 (flat (map (liftW c) (goalsFrom (now (ws .entry)) at n))) ⌝ }
+    ensures { λ r. ⌜ now (out .exit) ≡ sets (now (out .entry)) 0 (flat (map (liftW (top .0)) (goalsFrom (now (ws .entry)) at n))) ⌝ }
 {
     let mut next = 0;
     let mut here = at;
     let mut left = n;
     while 0 < left {
-        let a = under(c, ws[here + 1]);
-        put_goal(out, next, ws[here], a, ws[here + 2]);
+        let g = goal_at(ws, here);
+        let shape = g.shape;
+        let place = g.at;
+        let at = under(top, place);
+        put_goal(
+            out,
+            next,
+            Goal {
+                shape: shape,
+                at: at,
+                mask: g.mask,
+            },
+        );
         next += 3;
         here += 3;
         left -= 1;

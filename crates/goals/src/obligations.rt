@@ -1,10 +1,14 @@
+use crate::Goal;
 use crate::Shared;
+use crate::words::goal_at;
+use kinds::Position;
 ghost use mathlib.Core.Path.{_≡_};
 ghost use mathlib.Core.Bool.{Bool, true, false};
 ghost use Prim.Native.Nat.{ℕ, _+_, _*_, _<_, _≤_};
 ghost use lib.ListN.{length};
 ghost use lib.Seq.{sets};
-ghost use Rattle.goals.specs.GoalWords.{Tabled, codeAt, owedCodes, nodeAt, maskAfter, pad, firstCode, goalsFrom, Low, labelCode};
+ghost use Rattle.goals.specs.GoalWords.{Tabled, codeAt, owedBy, nodeAt, maskAfter, pad, firstCode, goalsFrom, Low, labelCode};
+ghost use Rattle.goals.specs.GoalKinds.{wordsOf};
 ghost use Rattle.goals.specs.Sharing.{firstShared};
 
 // A code of at most six digits, padded with zeros to six.
@@ -29,28 +33,28 @@ pub fn padded(c: u32) -> u32
     c
 }
 
-// The code of node r of shape s, announced at code a.
-pub fn code_at(tab: &[u16], s: usize, a: u16, r: usize) -> u32
-    requires { ⌜ Tabled (now tab) × (s < 16) × (r < 16) ⌝ }
-    ensures { λ c. ⌜ c ≡ codeAt (now (tab .entry)) s a r ⌝ }
+// The code of node r of a goal's shape.
+pub fn code_at(tab: &[u16], g: Goal, r: usize) -> u32
+    requires { ⌜ Tabled (now tab) × (g .shape .0 < 16) × (r < 16) ⌝ }
+    ensures { λ c. ⌜ c ≡ codeAt (now (tab .entry)) (g .shape .0) (g .at .0) r ⌝ }
 {
-    let at = 16 * s + r;
-    a as u32 * tab[256 + at] as u32 + tab[at] as u32
+    let at = 16 * g.shape.0 as usize + r;
+    g.at.0 as u32 * tab[256 + at] as u32 + tab[at] as u32
 }
 
 // The codes of a goal's obligations, in document order, into `out`; answers how many.
-pub fn owed(tab: &[u16], s: usize, a: u16, m: u16, out: &mut [u32]) -> usize
-    requires { ⌜ Tabled (now tab) × (s < 16) × (16 ≤ length (now out)) ⌝ }
-    ensures count { λ k. ⌜ k ≡ length (owedCodes (now (tab .entry)) s a m) ⌝ }
-    ensures wrote { λ k. ⌜ now (out .exit) ≡ sets (now (out .entry)) 0 (owedCodes (now (tab .entry)) s a m) ⌝ }
+pub fn owed(tab: &[u16], g: Goal, out: &mut [u32]) -> usize
+    requires { ⌜ Tabled (now tab) × (g .shape .0 < 16) × (16 ≤ length (now out)) ⌝ }
+    ensures count { λ k. ⌜ k ≡ length (owedBy (now (tab .entry)) (wordsOf g)) ⌝ }
+    ensures wrote { λ k. ⌜ now (out .exit) ≡ sets (now (out .entry)) 0 (owedBy (now (tab .entry)) (wordsOf g)) ⌝ }
 {
-    let mut left = tab[512 + 16 * s] as usize;
-    let mut mask = m;
+    let mut left = tab[512 + 16 * g.shape.0 as usize] as usize;
+    let mut mask = g.mask;
     let mut r = 0;
     let mut k = 0;
     while 0 < left {
         if mask % 2 == 1 {
-            out[k] = code_at(tab, s, a, r);
+            out[k] = code_at(tab, g, r);
             k += 1;
         }
         mask /= 2;
@@ -60,17 +64,17 @@ pub fn owed(tab: &[u16], s: usize, a: u16, m: u16, out: &mut [u32]) -> usize
     k
 }
 
-// The open node of a goal that stands at code c; 16 where none does.
-pub fn node_at(tab: &[u16], s: usize, a: u16, m: u16, c: u32) -> usize
-    requires { ⌜ Tabled (now tab) × (s < 16) ⌝ }
-    ensures { λ k. ⌜ k ≡ nodeAt (now (tab .entry)) s a m c ⌝ }
+// The open node of a goal that stands at a position; 16 where none does.
+pub fn node_at(tab: &[u16], g: Goal, here: Position) -> usize
+    requires { ⌜ Tabled (now tab) × (g .shape .0 < 16) ⌝ }
+    ensures { λ k. ⌜ k ≡ nodeAt (now (tab .entry)) (g .shape .0) (g .at .0) (g .mask) (here .0) ⌝ }
 {
-    let mut left = tab[512 + 16 * s] as usize;
-    let mut mask = m;
+    let mut left = tab[512 + 16 * g.shape.0 as usize] as usize;
+    let mut mask = g.mask;
     let mut r = 0;
     while 0 < left {
         if mask % 2 == 1 {
-            if code_at(tab, s, a, r) == c {
+            if code_at(tab, g, r) == here.0 as u32 {
                 return r;
             }
         }
@@ -111,14 +115,14 @@ pub fn common(a: &[u32], b: &[u32]) -> Shared
 }
 
 // The first obligation position of one goal that is the other's too.
-pub fn share(tab: &[u16], s: usize, a: u16, m: u16, t: usize, b: u16, o: u16) -> Shared
-    requires { ⌜ Tabled (now tab) × (s < 16) × (t < 16) ⌝ }
-    ensures { λ r. ⌜ r ≡ firstShared (owedCodes (now (tab .entry)) s a m) (owedCodes (now (tab .entry)) t b o) ⌝ }
+pub fn share(tab: &[u16], g: Goal, h: Goal) -> Shared
+    requires { ⌜ Tabled (now tab) × (g .shape .0 < 16) × (h .shape .0 < 16) ⌝ }
+    ensures { λ r. ⌜ r ≡ firstShared (owedBy (now (tab .entry)) (wordsOf g)) (owedBy (now (tab .entry)) (wordsOf h)) ⌝ }
 {
     let mut xs = [0u32; 16];
     let mut ys = [0u32; 16];
-    let j = owed(tab, s, a, m, &mut xs);
-    let k = owed(tab, t, b, o, &mut ys);
+    let j = owed(tab, g, &mut xs);
+    let k = owed(tab, h, &mut ys);
     common(&xs[0..j], &ys[0..k])
 }
 
@@ -138,12 +142,12 @@ pub fn first_of(cs: &[u32], best: u32) -> u32
 }
 
 // The first in document order of `best` and a goal's obligations.
-pub fn first_owed(tab: &[u16], s: usize, a: u16, m: u16, best: u32) -> u32
-    requires { ⌜ Tabled (now tab) × (s < 16) ⌝ }
-    ensures { λ r. ⌜ r ≡ firstCode best (owedCodes (now (tab .entry)) s a m) ⌝ }
+pub fn first_owed(tab: &[u16], g: Goal, best: u32) -> u32
+    requires { ⌜ Tabled (now tab) × (g .shape .0 < 16) ⌝ }
+    ensures { λ r. ⌜ r ≡ firstCode best (owedBy (now (tab .entry)) (wordsOf g)) ⌝ }
 {
     let mut xs = [0u32; 16];
-    let k = owed(tab, s, a, m, &mut xs);
+    let k = owed(tab, g, &mut xs);
     first_of(&xs[0..k], best)
 }
 
@@ -156,8 +160,9 @@ pub fn label(tab: &[u16], ws: &[u16], at: usize, n: usize) -> u32
     let mut here = at;
     let mut left = n;
     while 0 < left {
-        if ws[here + 1] == 0 {
-            best = first_owed(tab, ws[here] as usize, 0, ws[here + 2], best);
+        let g = goal_at(ws, here);
+        if g.at.0 == 0 {
+            best = first_owed(tab, g, best);
         }
         here += 3;
         left -= 1;

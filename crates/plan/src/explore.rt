@@ -35,7 +35,7 @@ pub fn explore(tab: &[u16], arity: &[u8], shapes: usize, scratch: &mut [u16]) ->
     ensures behind { λ r. ⌜ drop 12416 (now (scratch .exit)) ≡ drop 12416 (now (scratch .entry)) ⌝ }
 {
     let mut first = [0u16; 96];
-    put_fresh(&mut first, 0, shapes, 0);
+    put_fresh(&mut first, 0, shapes, Position(0));
     add_state(scratch, 0, &first, shapes);
     let mut m = 1;
     let mut words = 0;
@@ -118,22 +118,11 @@ fn explore_symbol(
     let mut order = [0u32; 96];
     let mut out = [0u32; 96];
     let i = state.0 as usize;
-    let f = symbol.0 as usize;
+    let kids = arity[symbol.0 as usize] as u16;
     let at = 128 + 96 * i;
     let n = scratch[i] as usize;
     let outs = outputs(tab, scratch, at, n, root, symbol, &mut out);
-    let d = derive(
-        tab,
-        scratch,
-        at,
-        n,
-        shapes,
-        root,
-        symbol,
-        arity[f] as u16,
-        &mut goals,
-    )
-        / 3;
+    let d = derive(tab, scratch, at, n, shapes, root, symbol, kids, &mut goals) / 3;
     dependency(tab, &goals, d, &mut dep);
     let classes = class_order(tab, &goals, d, &dep, &mut order);
     meet_all(
@@ -198,7 +187,7 @@ fn meet(
         return Met::Stopped(Reason::ManyGoals);
     }
     let mut lifted = [0u16; 96];
-    let top = least(&class, 0, k, 65535);
+    let top = least(&class, 0, k, Position(65535));
     put_lifted(&class, 0, k, top, &mut lifted);
     if find_state(scratch, m, &lifted, k) < m {
         return Met::On(m, 2);

@@ -125,7 +125,7 @@ fn write_block(
     let mut order = [0u32; 96];
     let mut out = [0u32; 96];
     let i = state.0 as usize;
-    let f = symbol.0 as usize;
+    let kids = arity[symbol.0 as usize] as u16;
     let from = 128 + 96 * i;
     let n = scratch[i] as usize;
     let outs = outputs(tab, scratch, from, n, root, symbol, &mut out);
@@ -138,7 +138,7 @@ fn write_block(
         shapes,
         root,
         symbol,
-        arity[f] as u16,
+        kids,
         &mut goals,
     )
         / 3;
@@ -218,8 +218,8 @@ fn write_successor(
     let mut class = [0u16; 288];
     let k = put_class(dep, r, goals, n, &mut class) / 3;
     let mut lifted = [0u16; 96];
-    let top = least(&class, 0, k, 65535);
+    let top = least(&class, 0, k, Position(65535));
     put_lifted(&class, 0, k, top, &mut lifted);
     plan[at] = find_state(scratch, m, &lifted, k) as u16;
-    plan[at + 1] = top;
+    plan[at + 1] = top.0;
 }

@@ -14,6 +14,10 @@ use native.Mathlib.Omega.{arith}
 use borrow.Author.Needs.{needs}
 use Rattle.classes.proofs.members.put_class.Statement.{statement}
 use Rattle.classes.proofs.members.put_class.Tie as tie
+use Rattle.classes.proofs.members.put_class.Reads as reads
+use Rattle.classes.proofs.members.put_class.Lts as lts
+use Rattle.goals.proofs.words.goal_at.Reads as goal-at-reads
+use Rattle.goals.proofs.words.put_goal.Reads as put-goal-reads
 
 abbrev Inv-loop : tie.InvT-loop
 Inv-loop dep i ws n out₀ next₀ here₀ j₀ out next here j = (j ≤ n) × (here ≡ 3 * j) × (length out ≡ length out₀) × (next + length (Left (getD dep i []) ws here n j) ≡ length (flat (pickedW (getD dep i []) (goalsFrom ws 0 n)))) × (sets out₀ 0 (flat (pickedW (getD dep i []) (goalsFrom ws 0 n))) ≡ sets out next (Left (getD dep i []) ws here n j))
@@ -33,38 +37,17 @@ index-1-if1 c = search needs
 index-2-if1 : tie.Need-index-2-if1 Inv-loop μ-loop
 index-2-if1 c = search needs
 
-mul-put-goal : tie.Need-mul-put-goal Inv-loop μ-loop
-mul-put-goal c = search needs
-
-shared-slice-read-put-goal : tie.Need-shared-slice-read-put-goal Inv-loop μ-loop
-shared-slice-read-put-goal c = search needs
-
-add-put-goal : tie.Need-add-put-goal Inv-loop μ-loop
-add-put-goal c = search needs
-
-mul-put-goal-2 : tie.Need-mul-put-goal-2 Inv-loop μ-loop
-mul-put-goal-2 c = search needs
-
-shared-slice-read-put-goal-2 : tie.Need-shared-slice-read-put-goal-2 Inv-loop μ-loop
-shared-slice-read-put-goal-2 c = search needs
-
-add-put-goal-2 : tie.Need-add-put-goal-2 Inv-loop μ-loop
-add-put-goal-2 c = search needs
-
-mul-put-goal-3 : tie.Need-mul-put-goal-3 Inv-loop μ-loop
-mul-put-goal-3 c = search needs
-
-shared-slice-read-put-goal-3 : tie.Need-shared-slice-read-put-goal-3 Inv-loop μ-loop
-shared-slice-read-put-goal-3 c = search needs
+goal-at-requires : tie.Need-goal-at-requires Inv-loop μ-loop
+goal-at-requires c κs = search needs
 
 put-goal-requires : tie.Need-put-goal-requires Inv-loop μ-loop
-put-goal-requires c κs = let a = c .before .before .before .before .before .before .before .before .before .before .args in let l = c .before .before .before .before .before .before .before .loop in
-    let p = pick-on (getD (a .dep .now) (a .i) []) (a .ws .now) (l .here) (a .n) (l .j) (c .before .before .before .before .before .before .loop-test .taken) (omega (arith, c .before .before .before .before .before .before .loop-test .taken, c .before .before .before .before .before .before .before .before .before .before .pre .0, c .before .before .before .before .before .before .before .before .before .before .pre .2 .cols (a .i) (c .before .before .before .before .before .before .before .before .before .before .pre .1))) (c .before .before .before .before .if1 .taken) in
+put-goal-requires c κs = let a = c .before .before .before .before .before .before .before .before .args in let l = c .before .before .before .before .before .loop in
+    let p = pick-on (getD (a .dep .now) (a .i) []) (a .ws .now) (l .here) (a .n) (l .j) (c .before .before .before .before .loop-test .taken) (omega (arith, c .before .before .before .before .loop-test .taken, c .before .before .before .before .before .before .before .before .pre .0, c .before .before .before .before .before .before .before .before .pre .2 .cols (a .i) (c .before .before .before .before .before .before .before .before .pre .1))) (c .before .before .if1 .taken) in
     omega (arith, ap length p)
 
 add-next : tie.Need-add-next Inv-loop μ-loop
-add-next c = let a = c .before .before .before .before .before .before .before .before .before .before .before .before .before .args in let l = c .before .before .before .before .before .before .before .before .before .before .loop in
-    let p = pick-on (getD (a .dep .now) (a .i) []) (a .ws .now) (l .here) (a .n) (l .j) (c .before .before .before .before .before .before .before .before .before .loop-test .taken) (omega (arith, c .before .before .before .before .before .before .before .before .before .loop-test .taken, c .before .before .before .before .before .before .before .before .before .before .before .before .before .pre .0, c .before .before .before .before .before .before .before .before .before .before .before .before .before .pre .2 .cols (a .i) (c .before .before .before .before .before .before .before .before .before .before .before .before .before .pre .1))) (c .before .before .before .before .before .before .before .if1 .taken) in
+add-next c = let a = c .before .before .before .before .before .before .before .before .before .before .before .args in let l = c .before .before .before .before .before .before .before .before .loop in
+    let p = pick-on (getD (a .dep .now) (a .i) []) (a .ws .now) (l .here) (a .n) (l .j) (c .before .before .before .before .before .before .before .loop-test .taken) (omega (arith, c .before .before .before .before .before .before .before .loop-test .taken, c .before .before .before .before .before .before .before .before .before .before .before .pre .0, c .before .before .before .before .before .before .before .before .before .before .before .pre .2 .cols (a .i) (c .before .before .before .before .before .before .before .before .before .before .before .pre .1))) (c .before .before .before .before .before .if1 .taken) in
     omega (arith, ap length p)
 
 add-here : tie.Need-add-here Inv-loop μ-loop
@@ -85,9 +68,9 @@ loop-again c = let a = c .before .before .before .before .before .before .args i
     (λ w. let p = pick-on row (a .ws .now) (l .here) (a .n) (l .j) (c .before .before .loop-test .taken) in-row (w .0 .taken) in (
       omega arith,
       omega arith,
-      ap length (w .8) ∙ w .5 .kept .0 ∙ l .inv .2,
-      omega (arith, w .9, ap length p),
-      l .inv .4 ∙ ap (sets (l .out) (l .next)) p ∙ run-three (l .out) (l .next) _ _ _ rest ∙ rw (w .9, w .8, w .5 .ensures) refl,
+      ap length (w .6) ∙ w .3 .kept .0 ∙ l .inv .2,
+      omega (arith, w .7, ap length p),
+      l .inv .4 ∙ ap (sets (l .out) (l .next)) p ∙ run-three (l .out) (l .next) _ _ _ rest ∙ rw (w .7, w .6, w .3 .ensures, w .2 .ensures) refl,
     ))
     (λ w. let p = pick-off row (a .ws .now) (l .here) (a .n) (l .j) (c .before .before .loop-test .taken) in-row (w .0 .left) in
     (omega arith, omega arith, ap length (w .1) ∙ l .inv .2, omega (arith, w .2, ap length p), rw (w .1, w .2) (l .inv .4 ∙ ap (sets (l .out) (l .next)) p)))
@@ -111,14 +94,7 @@ put-class-spec =
     mul-if1
     index-1-if1
     index-2-if1
-    mul-put-goal
-    shared-slice-read-put-goal
-    add-put-goal
-    mul-put-goal-2
-    shared-slice-read-put-goal-2
-    add-put-goal-2
-    mul-put-goal-3
-    shared-slice-read-put-goal-3
+    goal-at-requires
     put-goal-requires
     add-next
     add-here

@@ -12,6 +12,7 @@ use Rattle.classes.proofs.order.first_in_row.Tie as tie
 use Rattle.classes.proofs.order.first_in_row.Reads as reads
 use Rattle.classes.proofs.order.first_in_row.Lts as lts
 use Rattle.goals.proofs.obligations.first_owed.Reads as first-owed-reads
+use Rattle.goals.proofs.words.goal_at.Reads as goal-at-reads
 
 abbrev Inv-loop : tie.InvT-loop
 Inv-loop tab ws n dep i best₀ j₀ best j = (j ≤ n) × (firstFrom tab (getD dep i []) ws n 65535 0 ≡ firstFrom tab (getD dep i []) ws n best j)
@@ -19,93 +20,42 @@ Inv-loop tab ws n dep i best₀ j₀ best j = (j ≤ n) × (firstFrom tab (getD 
 abbrev μ-loop : tie.MeasureT-loop
 μ-loop tab ws n dep i best₀ j₀ best j = n - j
 
--- src/order.rt:49:5
 loop-holds : tie.Need-loop-holds Inv-loop μ-loop
 loop-holds c = (omega arith, refl)
 
--- src/order.rt:50:12
 mul-if1 : tie.Need-mul-if1 Inv-loop μ-loop
 mul-if1 c = search needs
 
--- src/order.rt:50:12
 index-1-if1 : tie.Need-index-1-if1 Inv-loop μ-loop
 index-1-if1 c = search needs
 
--- src/order.rt:50:12
 index-2-if1 : tie.Need-index-2-if1 Inv-loop μ-loop
 index-2-if1 c = search needs
 
--- src/order.rt:51:39
-mul-first-owed : tie.Need-mul-first-owed Inv-loop μ-loop
-mul-first-owed c = search needs
+mul-goal-at : tie.Need-mul-goal-at Inv-loop μ-loop
+mul-goal-at c = search needs
 
--- src/order.rt:51:36
-mul-first-owed-2 : tie.Need-mul-first-owed-2 Inv-loop μ-loop
-mul-first-owed-2 c = search needs
+goal-at-requires : tie.Need-goal-at-requires Inv-loop μ-loop
+goal-at-requires c κs = search needs
 
--- src/order.rt:51:36
-shared-slice-read-first-owed : tie.Need-shared-slice-read-first-owed Inv-loop μ-loop
-shared-slice-read-first-owed c = search needs
-
--- src/order.rt:51:36
-cast-first-owed : tie.Need-cast-first-owed Inv-loop μ-loop
-cast-first-owed c = omega (arith, c .before .before .before .before .before .before .before .pre .3 (c .before .before .before .before .loop .j) (c .before .before .before .loop-test .taken))
-
--- src/order.rt:51:59
-mul-first-owed-3 : tie.Need-mul-first-owed-3 Inv-loop μ-loop
-mul-first-owed-3 c = search needs
-
--- src/order.rt:51:59
-add-first-owed : tie.Need-add-first-owed Inv-loop μ-loop
-add-first-owed c = search needs
-
--- src/order.rt:51:56
-mul-first-owed-4 : tie.Need-mul-first-owed-4 Inv-loop μ-loop
-mul-first-owed-4 c = search needs
-
--- src/order.rt:51:56
-shared-slice-read-first-owed-2 : tie.Need-shared-slice-read-first-owed-2 Inv-loop μ-loop
-shared-slice-read-first-owed-2 c = search needs
-
--- src/order.rt:51:74
-mul-first-owed-5 : tie.Need-mul-first-owed-5 Inv-loop μ-loop
-mul-first-owed-5 c = search needs
-
--- src/order.rt:51:74
-add-first-owed-2 : tie.Need-add-first-owed-2 Inv-loop μ-loop
-add-first-owed-2 c = search needs
-
--- src/order.rt:51:71
-mul-first-owed-6 : tie.Need-mul-first-owed-6 Inv-loop μ-loop
-mul-first-owed-6 c = search needs
-
--- src/order.rt:51:71
-shared-slice-read-first-owed-3 : tie.Need-shared-slice-read-first-owed-3 Inv-loop μ-loop
-shared-slice-read-first-owed-3 c = search needs
-
--- src/order.rt:51:13
 first-owed-requires : tie.Need-first-owed-requires Inv-loop μ-loop
-first-owed-requires c κs = (c .before .before .before .before .before .before .before .before .before .pre .0, c .before .before .before .before .before .before .before .before .before .pre .3 (c .before .before .before .before .before .before .loop .j) (c .before .before .before .before .before .loop-test .taken))
+first-owed-requires c κs = rw (c .goal-at .ensures) (c .before .before .before .before .before .before .before .pre .0, c .before .before .before .before .before .before .before .pre .3 (c .before .before .before .before .loop .j) (c .before .before .before .loop-test .taken))
 
--- src/order.rt:53:9
 add-j : tie.Need-add-j Inv-loop μ-loop
 add-j c = search needs
 
--- src/order.rt:49:5
 loop-less : tie.Need-loop-less Inv-loop μ-loop
 loop-less c = search needs
 
--- src/order.rt:49:5
 loop-again : tie.Need-loop-again Inv-loop μ-loop
 loop-again c = let a = c .before .before .before .before .before .before .args in let l = c .before .before .before .loop in
     let row = getD (a .dep .now) (a .i) [] in
     let inside : l .j < length row = omega (arith, c .before .before .loop-test .taken, c .before .before .before .before .before .before .pre .1, c .before .before .before .before .before .before .pre .4 .cols (a .i) (c .before .before .before .before .before .before .pre .5)) in
     ⊎-elim
-    (λ w. (omega arith, rw (w .5, w .4 .ensures) (l .inv .1 ∙ first-on (a .tab .now) row (a .ws .now) (a .n) (l .best) (l .j) (c .before .before .loop-test .taken) inside (w .0 .taken))))
+    (λ w. (omega arith, rw (w .3, w .2 .ensures, w .1 .ensures) (l .inv .1 ∙ first-on (a .tab .now) row (a .ws .now) (a .n) (l .best) (l .j) (c .before .before .loop-test .taken) inside (w .0 .taken))))
     (λ w. (omega arith, rw (w .1) (l .inv .1 ∙ first-off (a .tab .now) row (a .ws .now) (a .n) (l .best) (l .j) (c .before .before .loop-test .taken) inside (w .0 .left))))
     (c .if1 .came)
 
--- src/order.rt:43:1
 returns : tie.Need-returns Inv-loop μ-loop
 returns c = let a = c .before .before .before .before .args in let l = c .before .loop in sym (first-all (a .tab .now) (getD (a .dep .now) (a .i) []) (a .ws .now) (a .n) 65535 ∙ l .inv .1 ∙ first-end (a .tab .now) (getD (a .dep .now) (a .i) []) (a .ws .now) (a .n) (l .best) (l .j) (c .loop-test .left))
 
@@ -119,18 +69,8 @@ first-in-row-spec =
     mul-if1
     index-1-if1
     index-2-if1
-    mul-first-owed
-    mul-first-owed-2
-    shared-slice-read-first-owed
-    cast-first-owed
-    mul-first-owed-3
-    add-first-owed
-    mul-first-owed-4
-    shared-slice-read-first-owed-2
-    mul-first-owed-5
-    add-first-owed-2
-    mul-first-owed-6
-    shared-slice-read-first-owed-3
+    mul-goal-at
+    goal-at-requires
     first-owed-requires
     add-j
     loop-less

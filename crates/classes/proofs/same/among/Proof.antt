@@ -1,3 +1,6 @@
+use Rattle.goals.specs.GoalKinds.{goalOf, wordsOf}
+use Rattle.goals.specs.declared.Goal.{Goal}
+use Rattle.goals.specs.WordStages.{sameW}
 use Rattle.classes.proofs.SameLaws.{among-here, among-not, among-end}
 use Rattle.goals.specs.GoalWords.{goalsFrom, goalAt, goalW}
 use Rattle.goals.specs.WordStages.{amongW, sameW}
@@ -11,45 +14,31 @@ use native.Mathlib.Omega.{arith}
 use borrow.Author.Needs.{needs}
 use Rattle.classes.proofs.same.among.Statement.{statement}
 use Rattle.classes.proofs.same.among.Tie as tie
+use Rattle.goals.specs.GoalKinds.{goalOf, wordsOf}
+use Rattle.goals.specs.declared.Goal.{Goal}
+use Rattle.goals.specs.WordStages.{sameW}
+use Rattle.classes.proofs.same.among.Reads as reads
+use Rattle.classes.proofs.same.among.Lts as lts
+use Rattle.classes.proofs.same.same_goal.Reads as same-goal-reads
+use Rattle.goals.proofs.words.goal_at.Reads as goal-at-reads
 
 abbrev Inv-loop : tie.InvT-loop
-Inv-loop s a m vs at k here₀ left₀ here left = (here + 3 * left ≡ at + 3 * k) × (amongW (goalW s a m) (goalsFrom vs at k) ≡ amongW (goalW s a m) (goalsFrom vs here left))
+Inv-loop g vs at k here₀ left₀ here left = (here + 3 * left ≡ at + 3 * k) × (amongW (wordsOf g) (goalsFrom vs at k) ≡ amongW (wordsOf g) (goalsFrom vs here left))
 
 abbrev μ-loop : tie.MeasureT-loop
-μ-loop s a m vs at k here₀ left₀ here left = left
+μ-loop g vs at k here₀ left₀ here left = left
 
 loop-holds : tie.Need-loop-holds Inv-loop μ-loop
 loop-holds c = (refl, refl)
 
-mul-same-goal : tie.Need-mul-same-goal Inv-loop μ-loop
-mul-same-goal c = search needs
-
-shared-slice-read-same-goal : tie.Need-shared-slice-read-same-goal Inv-loop μ-loop
-shared-slice-read-same-goal c = search needs
-
-add-same-goal : tie.Need-add-same-goal Inv-loop μ-loop
-add-same-goal c = search needs
-
-mul-same-goal-2 : tie.Need-mul-same-goal-2 Inv-loop μ-loop
-mul-same-goal-2 c = search needs
-
-shared-slice-read-same-goal-2 : tie.Need-shared-slice-read-same-goal-2 Inv-loop μ-loop
-shared-slice-read-same-goal-2 c = search needs
-
-add-same-goal-2 : tie.Need-add-same-goal-2 Inv-loop μ-loop
-add-same-goal-2 c = search needs
-
-mul-same-goal-3 : tie.Need-mul-same-goal-3 Inv-loop μ-loop
-mul-same-goal-3 c = search needs
-
-shared-slice-read-same-goal-3 : tie.Need-shared-slice-read-same-goal-3 Inv-loop μ-loop
-shared-slice-read-same-goal-3 c = search needs
+goal-at-requires : tie.Need-goal-at-requires Inv-loop μ-loop
+goal-at-requires c κs = search needs
 
 same-goal-requires : tie.Need-same-goal-requires Inv-loop μ-loop
 same-goal-requires c κs = search needs
 
 returns : tie.Need-returns Inv-loop μ-loop
-returns c = let a = c .before .before .before .before .before .before .before .before .args in let l = c .before .before .before .before .before .before .loop in sym (l .inv .1 ∙ among-here (goalW (a .s) (a .a) (a .m)) (a .vs .now) (l .here) (l .left) (c .before .before .before .before .before .loop-test .taken) (sym (c .before .same-goal .ensures) ∙ c .if1 .taken))
+returns c = let a = c .before .before .before .before .before .before .args in let l = c .before .before .before .before .loop in sym (l .inv .1 ∙ among-here (wordsOf (a .g)) (a .vs .now) (l .here) (l .left) (c .before .before .before .loop-test .taken) (sym (c .before .same-goal .ensures ∙ ap (λ (x : Goal). sameW (wordsOf (a .g)) (wordsOf x)) (c .before .before .goal-at .ensures)) ∙ c .if1 .taken))
 
 add-here : tie.Need-add-here Inv-loop μ-loop
 add-here c = search needs
@@ -61,10 +50,10 @@ loop-less : tie.Need-loop-less Inv-loop μ-loop
 loop-less c = search needs
 
 loop-again : tie.Need-loop-again Inv-loop μ-loop
-loop-again c = let a = c .before .before .before .before .before .before .before .before .args in let l = c .before .before .before .before .before .before .loop in (omega arith, l .inv .1 ∙ among-not (goalW (a .s) (a .a) (a .m)) (a .vs .now) (l .here) (l .left) (c .before .before .before .before .before .loop-test .taken) (sym (c .before .same-goal .ensures) ∙ c .if1 .left))
+loop-again c = let a = c .before .before .before .before .before .before .args in let l = c .before .before .before .before .loop in (omega arith, l .inv .1 ∙ among-not (wordsOf (a .g)) (a .vs .now) (l .here) (l .left) (c .before .before .before .loop-test .taken) (sym (c .before .same-goal .ensures ∙ ap (λ (x : Goal). sameW (wordsOf (a .g)) (wordsOf x)) (c .before .before .goal-at .ensures)) ∙ c .if1 .left))
 
 returns-2 : tie.Need-returns-2 Inv-loop μ-loop
-returns-2 c = let a = c .before .before .before .args in let l = c .before .loop in sym (l .inv .1 ∙ among-end (goalW (a .s) (a .a) (a .m)) (a .vs .now) (l .here) (l .left) (c .loop-test .left))
+returns-2 c = let a = c .before .before .before .args in let l = c .before .loop in sym (l .inv .1 ∙ among-end (wordsOf (a .g)) (a .vs .now) (l .here) (l .left) (c .loop-test .left))
 
 pub among-spec : {M : Type 1} → statement M
 among-spec =
@@ -73,14 +62,7 @@ among-spec =
     Inv-loop
     μ-loop
     loop-holds
-    mul-same-goal
-    shared-slice-read-same-goal
-    add-same-goal
-    mul-same-goal-2
-    shared-slice-read-same-goal-2
-    add-same-goal-2
-    mul-same-goal-3
-    shared-slice-read-same-goal-3
+    goal-at-requires
     same-goal-requires
     returns
     add-here

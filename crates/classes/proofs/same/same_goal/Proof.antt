@@ -1,16 +1,26 @@
+use Rattle.goals.specs.GoalKinds.{wordsOf}
+use Rattle.classes.proofs.SameLaws.{other-shape, other-place, by-mask}
+use mathlib.Core.Path.{sym}
 use borrow.Author.Tests.{eq-eqb, ne-eqb}
 use borrow.Author.Needs.{needs}
 use Rattle.classes.proofs.same.same_goal.Statement.{statement}
 use Rattle.classes.proofs.same.same_goal.Tie as tie
+use Rattle.goals.specs.GoalKinds.{wordsOf}
+use Rattle.classes.proofs.SameLaws.{other-shape, other-place, by-mask}
+use mathlib.Core.Path.{sym}
+use Rattle.classes.proofs.same.same_goal.Reads as reads
+use Rattle.classes.proofs.same.same_goal.Lts as lts
+
+-- src/same.rt:16:9
 
 returns : tie.Need-returns
-returns c = simp (ne-eqb _ _ (c .if1 .taken))
+returns c = let a = c .before .before .before .args in sym (other-shape (wordsOf (a .g)) (wordsOf (a .h)) (c .if1 .taken))
 
 returns-2 : tie.Need-returns-2
-returns-2 c = simp (eq-eqb _ _ (c .before .if1 .left), ne-eqb _ _ (c .if2 .taken))
+returns-2 c = let a = c .before .before .before .before .before .before .args in sym (other-place (wordsOf (a .g)) (wordsOf (a .h)) (c .before .before .before .if1 .left) (c .if2 .taken))
 
 returns-3 : tie.Need-returns-3
-returns-3 c = simp (eq-eqb _ _ (c .before .if1 .left), eq-eqb _ _ (c .if2 .left))
+returns-3 c = let a = c .before .before .before .before .before .before .before .before .args in sym (by-mask (wordsOf (a .g)) (wordsOf (a .h)) (c .before .before .before .before .before .if1 .left) (c .before .before .if2 .left))
 
 pub same-goal-spec : {M : Type 1} → statement M
 same-goal-spec = tie.close (tie.spec returns returns-2 returns-3)

@@ -1,3 +1,6 @@
+use Rattle.goals.specs.GoalKinds.{goalOf, wordsOf}
+use Rattle.goals.specs.declared.Goal.{Goal}
+use Rattle.goals.specs.WordStages.{amongW}
 use Rattle.classes.proofs.SameLaws.{within-on, within-off, within-end}
 use Rattle.goals.specs.GoalWords.{goalsFrom, goalAt, goalW}
 use Rattle.goals.specs.WordStages.{amongW, withinW}
@@ -11,6 +14,10 @@ use native.Mathlib.Omega.{arith}
 use borrow.Author.Needs.{needs}
 use Rattle.classes.proofs.same.within.Statement.{statement}
 use Rattle.classes.proofs.same.within.Tie as tie
+use Rattle.classes.proofs.same.within.Reads as reads
+use Rattle.classes.proofs.same.within.Lts as lts
+use Rattle.classes.proofs.same.among.Reads as among-reads
+use Rattle.goals.proofs.words.goal_at.Reads as goal-at-reads
 
 abbrev Inv-loop : tie.InvT-loop
 Inv-loop ws from n vs at k here₀ left₀ here left = (here + 3 * left ≡ from + 3 * n) × (withinW (goalsFrom ws from n) (goalsFrom vs at k) ≡ withinW (goalsFrom ws here left) (goalsFrom vs at k))
@@ -21,29 +28,8 @@ abbrev μ-loop : tie.MeasureT-loop
 loop-holds : tie.Need-loop-holds Inv-loop μ-loop
 loop-holds c = (refl, refl)
 
-mul-among : tie.Need-mul-among Inv-loop μ-loop
-mul-among c = search needs
-
-shared-slice-read-among : tie.Need-shared-slice-read-among Inv-loop μ-loop
-shared-slice-read-among c = search needs
-
-add-among : tie.Need-add-among Inv-loop μ-loop
-add-among c = search needs
-
-mul-among-2 : tie.Need-mul-among-2 Inv-loop μ-loop
-mul-among-2 c = search needs
-
-shared-slice-read-among-2 : tie.Need-shared-slice-read-among-2 Inv-loop μ-loop
-shared-slice-read-among-2 c = search needs
-
-add-among-2 : tie.Need-add-among-2 Inv-loop μ-loop
-add-among-2 c = search needs
-
-mul-among-3 : tie.Need-mul-among-3 Inv-loop μ-loop
-mul-among-3 c = search needs
-
-shared-slice-read-among-3 : tie.Need-shared-slice-read-among-3 Inv-loop μ-loop
-shared-slice-read-among-3 c = search needs
+goal-at-requires : tie.Need-goal-at-requires Inv-loop μ-loop
+goal-at-requires c κs = search needs
 
 among-requires : tie.Need-among-requires Inv-loop μ-loop
 among-requires c κs = search needs
@@ -58,10 +44,10 @@ loop-less : tie.Need-loop-less Inv-loop μ-loop
 loop-less c = search needs
 
 loop-again : tie.Need-loop-again Inv-loop μ-loop
-loop-again c = let a = c .before .before .before .before .before .before .before .before .before .args in let l = c .before .before .before .before .before .before .loop in (omega arith, l .inv .1 ∙ within-on (goalsFrom (a .vs .now) (a .at) (a .k)) (a .ws .now) (l .here) (l .left) (c .before .before .before .before .before .loop-test .taken) (sym (c .before .among .ensures) ∙ c .if1 .taken))
+loop-again c = let a = c .before .before .before .before .before .before .before .args in let l = c .before .before .before .before .loop in (omega arith, l .inv .1 ∙ within-on (goalsFrom (a .vs .now) (a .at) (a .k)) (a .ws .now) (l .here) (l .left) (c .before .before .before .loop-test .taken) (sym (c .before .among .ensures ∙ ap (λ (x : Goal). amongW (wordsOf x) (goalsFrom (a .vs .now) (a .at) (a .k))) (c .before .before .goal-at .ensures)) ∙ c .if1 .taken))
 
 returns : tie.Need-returns Inv-loop μ-loop
-returns c = let a = c .before .before .before .before .before .before .before .before .before .args in let l = c .before .before .before .before .before .before .loop in sym (l .inv .1 ∙ within-off (goalsFrom (a .vs .now) (a .at) (a .k)) (a .ws .now) (l .here) (l .left) (c .before .before .before .before .before .loop-test .taken) (sym (c .before .among .ensures) ∙ c .if1 .left))
+returns c = let a = c .before .before .before .before .before .before .before .args in let l = c .before .before .before .before .loop in sym (l .inv .1 ∙ within-off (goalsFrom (a .vs .now) (a .at) (a .k)) (a .ws .now) (l .here) (l .left) (c .before .before .before .loop-test .taken) (sym (c .before .among .ensures ∙ ap (λ (x : Goal). amongW (wordsOf x) (goalsFrom (a .vs .now) (a .at) (a .k))) (c .before .before .goal-at .ensures)) ∙ c .if1 .left))
 
 returns-2 : tie.Need-returns-2 Inv-loop μ-loop
 returns-2 c = let a = c .before .before .before .before .args in let l = c .before .loop in sym (l .inv .1 ∙ within-end (goalsFrom (a .vs .now) (a .at) (a .k)) (a .ws .now) (l .here) (l .left) (c .loop-test .left))
@@ -73,14 +59,7 @@ within-spec =
     Inv-loop
     μ-loop
     loop-holds
-    mul-among
-    shared-slice-read-among
-    add-among
-    mul-among-2
-    shared-slice-read-among-2
-    add-among-2
-    mul-among-3
-    shared-slice-read-among-3
+    goal-at-requires
     among-requires
     add-here
     sub-left

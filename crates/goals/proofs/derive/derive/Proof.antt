@@ -11,52 +11,46 @@ use native.Mathlib.Omega.{arith}
 use borrow.Author.Needs.{needs}
 use Rattle.goals.proofs.derive.derive.Statement.{statement}
 use Rattle.goals.proofs.derive.derive.Tie as tie
+use Rattle.goals.proofs.derive.derive.Reads as reads
+use Rattle.goals.proofs.derive.derive.Lts as lts
+use Rattle.goals.proofs.derive.put_born.Reads as put-born-reads
+use Rattle.goals.proofs.derive.put_moving.Reads as put-moving-reads
+use Rattle.goals.proofs.derive.put_staying.Reads as put-staying-reads
+
+-- src/derive.rt:172:9
 
 put-staying-requires : tie.Need-put-staying-requires
-put-staying-requires c κs = let a = c .before .before .before .before .before .args in
+put-staying-requires c κs = let a = c .before .before .before .before .args in
     let z = deriv-size (a .tab .now) (a .n) (a .root .0) (a .symbol .0) (a .k) (goalsFrom (a .ws .now) (a .at) (a .goals)) in
-    (c .before .before .before .before .before .pre .0, c .before .before .before .before .before .pre .1, c .before .before .before .before .before .pre .2, c .before .before .before .before .before .pre .3, omega (arith, z))
+    (c .before .before .before .before .pre .0, c .before .before .before .before .pre .1, c .before .before .before .before .pre .2, c .before .before .before .before .pre .3, omega (arith, z))
 
 put-moving-requires : tie.Need-put-moving-requires
-put-moving-requires c κs = let a = c .before .before .before .before .before .before .before .before .before .before .args in
+put-moving-requires c κs = let a = c .before .before .before .before .before .before .before .before .args in
     let z = deriv-size (a .tab .now) (a .n) (a .root .0) (a .symbol .0) (a .k) (goalsFrom (a .ws .now) (a .at) (a .goals)) in
-    (c .before .before .before .before .before .before .before .before .before .before .pre .0, c .before .before .before .before .before .before .before .before .before .before .pre .1, c .before .before .before .before .before .before .before .before .before .before .pre .2, c .before .before .before .before .before .before .before .before .before .before .pre .3, omega (arith, z, c .before .before .before .before .put-staying .ensures .0, c .before .before .before .before .put-staying .kept .1 .1 .1 .1 .1 .0))
+    (c .before .before .before .before .before .before .before .before .pre .0, c .before .before .before .before .before .before .before .before .pre .1, c .before .before .before .before .before .before .before .before .pre .2, c .before .before .before .before .before .before .before .before .pre .3, omega (arith, z, c .before .before .before .put-staying .ensures .0, c .before .before .before .put-staying .kept .1 .1 .1 .1 .1 .0))
 
 put-born-requires : tie.Need-put-born-requires
-put-born-requires c κs = let a = c .before .before .before .before .before .before .before .before .before .before .before .before .before .before .args in
+put-born-requires c κs = let a = c .before .before .before .before .before .before .before .before .before .before .before .before .args in
     let z = deriv-size (a .tab .now) (a .n) (a .root .0) (a .symbol .0) (a .k) (goalsFrom (a .ws .now) (a .at) (a .goals)) in
-    (c .before .before .before .before .before .before .before .before .before .before .before .before .before .before .pre .4, c .before .before .before .before .before .before .before .before .before .before .before .before .before .before .pre .5, omega (arith, z, c .before .before .before .before .before .before .before .before .put-staying .ensures .0, c .before .before .before .before .before .before .before .before .put-staying .kept .1 .1 .1 .1 .1 .0, c .before .before .before .put-moving .ensures .0, c .before .before .before .put-moving .kept .1 .1 .1 .1 .1 .1 .0))
+    (c .before .before .before .before .before .before .before .before .before .before .before .before .pre .4, c .before .before .before .before .before .before .before .before .before .before .before .before .pre .5, omega (arith, z, c .before .before .before .before .before .before .before .put-staying .ensures .0, c .before .before .before .before .before .before .before .put-staying .kept .1 .1 .1 .1 .1 .0, c .before .before .before .put-moving .ensures .0, c .before .before .before .put-moving .kept .1 .1 .1 .1 .1 .1 .0))
 
 same-length : tie.Need-same-length
 same-length c = search needs
 
 returns : tie.Need-returns
-returns c = let a = c .before .before .before .before .before .before .before .before .before .before .before .before .before .before .before .before .before .args in
+returns c = let a = c .before .before .before .before .before .before .before .before .before .before .before .before .before .before .before .args in
     let gs = goalsFrom (a .ws .now) (a .at) (a .goals) in
     let S = flat (gather (stays (a .tab .now) (a .root .0)) gs) in
     let M = flat (gather (moves (a .tab .now) (a .root .0) (a .symbol .0)) gs) in
     let B = flat (bornW (a .n) (a .root .0) (a .k)) in (
-      omega (arith, deriv-size (a .tab .now) (a .n) (a .root .0) (a .symbol .0) (a .k) gs, c .before .before .before .before .before .before .before .before .before .before .before .put-staying .ensures .0, c .before .before .before .before .before .before .put-moving .ensures .0, c .before .before .put-born .ensures .0),
+      omega (arith, deriv-size (a .tab .now) (a .n) (a .root .0) (a .symbol .0) (a .k) gs, c .before .before .before .before .before .before .before .before .before .before .put-staying .ensures .0, c .before .before .before .before .before .before .put-moving .ensures .0, c .before .before .put-born .ensures .0),
       c .before .before .put-born .ensures .1
-          ∙ ap (λ o. sets o (c .before .before .before .before .before .before .put-moving .result) B) (c .before .before .before .before .before .before .put-moving .ensures .1 ∙ ap (λ o. sets o (c .before .before .before .before .before .before .before .before .before .before .before .put-staying .result) M) (c .before .before .before .before .before .before .before .before .before .before .before .put-staying .ensures .1))
-          ∙ three-runs (a .out .now) S M B (c .before .before .before .before .before .before .before .before .before .before .before .put-staying .result) (c .before .before .before .before .before .before .put-moving .result) (c .before .before .before .before .before .before .before .before .before .before .before .put-staying .ensures .0) (c .before .before .before .before .before .before .put-moving .ensures .0)
+          ∙ ap (λ o. sets o (c .before .before .before .before .before .before .put-moving .result) B) (c .before .before .before .before .before .before .put-moving .ensures .1 ∙ ap (λ o. sets o (c .before .before .before .before .before .before .before .before .before .before .put-staying .result) M) (c .before .before .before .before .before .before .before .before .before .before .put-staying .ensures .1))
+          ∙ three-runs (a .out .now) S M B (c .before .before .before .before .before .before .before .before .before .before .put-staying .result) (c .before .before .before .before .before .before .put-moving .result) (c .before .before .before .before .before .before .before .before .before .before .put-staying .ensures .0) (c .before .before .before .before .before .before .put-moving .ensures .0)
           ∙ ap (sets (a .out .now) 0) (sym (deriv-words (a .tab .now) (a .n) (a .root .0) (a .symbol .0) (a .k) gs)),
     )
-
-cast-put-staying : tie.Need-cast-put-staying
-cast-put-staying c = search needs
-
-cast-put-moving : tie.Need-cast-put-moving
-cast-put-moving c = search needs
 
 pub derive-spec : {M : Type 1} → statement M
 derive-spec =
     tie.close
-    (tie.spec
-    cast-put-staying
-    put-staying-requires
-    cast-put-moving
-    put-moving-requires
-    put-born-requires
-    same-length
-    returns)
+    (tie.spec put-staying-requires put-moving-requires put-born-requires same-length returns)

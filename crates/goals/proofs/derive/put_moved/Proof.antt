@@ -1,3 +1,4 @@
+use Rattle.goals.specs.GoalKinds.{goalOf, wordsOf}
 use Rattle.goals.proofs.DeriveLaws.{goes, goes-out, goes-not, flat-none, flat-one}
 use Rattle.goals.specs.GoalWords.{goalW, flat}
 use Rattle.goals.specs.WordStages.{goesOn, withMask}
@@ -10,22 +11,28 @@ use native.Mathlib.Omega.{arith}
 use borrow.Author.Needs.{needs}
 use Rattle.goals.proofs.derive.put_moved.Statement.{statement}
 use Rattle.goals.proofs.derive.put_moved.Tie as tie
+use Rattle.goals.specs.GoalKinds.{goalOf, wordsOf}
+use Rattle.goals.proofs.derive.put_moved.Reads as reads
+use Rattle.goals.proofs.derive.put_moved.Lts as lts
+use Rattle.goals.proofs.words.put_goal.Reads as put-goal-reads
+
+-- src/derive.rt:100:9
 
 returns : tie.Need-returns
-returns c = let a = c .before .before .args in let g = goalW (a .s) (a .a) 0 in
+returns c = let a = c .before .before .args in let g = wordsOf (a .g) in
     let e = flat-none (goesOn (a .x) g) (goes-out (a .x) g (c .if1 .taken)) in
     (omega (arith, ap length e), sym (ap (sets (a .out .now) (a .to)) e))
 
 returns-2 : tie.Need-returns-2
-returns-2 c = let a = c .before .before .before .args in let g = goalW (a .s) (a .a) 0 in
+returns-2 c = let a = c .before .before .before .args in let g = wordsOf (a .g) in
     let e = flat-none (goesOn (a .x) g) (goes-not (a .x) g (c .before .if1 .left) (c .if2 .taken)) in
     (omega (arith, ap length e), sym (ap (sets (a .out .now) (a .to)) e))
 
-cast-put-goal : tie.Need-cast-put-goal
-cast-put-goal c = search needs
+cast-t11 : tie.Need-cast-t11
+cast-t11 c = search needs
 
 put-goal-requires : tie.Need-put-goal-requires
-put-goal-requires c κs = let a = c .before .before .before .before .args in let g = goalW (a .s) (a .a) 0 in
+put-goal-requires c κs = let a = c .before .before .before .before .args in let g = wordsOf (a .g) in
     let e = flat-one (goesOn (a .x) g) (withMask g (a .x)) (goes (a .x) g (c .before .before .if1 .left) (c .before .if2 .left)) in
     omega (arith, ap length e)
 
@@ -36,11 +43,11 @@ same-length : tie.Need-same-length
 same-length c = search needs
 
 returns-3 : tie.Need-returns-3
-returns-3 c = let a = c .before .before .before .before .before .before .before .args in let g = goalW (a .s) (a .a) 0 in
+returns-3 c = let a = c .before .before .before .before .before .before .before .args in let g = wordsOf (a .g) in
     let e = flat-one (goesOn (a .x) g) (withMask g (a .x)) (goes (a .x) g (c .before .before .before .before .before .if1 .left) (c .before .before .before .before .if2 .left)) in
     (omega (arith, ap length e), c .before .before .put-goal .ensures ∙ sym (ap (sets (a .out .now) (a .to)) e))
 
 pub put-moved-spec : {M : Type 1} → statement M
 put-moved-spec =
     tie.close
-    (tie.spec returns returns-2 cast-put-goal put-goal-requires add-result same-length returns-3)
+    (tie.spec returns returns-2 cast-t11 put-goal-requires add-result same-length returns-3)

@@ -1,3 +1,6 @@
+use Rattle.goals.specs.GoalKinds.{goalOf, wordsOf}
+use Rattle.goals.specs.WordStages.{reduct}
+use Rattle.goals.specs.declared.Goal.{Goal}
 use Rattle.kinds.proofs.ListLaws.{sets-append}
 use Rattle.goals.proofs.DeriveLaws.{Pass, pass-next, pass-end}
 use Rattle.goals.proofs.GoalLaws.{low-next}
@@ -12,52 +15,36 @@ use native.Mathlib.Omega.{arith}
 use borrow.Author.Needs.{needs}
 use Rattle.goals.proofs.derive.put_moving.Statement.{statement}
 use Rattle.goals.proofs.derive.put_moving.Tie as tie
+use Rattle.goals.specs.GoalKinds.{goalOf, wordsOf}
+use Rattle.goals.specs.WordStages.{reduct}
+use Rattle.goals.specs.declared.Goal.{Goal}
+use Rattle.goals.proofs.derive.put_moving.Reads as reads
+use Rattle.goals.proofs.derive.put_moving.Lts as lts
+use Rattle.goals.proofs.derive.put_moved.Reads as put-moved-reads
+use Rattle.goals.proofs.derive.reduce.Reads as reduce-reads
+use Rattle.goals.proofs.words.goal_at.Reads as goal-at-reads
 
 abbrev Inv-loop : tie.InvT-loop
-Inv-loop tab ws at n c f out₀ to next₀ here₀ left₀ out next here left = (length out ≡ length out₀) × (here + 3 * left ≡ at + 3 * n) × Low (goalsFrom ws here left) × (next + length (Pass (moves tab c f) ws here left) ≡ to + length (Pass (moves tab c f) ws at n)) × (sets out₀ to (Pass (moves tab c f) ws at n) ≡ sets out next (Pass (moves tab c f) ws here left))
+Inv-loop tab ws at n root symbol out₀ to next₀ here₀ left₀ out next here left = (length out ≡ length out₀) × (here + 3 * left ≡ at + 3 * n) × Low (goalsFrom ws here left) × (next + length (Pass (moves tab (root .0) (symbol .0)) ws here left) ≡ to + length (Pass (moves tab (root .0) (symbol .0)) ws at n)) × (sets out₀ to (Pass (moves tab (root .0) (symbol .0)) ws at n) ≡ sets out next (Pass (moves tab (root .0) (symbol .0)) ws here left))
 
 abbrev μ-loop : tie.MeasureT-loop
-μ-loop tab ws at n c f out₀ to next₀ here₀ left₀ out next here left = left
+μ-loop tab ws at n root symbol out₀ to next₀ here₀ left₀ out next here left = left
 
 loop-holds : tie.Need-loop-holds Inv-loop μ-loop
 loop-holds c = (refl, refl, c .before .before .before .pre .3, refl, refl)
 
-mul-s : tie.Need-mul-s Inv-loop μ-loop
-mul-s c = search needs
-
-shared-slice-read-s : tie.Need-shared-slice-read-s Inv-loop μ-loop
-shared-slice-read-s c = search needs
-
-add-a : tie.Need-add-a Inv-loop μ-loop
-add-a c = search needs
-
-mul-a : tie.Need-mul-a Inv-loop μ-loop
-mul-a c = search needs
-
-shared-slice-read-a : tie.Need-shared-slice-read-a Inv-loop μ-loop
-shared-slice-read-a c = search needs
-
-cast-reduce : tie.Need-cast-reduce Inv-loop μ-loop
-cast-reduce c = omega (arith, low-next (c .before .before .before .before .before .before .before .args .ws .now) (c .before .before .before .loop .here) (c .before .before .before .loop .left) (c .before .before .loop-test .taken) (c .before .before .before .loop .inv .2) .0)
-
-add-reduce : tie.Need-add-reduce Inv-loop μ-loop
-add-reduce c = search needs
-
-mul-reduce : tie.Need-mul-reduce Inv-loop μ-loop
-mul-reduce c = search needs
-
-shared-slice-read-reduce : tie.Need-shared-slice-read-reduce Inv-loop μ-loop
-shared-slice-read-reduce c = search needs
+goal-at-requires : tie.Need-goal-at-requires Inv-loop μ-loop
+goal-at-requires c κs = search needs
 
 reduce-requires : tie.Need-reduce-requires Inv-loop μ-loop
-reduce-requires c κs = (c .before .before .before .before .before .before .before .before .pre .0, low-next (c .before .before .before .before .before .before .before .before .args .ws .now) (c .before .before .before .before .loop .here) (c .before .before .before .before .loop .left) (c .before .before .before .loop-test .taken) (c .before .before .before .before .loop .inv .2) .0)
+reduce-requires c κs = rw (c .goal-at .ensures) (c .before .before .before .before .before .before .pre .0, low-next (c .before .before .before .before .before .before .args .ws .now) (c .before .before .loop .here) (c .before .before .loop .left) (c .before .loop-test .taken) (c .before .before .loop .inv .2) .0)
 
 put-moved-requires : tie.Need-put-moved-requires Inv-loop μ-loop
-put-moved-requires c κs = let a = c .before .before .before .before .before .before .before .before .before .before .args in let l = c .before .before .before .before .before .before .loop in
+put-moved-requires c κs = let a = c .before .before .before .before .before .before .before .before .args in let l = c .before .before .before .before .loop in
     let g = goalAt (a .ws .now) (l .here) in
-    let e = moves (a .tab .now) (a .c) (a .f) in
-    let p = pass-next e (a .ws .now) (l .here) (l .left) (c .before .before .before .before .before .loop-test .taken) in
-    rw (c .before .reduce .ensures) (omega (arith, ap length p, length-append (flat (e g)) (Pass e (a .ws .now) (l .here + 3) (l .left - 1))))
+    let e = moves (a .tab .now) (a .root .0) (a .symbol .0) in
+    let p = pass-next e (a .ws .now) (l .here) (l .left) (c .before .before .before .loop-test .taken) in
+    rw (c .before .reduce .ensures, c .before .before .goal-at .ensures) (omega (arith, ap length p, length-append (flat (e g)) (Pass e (a .ws .now) (l .here + 3) (l .left - 1))))
 
 add-here : tie.Need-add-here Inv-loop μ-loop
 add-here c = search needs
@@ -69,14 +56,15 @@ loop-less : tie.Need-loop-less Inv-loop μ-loop
 loop-less c = search needs
 
 loop-again : tie.Need-loop-again Inv-loop μ-loop
-loop-again c = let a = c .before .before .before .before .before .before .before .before .before .before .before .before .before .args in let l = c .before .before .before .before .before .before .before .before .before .loop in
-    let low = low-next (a .ws .now) (l .here) (l .left) (c .before .before .before .before .before .before .before .before .loop-test .taken) (l .inv .2) .1 in
+loop-again c = let a = c .before .before .before .before .before .before .before .before .before .before .before .args in let l = c .before .before .before .before .before .before .before .loop in
+    let low = low-next (a .ws .now) (l .here) (l .left) (c .before .before .before .before .before .before .loop-test .taken) (l .inv .2) .1 in
     let g = goalAt (a .ws .now) (l .here) in
-    let e = moves (a .tab .now) (a .c) (a .f) in
-    let p = pass-next e (a .ws .now) (l .here) (l .left) (c .before .before .before .before .before .before .before .before .loop-test .taken) in
+    let e = moves (a .tab .now) (a .root .0) (a .symbol .0) in
+    let p = pass-next e (a .ws .now) (l .here) (l .left) (c .before .before .before .before .before .before .loop-test .taken) in
     let rest = Pass e (a .ws .now) (l .here + 3) (l .left - 1) in
-    let n = c .before .before .put-moved .ensures .0 ∙ ap (λ x. l .next + length (flat (goesOn x (goalW (g .sh) (g .an) 0)))) (c .before .before .before .before .reduce .ensures) in
-    let o = c .before .before .put-moved .ensures .1 ∙ ap (λ x. sets (l .out) (l .next) (flat (goesOn x (goalW (g .sh) (g .an) 0)))) (c .before .before .before .before .reduce .ensures) in (
+    let d = c .before .before .before .before .reduce .ensures ∙ ap (λ (r : Goal). reduct (a .tab .now) (a .root .0) (a .symbol .0) (wordsOf r)) (c .before .before .before .before .before .goal-at .ensures) in
+    let n = c .before .before .put-moved .ensures .0 ∙ ap₂ (λ (x : ℕ) (r : Goal). l .next + length (flat (goesOn x (wordsOf r)))) d (c .before .before .before .before .before .goal-at .ensures) in
+    let o = c .before .before .put-moved .ensures .1 ∙ ap₂ (λ (x : ℕ) (r : Goal). sets (l .out) (l .next) (flat (goesOn x (wordsOf r)))) d (c .before .before .before .before .before .goal-at .ensures) in (
       c .before .before .put-moved .kept .0 ∙ l .inv .0,
       omega arith,
       low,
@@ -89,7 +77,7 @@ same-length c = search needs
 
 returns : tie.Need-returns Inv-loop μ-loop
 returns c = let a = c .before .before .before .before .before .args in let l = c .before .loop in
-    let p = pass-end (moves (a .tab .now) (a .c) (a .f)) (a .ws .now) (l .here) (l .left) (c .loop-test .left) in
+    let p = pass-end (moves (a .tab .now) (a .root .0) (a .symbol .0)) (a .ws .now) (l .here) (l .left) (c .loop-test .left) in
     (omega (arith, ap length p), sym (l .inv .4 ∙ ap (sets (l .out) (l .next)) p))
 
 pub put-moving-spec : {M : Type 1} → statement M
@@ -99,15 +87,7 @@ put-moving-spec =
     Inv-loop
     μ-loop
     loop-holds
-    mul-s
-    shared-slice-read-s
-    add-a
-    mul-a
-    shared-slice-read-a
-    cast-reduce
-    add-reduce
-    mul-reduce
-    shared-slice-read-reduce
+    goal-at-requires
     reduce-requires
     put-moved-requires
     add-here

@@ -10,10 +10,10 @@ use Rattle.goals.proofs.lift.least.Statement.{statement}
 use Rattle.goals.proofs.lift.least.Tie as tie
 
 abbrev Inv-loop : tie.InvT-loop
-Inv-loop ws at n best found₀ here₀ left₀ found here left = (here + 3 * left ≡ at + 3 * n) × (leastCode best (goalsFrom ws at n) ≡ leastCode found (goalsFrom ws here left))
+Inv-loop ws at n found₀ here₀ left₀ found here left = (here + 3 * left ≡ at + 3 * n) × (leastCode found₀ (goalsFrom ws at n) ≡ leastCode found (goalsFrom ws here left))
 
 abbrev μ-loop : tie.MeasureT-loop
-μ-loop ws at n best found₀ here₀ left₀ found here left = left
+μ-loop ws at n found₀ here₀ left₀ found here left = left
 
 loop-holds : tie.Need-loop-holds Inv-loop μ-loop
 loop-holds c = (refl, refl)

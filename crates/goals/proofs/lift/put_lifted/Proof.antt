@@ -1,3 +1,4 @@
+use Rattle.goals.specs.declared.Goal.{Goal}
 use Rattle.goals.proofs.LiftLaws.{lifted, lifted-next, lifted-end}
 use Rattle.goals.proofs.DeriveLaws.{run-three}
 use Rattle.goals.specs.GoalWords.{goalsFrom}
@@ -11,42 +12,27 @@ use native.Mathlib.Omega.{arith}
 use borrow.Author.Needs.{needs}
 use Rattle.goals.proofs.lift.put_lifted.Statement.{statement}
 use Rattle.goals.proofs.lift.put_lifted.Tie as tie
+use Rattle.goals.specs.declared.Goal.{Goal}
+use Rattle.goals.proofs.lift.put_lifted.Reads as reads
+use Rattle.goals.proofs.lift.put_lifted.Lts as lts
+use Rattle.goals.proofs.lift.under.Reads as under-reads
+use Rattle.goals.proofs.words.goal_at.Reads as goal-at-reads
+use Rattle.goals.proofs.words.put_goal.Reads as put-goal-reads
 
 abbrev Inv-loop : tie.InvT-loop
-Inv-loop ws at n c out₀ next₀ here₀ left₀ out next here left = (left ≤ n) × (here + 3 * left ≡ at + 3 * n) × (next + 3 * left ≡ 3 * n) × (length out ≡ length out₀) × (sets out₀ 0 (lifted c ws at n) ≡ sets out next (lifted c ws here left))
+Inv-loop ws at n top out₀ next₀ here₀ left₀ out next here left = (left ≤ n) × (here + 3 * left ≡ at + 3 * n) × (next + 3 * left ≡ 3 * n) × (length out ≡ length out₀) × (sets out₀ 0 (lifted (top .0) ws at n) ≡ sets out next (lifted (top .0) ws here left))
 
 abbrev μ-loop : tie.MeasureT-loop
-μ-loop ws at n c out₀ next₀ here₀ left₀ out next here left = left
+μ-loop ws at n top out₀ next₀ here₀ left₀ out next here left = left
 
 loop-holds : tie.Need-loop-holds Inv-loop μ-loop
 loop-holds c = (omega arith, refl, omega arith, refl, refl)
 
-add-under : tie.Need-add-under Inv-loop μ-loop
-add-under c = search needs
-
-mul-under : tie.Need-mul-under Inv-loop μ-loop
-mul-under c = search needs
-
-shared-slice-read-under : tie.Need-shared-slice-read-under Inv-loop μ-loop
-shared-slice-read-under c = search needs
+goal-at-requires : tie.Need-goal-at-requires Inv-loop μ-loop
+goal-at-requires c κs = search needs
 
 under-requires : tie.Need-under-requires Inv-loop μ-loop
 under-requires c κs = search needs
-
-mul-put-goal : tie.Need-mul-put-goal Inv-loop μ-loop
-mul-put-goal c = search needs
-
-shared-slice-read-put-goal : tie.Need-shared-slice-read-put-goal Inv-loop μ-loop
-shared-slice-read-put-goal c = search needs
-
-add-put-goal : tie.Need-add-put-goal Inv-loop μ-loop
-add-put-goal c = search needs
-
-mul-put-goal-2 : tie.Need-mul-put-goal-2 Inv-loop μ-loop
-mul-put-goal-2 c = search needs
-
-shared-slice-read-put-goal-2 : tie.Need-shared-slice-read-put-goal-2 Inv-loop μ-loop
-shared-slice-read-put-goal-2 c = search needs
 
 put-goal-requires : tie.Need-put-goal-requires Inv-loop μ-loop
 put-goal-requires c κs = let l = c .before .before .before .before .before .before .loop in omega (arith, c .before .before .before .before .before .before .before .before .before .pre .2, c .before .before .before .before .before .loop-test .taken, l .inv .2, l .inv .3)
@@ -65,22 +51,22 @@ loop-less c = search needs
 
 loop-again : tie.Need-loop-again Inv-loop μ-loop
 loop-again c = let a = c .before .before .before .before .before .before .before .before .before .before .before .before .args in let l = c .before .before .before .before .before .before .before .before .before .loop in
-    let p = lifted-next (a .c) (a .ws .now) (l .here) (l .left) (c .before .before .before .before .before .before .before .before .loop-test .taken) in
-    let rest = lifted (a .c) (a .ws .now) (l .here + 3) (l .left - 1) in
-    let u = underCode (a .c) (getD (a .ws .now) (l .here + 1) 0) in (
+    let p = lifted-next (a .top .0) (a .ws .now) (l .here) (l .left) (c .before .before .before .before .before .before .before .before .loop-test .taken) in
+    let rest = lifted (a .top .0) (a .ws .now) (l .here + 3) (l .left - 1) in
+    let u = underCode (a .top .0) (getD (a .ws .now) (l .here + 1) 0) in
+    let e = ap₂ (λ (x : ℕ) (y : Goal). sets (l .out) (l .next) (y .shape .0 ∷ x ∷ y .mask ∷ [])) (c .before .before .before .before .under .ensures ∙ ap (λ (y : Goal). underCode (a .top .0) (y .at .0)) (c .before .before .before .before .before .before .before .goal-at .ensures)) (c .before .before .before .before .before .before .before .goal-at .ensures) in (
       omega arith,
       omega arith,
       omega arith,
       c .before .before .put-goal .kept .0 ∙ l .inv .3,
-      l .inv .4 ∙ ap (sets (l .out) (l .next)) p ∙ run-three (l .out) (l .next) (getD (a .ws .now) (l .here) 0) u (getD (a .ws .now) (l .here + 2) 0) rest
-          ∙ ap (λ o. sets o (l .next + 3) rest) (ap (λ x. sets (l .out) (l .next) (getD (a .ws .now) (l .here) 0 ∷ x ∷ getD (a .ws .now) (l .here + 2) 0 ∷ [])) (sym (c .before .before .before .before .before .before .under .ensures)) ∙ sym (c .before .before .put-goal .ensures)),
+      l .inv .4 ∙ ap (sets (l .out) (l .next)) p ∙ run-three (l .out) (l .next) (getD (a .ws .now) (l .here) 0) u (getD (a .ws .now) (l .here + 2) 0) rest ∙ ap (λ o. sets o (l .next + 3) rest) (sym (c .before .before .put-goal .ensures ∙ e)),
     )
 
 same-length : tie.Need-same-length Inv-loop μ-loop
 same-length c = c .before .loop .inv .3
 
 returns : tie.Need-returns Inv-loop μ-loop
-returns c = let a = c .before .before .before .before .args in let l = c .before .loop in sym (l .inv .4 ∙ ap (sets (l .out) (l .next)) (lifted-end (a .c) (a .ws .now) (l .here) (l .left) (c .loop-test .left)))
+returns c = let a = c .before .before .before .before .args in let l = c .before .loop in sym (l .inv .4 ∙ ap (sets (l .out) (l .next)) (lifted-end (a .top .0) (a .ws .now) (l .here) (l .left) (c .loop-test .left)))
 
 pub put-lifted-spec : {M : Type 1} → statement M
 put-lifted-spec =
@@ -89,15 +75,8 @@ put-lifted-spec =
     Inv-loop
     μ-loop
     loop-holds
-    add-under
-    mul-under
-    shared-slice-read-under
+    goal-at-requires
     under-requires
-    mul-put-goal
-    shared-slice-read-put-goal
-    add-put-goal
-    mul-put-goal-2
-    shared-slice-read-put-goal-2
     put-goal-requires
     add-next
     add-here

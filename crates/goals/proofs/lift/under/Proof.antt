@@ -6,27 +6,38 @@ use native.Mathlib.Omega.{arith}
 use borrow.Author.Needs.{needs}
 use Rattle.goals.proofs.lift.under.Statement.{statement}
 use Rattle.goals.proofs.lift.under.Tie as tie
+use Rattle.goals.proofs.lift.under.Reads as reads
+use Rattle.goals.proofs.lift.under.Lts as lts
 
 abbrev Inv-loop : tie.InvT-loop
-Inv-loop g c top₀ weight₀ left₀ top weight left = (left ≤ 7) × (weight ≡ 5 ^ (7 - left)) × (underCode g c ≡ underFrom left g c top weight)
+Inv-loop top place up₀ weight₀ left₀ up weight left = (left ≤ 7) × (weight ≡ 5 ^ (7 - left)) × (underCode (top .0) (place .0) ≡ underFrom left (top .0) (place .0) up weight)
 
 abbrev μ-loop : tie.MeasureT-loop
-μ-loop g c top₀ weight₀ left₀ top weight left = left
+μ-loop top place up₀ weight₀ left₀ up weight left = left
+
+cast-up : tie.Need-cast-up Inv-loop μ-loop
+cast-up c = search needs
 
 loop-holds : tie.Need-loop-holds Inv-loop μ-loop
 loop-holds c = (omega arith, refl, refl)
 
-rem-result : tie.Need-rem-result Inv-loop μ-loop
-rem-result c = let l = c .before .before .loop in omega (arith, l .inv .1, five-le (7 - l .left) (omega arith) .0)
+cast-if1 : tie.Need-cast-if1 Inv-loop μ-loop
+cast-if1 c = search needs
 
-cast-result : tie.Need-cast-result Inv-loop μ-loop
-cast-result c = let l = c .before .before .loop in omega (arith, rem-le (c .before .before .before .args .c) (l .weight))
+cast-t8 : tie.Need-cast-t8 Inv-loop μ-loop
+cast-t8 c = search needs
+
+rem-t9 : tie.Need-rem-t9 Inv-loop μ-loop
+rem-t9 c = let l = c .before .before .before .before .loop in omega (arith, l .inv .1, five-le (7 - l .left) (omega arith) .0)
+
+cast-t10 : tie.Need-cast-t10 Inv-loop μ-loop
+cast-t10 c = let l = c .before .before .before .before .loop in omega (arith, rem-le (c .before .before .before .before .before .before .args .place .0) (l .weight))
 
 returns : tie.Need-returns Inv-loop μ-loop
-returns c = let a = c .before .before .before .args in let l = c .before .before .loop in sym (l .inv .2 ∙ under-stop (a .g) (a .c) (l .left) (l .top) (l .weight) (c .if1 .taken))
+returns c = let a = c .before .before .before .before .before .before .args in let l = c .before .before .before .before .loop in sym (l .inv .2 ∙ under-stop (a .top .0) (a .place .0) (l .left) (l .up) (l .weight) (c .before .if1 .taken))
 
 mul-weight : tie.Need-mul-weight Inv-loop μ-loop
-mul-weight c = let l = c .before .before .loop in omega (arith, l .inv .1, five-le (7 - l .left) (omega arith) .1)
+mul-weight c = let l = c .before .before .before .loop in omega (arith, l .inv .1, five-le (7 - l .left) (omega arith) .1)
 
 sub-left : tie.Need-sub-left Inv-loop μ-loop
 sub-left c = search needs
@@ -35,16 +46,19 @@ loop-less : tie.Need-loop-less Inv-loop μ-loop
 loop-less c = search needs
 
 loop-again : tie.Need-loop-again Inv-loop μ-loop
-loop-again c = let a = c .before .before .before .args in let l = c .before .before .loop in (omega arith, ap (λ w. w * 5) (l .inv .1) ∙ five-next (l .left) (c .before .loop-test .taken) (l .inv .0), l .inv .2 ∙ under-next (a .g) (a .c) (l .left) (l .top) (l .weight) (c .before .loop-test .taken) (c .if1 .left))
+loop-again c = let a = c .before .before .before .before .before .args in let l = c .before .before .before .loop in (omega arith, ap (λ w. w * 5) (l .inv .1) ∙ five-next (l .left) (c .before .before .loop-test .taken) (l .inv .0), l .inv .2 ∙ under-next (a .top .0) (a .place .0) (l .left) (l .up) (l .weight) (c .before .before .loop-test .taken) (c .if1 .left))
 
-rem-result-2 : tie.Need-rem-result-2 Inv-loop μ-loop
-rem-result-2 c = let l = c .before .loop in omega (arith, l .inv .1, five-le (7 - l .left) (omega arith) .0)
+cast-t11 : tie.Need-cast-t11 Inv-loop μ-loop
+cast-t11 c = search needs
 
-cast-result-2 : tie.Need-cast-result-2 Inv-loop μ-loop
-cast-result-2 c = let l = c .before .loop in omega (arith, rem-le (c .before .before .args .c) (l .weight))
+rem-t12 : tie.Need-rem-t12 Inv-loop μ-loop
+rem-t12 c = let l = c .before .before .loop in omega (arith, l .inv .1, five-le (7 - l .left) (omega arith) .0)
+
+cast-t13 : tie.Need-cast-t13 Inv-loop μ-loop
+cast-t13 c = let l = c .before .before .loop in omega (arith, rem-le (c .before .before .before .before .args .place .0) (l .weight))
 
 returns-2 : tie.Need-returns-2 Inv-loop μ-loop
-returns-2 c = let a = c .before .before .args in let l = c .before .loop in sym (l .inv .2 ∙ under-end (a .g) (a .c) (l .left) (l .top) (l .weight) (c .loop-test .left))
+returns-2 c = let a = c .before .before .before .before .args in let l = c .before .before .loop in sym (l .inv .2 ∙ under-end (a .top .0) (a .place .0) (l .left) (l .up) (l .weight) (c .before .loop-test .left))
 
 pub under-spec : {M : Type 1} → statement M
 under-spec =
@@ -52,14 +66,18 @@ under-spec =
     (tie.spec
     Inv-loop
     μ-loop
+    cast-up
     loop-holds
-    rem-result
-    cast-result
+    cast-if1
+    cast-t8
+    rem-t9
+    cast-t10
     returns
     mul-weight
     sub-left
     loop-less
     loop-again
-    rem-result-2
-    cast-result-2
+    cast-t11
+    rem-t12
+    cast-t13
     returns-2)

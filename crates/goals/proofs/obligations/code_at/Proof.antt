@@ -6,12 +6,22 @@ use native.Mathlib.Omega.{arith}
 use borrow.Author.Needs.{needs}
 use Rattle.goals.proofs.obligations.code_at.Statement.{statement}
 use Rattle.goals.proofs.obligations.code_at.Tie as tie
+use Rattle.goals.proofs.obligations.code_at.Reads as reads
+use Rattle.goals.proofs.obligations.code_at.Lts as lts
+
+-- src/obligations.rt:41:19
+
+cast-at : tie.Need-cast-at
+cast-at c = search needs
 
 mul-at : tie.Need-mul-at
 mul-at c = search needs
 
 add-at : tie.Need-add-at
 add-at c = search needs
+
+cast-result : tie.Need-cast-result
+cast-result c = search needs
 
 add-result : tie.Need-add-result
 add-result c = search needs
@@ -22,11 +32,11 @@ mul-result c = search needs
 shared-slice-read-result : tie.Need-shared-slice-read-result
 shared-slice-read-result c = search needs
 
-cast-result : tie.Need-cast-result
-cast-result c = omega (arith, c .shared-slice-known .given (256 + (16 * c .before .args .s + c .before .args .r)))
+cast-result-2 : tie.Need-cast-result-2
+cast-result-2 c = omega (arith, c .shared-slice-known .given (256 + (16 * c .before .before .before .args .g .shape .0 + c .before .before .before .args .r)))
 
 mul-result-2 : tie.Need-mul-result-2
-mul-result-2 c = omega (arith, word-mul (c .before .args .a) (getD (c .before .args .tab .now) (256 + (16 * c .before .args .s + c .before .args .r)) 0) (omega arith) (omega (arith, c .shared-slice-known .given (256 + (16 * c .before .args .s + c .before .args .r)))))
+mul-result-2 c = omega (arith, word-mul (c .before .before .before .args .g .at .0) (getD (c .before .before .before .args .tab .now) (256 + (16 * c .before .before .before .args .g .shape .0 + c .before .before .before .args .r)) 0) (omega arith) (omega (arith, c .shared-slice-known .given (256 + (16 * c .before .before .before .args .g .shape .0 + c .before .before .before .args .r)))))
 
 mul-result-3 : tie.Need-mul-result-3
 mul-result-3 c = search needs
@@ -34,11 +44,11 @@ mul-result-3 c = search needs
 shared-slice-read-result-2 : tie.Need-shared-slice-read-result-2
 shared-slice-read-result-2 c = search needs
 
-cast-result-2 : tie.Need-cast-result-2
-cast-result-2 c = omega (arith, c .shared-slice-known2 .given (16 * c .before .before .args .s + c .before .before .args .r))
+cast-result-3 : tie.Need-cast-result-3
+cast-result-3 c = omega (arith, c .shared-slice-known2 .given (16 * c .before .before .before .before .args .g .shape .0 + c .before .before .before .before .args .r))
 
 add-result-2 : tie.Need-add-result-2
-add-result-2 c = omega (arith, c .shared-slice-known2 .given (16 * c .before .before .args .s + c .before .before .args .r), word-mul (c .before .before .args .a) (getD (c .before .before .args .tab .now) (256 + (16 * c .before .before .args .s + c .before .before .args .r)) 0) (omega arith) (omega (arith, c .before .shared-slice-known .given (256 + (16 * c .before .before .args .s + c .before .before .args .r)))))
+add-result-2 c = omega (arith, c .shared-slice-known2 .given (16 * c .before .before .before .before .args .g .shape .0 + c .before .before .before .before .args .r), word-mul (c .before .before .before .before .args .g .at .0) (getD (c .before .before .before .before .args .tab .now) (256 + (16 * c .before .before .before .before .args .g .shape .0 + c .before .before .before .before .args .r)) 0) (omega arith) (omega (arith, c .before .shared-slice-known .given (256 + (16 * c .before .before .before .before .args .g .shape .0 + c .before .before .before .before .args .r)))))
 
 returns : tie.Need-returns
 returns c = refl
@@ -47,15 +57,17 @@ pub code-at-spec : {M : Type 1} → statement M
 code-at-spec =
     tie.close
     (tie.spec
+    cast-at
     mul-at
     add-at
+    cast-result
     add-result
     mul-result
     shared-slice-read-result
-    cast-result
+    cast-result-2
     mul-result-2
     mul-result-3
     shared-slice-read-result-2
-    cast-result-2
+    cast-result-3
     add-result-2
     returns)

@@ -9,6 +9,8 @@ use native.Mathlib.Omega.{arith}
 use borrow.Author.Needs.{needs}
 use Rattle.goals.proofs.obligations.common.Statement.{statement}
 use Rattle.goals.proofs.obligations.common.Tie as tie
+use Rattle.goals.proofs.obligations.common.Reads as reads
+use Rattle.goals.proofs.obligations.common.Lts as lts
 
 abbrev Inv-loop : tie.InvT-loop
 Inv-loop a b i x j₀ j = hasCode x b ≡ hasCode x (drop j b)

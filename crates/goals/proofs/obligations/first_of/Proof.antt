@@ -8,6 +8,9 @@ use native.Mathlib.Omega.{arith}
 use borrow.Author.Needs.{needs}
 use Rattle.goals.proofs.obligations.first_of.Statement.{statement}
 use Rattle.goals.proofs.obligations.first_of.Tie as tie
+use Rattle.goals.proofs.obligations.first_of.Reads as reads
+use Rattle.goals.proofs.obligations.first_of.Lts as lts
+use Rattle.goals.proofs.obligations.padded.Reads as padded-reads
 
 abbrev Inv-loop : tie.InvT-loop
 Inv-loop cs best found₀ i₀ found i = firstCode best cs ≡ firstCode found (drop i cs)

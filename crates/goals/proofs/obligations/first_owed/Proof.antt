@@ -8,6 +8,12 @@ use native.Mathlib.Omega.{arith}
 use borrow.Author.Needs.{needs}
 use Rattle.goals.proofs.obligations.first_owed.Statement.{statement}
 use Rattle.goals.proofs.obligations.first_owed.Tie as tie
+use Rattle.goals.proofs.obligations.first_owed.Reads as reads
+use Rattle.goals.proofs.obligations.first_owed.Lts as lts
+use Rattle.goals.proofs.obligations.first_of.Reads as first-of-reads
+use Rattle.goals.proofs.obligations.owed.Reads as owed-reads
+
+-- src/obligations.rt:150:26
 
 slice-aggregate-owed : tie.Need-slice-aggregate-owed
 slice-aggregate-owed c = search needs
@@ -22,7 +28,7 @@ part-first-of-start : tie.Need-part-first-of-start
 part-first-of-start c = search needs
 
 part-first-of-end : tie.Need-part-first-of-end
-part-first-of-end c = let a = c .before .before .before .before .before .args in omega (arith, c .before .before .owed .ensures .0, owed-short (a .tab .now) (a .s) (a .a) (sizeOf (a .tab .now) (a .s)) 0 (a .m), c .before .before .before .before .before .pre .0 .sizes (a .s) (c .before .before .before .before .before .pre .1), c .before .before .owed .kept .1 .1 .1 .1 .0)
+part-first-of-end c = let a = c .before .before .before .before .before .args in omega (arith, c .before .before .owed .ensures .0, owed-short (a .tab .now) (a .g .shape .0) (a .g .at .0) (sizeOf (a .tab .now) (a .g .shape .0)) 0 (a .g .mask), c .before .before .before .before .before .pre .0 .sizes (a .g .shape .0) (c .before .before .before .before .before .pre .1), c .before .before .owed .kept .1 .1 .0)
 
 first-of-requires : tie.Need-first-of-requires
 first-of-requires c κs = search needs
@@ -30,9 +36,9 @@ first-of-requires c κs = search needs
 returns : tie.Need-returns
 returns c = let a = c .before .before .before .before .before .before .before .args in
     let zs = replicate {A = ℕ} 16 0 in
-    let xs = owedCodes (a .tab .now) (a .s) (a .a) (a .m) in
+    let xs = owedCodes (a .tab .now) (a .g .shape .0) (a .g .at .0) (a .g .mask) in
     c .first-of .ensures ∙ ap (firstCode (a .best))
-    (ap (λ l. take (c .before .before .before .before .owed .result - 0) (drop 0 l)) (c .before .before .before .before .owed .ensures .1) ∙ front zs xs (c .before .before .before .before .owed .result) (omega (arith, owed-short (a .tab .now) (a .s) (a .a) (sizeOf (a .tab .now) (a .s)) 0 (a .m), c .before .before .before .before .before .before .before .pre .0 .sizes (a .s) (c .before .before .before .before .before .before .before .pre .1))) (c .before .before .before .before .owed .ensures .0))
+    (ap (λ l. take (c .before .before .before .before .owed .result - 0) (drop 0 l)) (c .before .before .before .before .owed .ensures .1) ∙ front zs xs (c .before .before .before .before .owed .result) (omega (arith, owed-short (a .tab .now) (a .g .shape .0) (a .g .at .0) (sizeOf (a .tab .now) (a .g .shape .0)) 0 (a .g .mask), c .before .before .before .before .before .before .before .pre .0 .sizes (a .g .shape .0) (c .before .before .before .before .before .before .before .pre .1))) (c .before .before .before .before .owed .ensures .0))
 
 pub first-owed-spec : {M : Type 1} → statement M
 first-owed-spec =

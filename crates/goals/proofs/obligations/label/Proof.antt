@@ -1,3 +1,4 @@
+use Rattle.goals.specs.declared.Goal.{Goal}
 use Rattle.goals.proofs.GoalLaws.{label-on, label-off, label-end, low-next}
 use Rattle.goals.specs.GoalWords.{owedCodes, sizeOf, firstCode, labelCode, rootCodes, goalsFrom, Low}
 use mathlib.Core.Logic.{⊎-elim}
@@ -8,6 +9,11 @@ use native.Mathlib.Omega.{arith}
 use borrow.Author.Needs.{needs}
 use Rattle.goals.proofs.obligations.label.Statement.{statement}
 use Rattle.goals.proofs.obligations.label.Tie as tie
+use Rattle.goals.specs.declared.Goal.{Goal}
+use Rattle.goals.proofs.obligations.label.Reads as reads
+use Rattle.goals.proofs.obligations.label.Lts as lts
+use Rattle.goals.proofs.obligations.first_owed.Reads as first-owed-reads
+use Rattle.goals.proofs.words.goal_at.Reads as goal-at-reads
 
 abbrev Inv-loop : tie.InvT-loop
 Inv-loop tab ws at n best₀ here₀ left₀ best here left = (here + 3 * left ≡ at + 3 * n) × Low (goalsFrom ws here left) × (labelCode tab (goalsFrom ws at n) ≡ firstCode best (rootCodes tab (goalsFrom ws here left)))
@@ -18,35 +24,11 @@ abbrev μ-loop : tie.MeasureT-loop
 loop-holds : tie.Need-loop-holds Inv-loop μ-loop
 loop-holds c = (refl, c .before .before .pre .3, refl)
 
-add-if1 : tie.Need-add-if1 Inv-loop μ-loop
-add-if1 c = search needs
-
-mul-if1 : tie.Need-mul-if1 Inv-loop μ-loop
-mul-if1 c = search needs
-
-shared-slice-read-if1 : tie.Need-shared-slice-read-if1 Inv-loop μ-loop
-shared-slice-read-if1 c = search needs
-
-mul-first-owed : tie.Need-mul-first-owed Inv-loop μ-loop
-mul-first-owed c = search needs
-
-shared-slice-read-first-owed : tie.Need-shared-slice-read-first-owed Inv-loop μ-loop
-shared-slice-read-first-owed c = search needs
-
-cast-first-owed : tie.Need-cast-first-owed Inv-loop μ-loop
-cast-first-owed c = omega (arith, low-next (c .before .before .before .before .before .before .before .args .ws .now) (c .before .before .before .before .loop .here) (c .before .before .before .before .loop .left) (c .before .before .before .loop-test .taken) (c .before .before .before .before .loop .inv .1) .0)
-
-add-first-owed : tie.Need-add-first-owed Inv-loop μ-loop
-add-first-owed c = search needs
-
-mul-first-owed-2 : tie.Need-mul-first-owed-2 Inv-loop μ-loop
-mul-first-owed-2 c = search needs
-
-shared-slice-read-first-owed-2 : tie.Need-shared-slice-read-first-owed-2 Inv-loop μ-loop
-shared-slice-read-first-owed-2 c = search needs
+goal-at-requires : tie.Need-goal-at-requires Inv-loop μ-loop
+goal-at-requires c κs = search needs
 
 first-owed-requires : tie.Need-first-owed-requires Inv-loop μ-loop
-first-owed-requires c κs = (c .before .before .before .before .before .before .before .before .pre .0, low-next (c .before .before .before .before .before .before .before .before .args .ws .now) (c .before .before .before .before .before .loop .here) (c .before .before .before .before .before .loop .left) (c .before .before .before .before .loop-test .taken) (c .before .before .before .before .before .loop .inv .1) .0)
+first-owed-requires c κs = rw (c .before .before .goal-at .ensures) (c .before .before .before .before .before .before .before .pre .0, low-next (c .before .before .before .before .before .before .before .args .ws .now) (c .before .before .before .before .loop .here) (c .before .before .before .before .loop .left) (c .before .before .before .loop-test .taken) (c .before .before .before .before .loop .inv .1) .0)
 
 add-here : tie.Need-add-here Inv-loop μ-loop
 add-here c = search needs
@@ -58,11 +40,12 @@ loop-less : tie.Need-loop-less Inv-loop μ-loop
 loop-less c = search needs
 
 loop-again : tie.Need-loop-again Inv-loop μ-loop
-loop-again c = let a = c .before .before .before .before .before .before .args in let l = c .before .before .before .loop in
-    let low = low-next (a .ws .now) (l .here) (l .left) (c .before .before .loop-test .taken) (l .inv .1) .1 in
+loop-again c = let a = c .before .before .before .before .before .before .before .args in let l = c .before .before .before .before .loop in
+    let low = low-next (a .ws .now) (l .here) (l .left) (c .before .before .before .loop-test .taken) (l .inv .1) .1 in
+    let at = ap (λ (x : Goal). x .at .0) (c .before .before .goal-at .ensures) in
     ⊎-elim
-    (λ w. (omega arith, low, l .inv .2 ∙ label-on (a .tab .now) (a .ws .now) (l .here) (l .left) (l .best) (c .before .before .loop-test .taken) (w .0 .taken) ∙ rw (w .4, w .3 .ensures) refl))
-    (λ w. (omega arith, low, l .inv .2 ∙ rw (w .1) (label-off (a .tab .now) (a .ws .now) (l .here) (l .left) (l .best) (c .before .before .loop-test .taken) (w .0 .left))))
+    (λ w. (omega arith, low, l .inv .2 ∙ label-on (a .tab .now) (a .ws .now) (l .here) (l .left) (l .best) (c .before .before .before .loop-test .taken) (sym at ∙ w .0 .taken) ∙ rw (w .2, w .1 .ensures, c .before .before .goal-at .ensures, sym at ∙ w .0 .taken) refl))
+    (λ w. (omega arith, low, l .inv .2 ∙ rw (w .1) (label-off (a .tab .now) (a .ws .now) (l .here) (l .left) (l .best) (c .before .before .before .loop-test .taken) (λ z. w .0 .left (at ∙ z)))))
     (c .if1 .came)
 
 returns : tie.Need-returns Inv-loop μ-loop
@@ -75,15 +58,7 @@ label-spec =
     Inv-loop
     μ-loop
     loop-holds
-    add-if1
-    mul-if1
-    shared-slice-read-if1
-    mul-first-owed
-    shared-slice-read-first-owed
-    cast-first-owed
-    add-first-owed
-    mul-first-owed-2
-    shared-slice-read-first-owed-2
+    goal-at-requires
     first-owed-requires
     add-here
     sub-left

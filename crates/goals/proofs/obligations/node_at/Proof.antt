@@ -9,12 +9,18 @@ use native.Mathlib.Omega.{arith}
 use borrow.Author.Needs.{needs}
 use Rattle.goals.proofs.obligations.node_at.Statement.{statement}
 use Rattle.goals.proofs.obligations.node_at.Tie as tie
+use Rattle.goals.proofs.obligations.node_at.Reads as reads
+use Rattle.goals.proofs.obligations.node_at.Lts as lts
+use Rattle.goals.proofs.obligations.code_at.Reads as code-at-reads
 
 abbrev Inv-loop : tie.InvT-loop
-Inv-loop tab s a m c left₀ mask₀ r₀ left mask r = (r + left ≡ sizeOf tab s) × (nodeAt tab s a m c ≡ nodeFrom tab s a c left r mask)
+Inv-loop tab g here left₀ mask₀ r₀ left mask r = (r + left ≡ sizeOf tab (g .shape .0)) × (nodeAt tab (g .shape .0) (g .at .0) (g .mask) (here .0) ≡ nodeFrom tab (g .shape .0) (g .at .0) (here .0) left r mask)
 
 abbrev μ-loop : tie.MeasureT-loop
-μ-loop tab s a m c left₀ mask₀ r₀ left mask r = left
+μ-loop tab g here left₀ mask₀ r₀ left mask r = left
+
+cast-left : tie.Need-cast-left Inv-loop μ-loop
+cast-left c = search needs
 
 mul-left : tie.Need-mul-left Inv-loop μ-loop
 mul-left c = search needs
@@ -28,20 +34,23 @@ mul-left-2 c = search needs
 shared-slice-read-left : tie.Need-shared-slice-read-left Inv-loop μ-loop
 shared-slice-read-left c = search needs
 
-cast-left : tie.Need-cast-left Inv-loop μ-loop
-cast-left c = omega (arith, c .shared-slice-known2 .given (512 + 16 * c .before .before .args .s))
+cast-left-2 : tie.Need-cast-left-2 Inv-loop μ-loop
+cast-left-2 c = omega (arith, c .shared-slice-known2 .given (512 + 16 * c .before .before .before .args .g .shape .0))
 
 loop-holds : tie.Need-loop-holds Inv-loop μ-loop
 loop-holds c = (omega arith, refl)
 
 code-at-requires : tie.Need-code-at-requires Inv-loop μ-loop
-code-at-requires c κs = (c .before .before .before .before .before .pre .0, c .before .before .before .before .before .pre .1, omega (arith, c .before .before .before .before .before .pre .0 .sizes (c .before .before .before .before .before .args .s) (c .before .before .before .before .before .pre .1)))
+code-at-requires c κs = (c .before .before .before .before .before .before .pre .0, c .before .before .before .before .before .before .pre .1, omega (arith, c .before .before .before .before .before .before .pre .0 .sizes (c .before .before .before .before .before .before .args .g .shape .0) (c .before .before .before .before .before .before .pre .1)))
+
+cast-if2 : tie.Need-cast-if2 Inv-loop μ-loop
+cast-if2 c = search needs
 
 returns : tie.Need-returns Inv-loop μ-loop
-returns c = sym (c .before .before .before .before .loop .inv .1 ∙ node-here _ _ _ _ _ _ _ (c .before .before .before .loop-test .taken) (c .before .before .if1 .taken) (sym (c .before .code-at .ensures) ∙ c .if2 .taken))
+returns c = sym (c .before .before .before .before .before .loop .inv .1 ∙ node-here _ _ _ _ _ _ _ (c .before .before .before .before .loop-test .taken) (c .before .before .before .if1 .taken) (sym (c .before .before .code-at .ensures) ∙ c .if2 .taken))
 
 add-r : tie.Need-add-r Inv-loop μ-loop
-add-r c = omega (arith, c .before .before .before .before .before .pre .0 .sizes (c .before .before .before .before .before .args .s) (c .before .before .before .before .before .pre .1))
+add-r c = omega (arith, c .before .before .before .before .before .before .pre .0 .sizes (c .before .before .before .before .before .before .args .g .shape .0) (c .before .before .before .before .before .before .pre .1))
 
 sub-left : tie.Need-sub-left Inv-loop μ-loop
 sub-left c = search needs
@@ -51,11 +60,11 @@ loop-less c = search needs
 
 loop-again : tie.Need-loop-again Inv-loop μ-loop
 loop-again c =
-    let a = c .before .before .before .before .before .args in
+    let a = c .before .before .before .before .before .before .args in
     let l = c .before .before .loop in
     ⊎-elim
-    (λ w. (omega arith, l .inv .1 ∙ node-other (a .tab .now) (a .s) (a .a) (a .c) (l .left) (l .r) (l .mask) (c .before .loop-test .taken) (w .0 .taken) (λ e. w .2 .left (w .1 .ensures ∙ e))))
-    (λ w. (omega arith, l .inv .1 ∙ node-off (a .tab .now) (a .s) (a .a) (a .c) (l .left) (l .r) (l .mask) (c .before .loop-test .taken) (w .left)))
+    (λ w. (omega arith, l .inv .1 ∙ node-other (a .tab .now) (a .g .shape .0) (a .g .at .0) (a .here .0) (l .left) (l .r) (l .mask) (c .before .loop-test .taken) (w .0 .taken) (λ e. w .3 .left (w .1 .ensures ∙ e))))
+    (λ w. (omega arith, l .inv .1 ∙ node-off (a .tab .now) (a .g .shape .0) (a .g .at .0) (a .here .0) (l .left) (l .r) (l .mask) (c .before .loop-test .taken) (w .left)))
     (c .if1 .came)
 
 returns-2 : tie.Need-returns-2 Inv-loop μ-loop
@@ -67,13 +76,15 @@ node-at-spec =
     (tie.spec
     Inv-loop
     μ-loop
+    cast-left
     mul-left
     add-left
     mul-left-2
     shared-slice-read-left
-    cast-left
+    cast-left-2
     loop-holds
     code-at-requires
+    cast-if2
     returns
     add-r
     sub-left

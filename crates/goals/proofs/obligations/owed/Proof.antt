@@ -1,6 +1,7 @@
 use mathlib.Core.Path.{_≡_, refl, ap, ap₂, sym, _∙_}
 use Rattle.goals.proofs.GoalLaws.{owed-on, owed-off, owed-end, run-on}
-use Rattle.goals.specs.GoalWords.{owedFrom, owedCodes, sizeOf, codeAt, Tabled}
+use Rattle.goals.specs.GoalWords.{owedFrom, owedBy, sizeOf, codeAt, Tabled}
+use Rattle.goals.specs.GoalKinds.{wordsOf}
 use mathlib.Core.Logic.{⊎-elim}
 use lib.Seq.{sets}
 use lib.ListN.{length, getD, drop, set, length-set}
@@ -10,12 +11,20 @@ use native.Mathlib.Omega.{arith}
 use borrow.Author.Needs.{needs}
 use Rattle.goals.proofs.obligations.owed.Statement.{statement}
 use Rattle.goals.proofs.obligations.owed.Tie as tie
+use Rattle.goals.specs.GoalWords.{owedFrom, owedBy, sizeOf, codeAt, Tabled}
+use Rattle.goals.specs.GoalKinds.{wordsOf}
+use Rattle.goals.proofs.obligations.owed.Reads as reads
+use Rattle.goals.proofs.obligations.owed.Lts as lts
+use Rattle.goals.proofs.obligations.code_at.Reads as code-at-reads
 
 abbrev Inv-loop : tie.InvT-loop
-Inv-loop tab s a m out₀ left₀ mask₀ r₀ k₀ out left mask r k = (length out ≡ length out₀) × (r + left ≡ sizeOf tab s) × (k ≤ r) × (k + length (owedFrom tab s a left r mask) ≡ length (owedCodes tab s a m)) × (sets out₀ 0 (owedCodes tab s a m) ≡ sets out k (owedFrom tab s a left r mask))
+Inv-loop tab g out₀ left₀ mask₀ r₀ k₀ out left mask r k = (length out ≡ length out₀) × (r + left ≡ sizeOf tab (g .shape .0)) × (k ≤ r) × (k + length (owedFrom tab (g .shape .0) (g .at .0) left r mask) ≡ length (owedBy tab (wordsOf g))) × (sets out₀ 0 (owedBy tab (wordsOf g)) ≡ sets out k (owedFrom tab (g .shape .0) (g .at .0) left r mask))
 
 abbrev μ-loop : tie.MeasureT-loop
-μ-loop tab s a m out₀ left₀ mask₀ r₀ k₀ out left mask r k = left
+μ-loop tab g out₀ left₀ mask₀ r₀ k₀ out left mask r k = left
+
+cast-left : tie.Need-cast-left Inv-loop μ-loop
+cast-left c = search needs
 
 mul-left : tie.Need-mul-left Inv-loop μ-loop
 mul-left c = search needs
@@ -29,26 +38,26 @@ mul-left-2 c = search needs
 shared-slice-read-left : tie.Need-shared-slice-read-left Inv-loop μ-loop
 shared-slice-read-left c = search needs
 
-cast-left : tie.Need-cast-left Inv-loop μ-loop
-cast-left c = omega (arith, c .shared-slice-known2 .given (512 + 16 * c .before .before .before .args .s))
+cast-left-2 : tie.Need-cast-left-2 Inv-loop μ-loop
+cast-left-2 c = omega (arith, c .shared-slice-known2 .given (512 + 16 * c .before .before .before .before .args .g .shape .0))
 
 loop-holds : tie.Need-loop-holds Inv-loop μ-loop
 loop-holds c = (refl, omega arith, omega arith, omega arith, refl)
 
 code-at-requires : tie.Need-code-at-requires Inv-loop μ-loop
-code-at-requires c κs = (c .before .before .before .before .before .before .pre .0, c .before .before .before .before .before .before .pre .1, omega (arith, c .before .before .before .before .before .before .pre .0 .sizes (c .before .before .before .before .before .before .args .s) (c .before .before .before .before .before .before .pre .1)))
+code-at-requires c κs = (c .before .before .before .before .before .before .before .pre .0, c .before .before .before .before .before .before .before .pre .1, omega (arith, c .before .before .before .before .before .before .before .pre .0 .sizes (c .before .before .before .before .before .before .before .args .g .shape .0) (c .before .before .before .before .before .before .before .pre .1)))
 
 mul-out : tie.Need-mul-out Inv-loop μ-loop
-mul-out c = omega (arith, c .before .before .before .before .before .before .before .pre .0 .sizes (c .before .before .before .before .before .before .before .args .s) (c .before .before .before .before .before .before .before .pre .1))
+mul-out c = omega (arith, c .before .before .before .before .before .before .before .before .pre .0 .sizes (c .before .before .before .before .before .before .before .before .args .g .shape .0) (c .before .before .before .before .before .before .before .before .pre .1))
 
 slice-write-out : tie.Need-slice-write-out Inv-loop μ-loop
-slice-write-out c = omega (arith, c .before .before .before .before .before .before .before .pre .0 .sizes (c .before .before .before .before .before .before .before .args .s) (c .before .before .before .before .before .before .before .pre .1))
+slice-write-out c = omega (arith, c .before .before .before .before .before .before .before .before .pre .0 .sizes (c .before .before .before .before .before .before .before .before .args .g .shape .0) (c .before .before .before .before .before .before .before .before .pre .1))
 
 add-k : tie.Need-add-k Inv-loop μ-loop
-add-k c = omega (arith, c .before .before .before .before .before .before .before .pre .0 .sizes (c .before .before .before .before .before .before .before .args .s) (c .before .before .before .before .before .before .before .pre .1))
+add-k c = omega (arith, c .before .before .before .before .before .before .before .before .pre .0 .sizes (c .before .before .before .before .before .before .before .before .args .g .shape .0) (c .before .before .before .before .before .before .before .before .pre .1))
 
 add-r : tie.Need-add-r Inv-loop μ-loop
-add-r c = omega (arith, c .before .before .before .before .before .before .pre .0 .sizes (c .before .before .before .before .before .before .args .s) (c .before .before .before .before .before .before .pre .1))
+add-r c = omega (arith, c .before .before .before .before .before .before .before .pre .0 .sizes (c .before .before .before .before .before .before .before .args .g .shape .0) (c .before .before .before .before .before .before .before .pre .1))
 
 sub-left : tie.Need-sub-left Inv-loop μ-loop
 sub-left c = search needs
@@ -58,17 +67,17 @@ loop-less c = search needs
 
 loop-again : tie.Need-loop-again Inv-loop μ-loop
 loop-again c =
-    let a = c .before .before .before .before .before .before .args in
+    let a = c .before .before .before .before .before .before .before .args in
     let l = c .before .before .loop in
     ⊎-elim
-    (λ w. let e = owed-on (a .tab .now) (a .s) (a .a) (l .left) (l .r) (l .mask) (c .before .loop-test .taken) (w .0 .taken) in (
+    (λ w. let e = owed-on (a .tab .now) (a .g .shape .0) (a .g .at .0) (l .left) (l .r) (l .mask) (c .before .loop-test .taken) (w .0 .taken) in (
       ap length (w .2) ∙ length-set (l .out) (l .k) _ ∙ l .inv .0,
       omega arith,
       omega (arith, w .3),
       omega (arith, w .3, ap length e),
-      rw (w .2, w .3, w .1 .ensures) (l .inv .4 ∙ ap (sets (l .out) (l .k)) e ∙ run-on (l .out) (l .k) (codeAt (a .tab .now) (a .s) (a .a) (l .r)) (owedFrom (a .tab .now) (a .s) (a .a) (l .left - 1) (l .r + 1) (l .mask / 2))),
+      rw (w .2, w .3, w .1 .ensures) (l .inv .4 ∙ ap (sets (l .out) (l .k)) e ∙ run-on (l .out) (l .k) (codeAt (a .tab .now) (a .g .shape .0) (a .g .at .0) (l .r)) (owedFrom (a .tab .now) (a .g .shape .0) (a .g .at .0) (l .left - 1) (l .r + 1) (l .mask / 2))),
     ))
-    (λ w. let e = owed-off (a .tab .now) (a .s) (a .a) (l .left) (l .r) (l .mask) (c .before .loop-test .taken) (w .0 .left) in (
+    (λ w. let e = owed-off (a .tab .now) (a .g .shape .0) (a .g .at .0) (l .left) (l .r) (l .mask) (c .before .loop-test .taken) (w .0 .left) in (
       ap length (w .1) ∙ l .inv .0,
       omega arith,
       omega (arith, w .2),
@@ -82,9 +91,9 @@ same-length c = search needs
 
 returns : tie.Need-returns Inv-loop μ-loop
 returns c =
-    let a = c .before .before .before .before .before .args in
+    let a = c .before .before .before .before .before .before .args in
     let l = c .before .loop in
-    let e = owed-end (a .tab .now) (a .s) (a .a) (l .left) (l .r) (l .mask) (c .loop-test .left) in
+    let e = owed-end (a .tab .now) (a .g .shape .0) (a .g .at .0) (l .left) (l .r) (l .mask) (c .loop-test .left) in
     (omega (arith, ap length e), sym (l .inv .4 ∙ ap (sets (l .out) (l .k)) e))
 
 pub owed-spec : {M : Type 1} → statement M
@@ -93,11 +102,12 @@ owed-spec =
     (tie.spec
     Inv-loop
     μ-loop
+    cast-left
     mul-left
     add-left
     mul-left-2
     shared-slice-read-left
-    cast-left
+    cast-left-2
     loop-holds
     code-at-requires
     mul-out

@@ -2,6 +2,10 @@ use borrow.Author.Tests.{lt-ltb, le-ltb}
 use borrow.Author.Needs.{needs}
 use Rattle.goals.proofs.obligations.padded.Statement.{statement}
 use Rattle.goals.proofs.obligations.padded.Tie as tie
+use Rattle.goals.proofs.obligations.padded.Reads as reads
+use Rattle.goals.proofs.obligations.padded.Lts as lts
+
+-- src/obligations.rt:19:16
 
 mul-result : tie.Need-mul-result
 mul-result c = search needs

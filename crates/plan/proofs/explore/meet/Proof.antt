@@ -21,56 +21,47 @@ use Rattle.plan.proofs.states.add_state.Reads as add-state-reads
 use Rattle.plan.proofs.states.find_state.Reads as find-state-reads
 
 -- src/explore.rt:132:41
+-- src/explore.rt:185:41
+
 slice-aggregate-put-class : tie.Need-slice-aggregate-put-class
 slice-aggregate-put-class c = search needs
 
--- src/explore.rt:132:13
 put-class-requires : tie.Need-put-class-requires
 put-class-requires c κs = let h = class-room (c .before .before .before .args .dep .now) (c .before .before .before .args .goals .now) (c .before .before .before .args .n) (c .before .before .before .args .r) (c .before .before .before .pre .1) in (c .before .before .before .pre .1, c .before .before .before .pre .4, c .before .before .before .pre .3, c .before .before .before .pre .2, h)
 
--- src/explore.rt:134:9
 returns : tie.Need-returns
 returns c = let K = classAt (c .before .before .before .before .before .before .args .dep .now) (c .before .before .before .before .before .before .args .goals .now) (c .before .before .before .before .before .before .args .n) (c .before .before .before .before .before .before .args .r) in
     let e = flat-thirds K (c .before .before .put-class .result) (c .before .before .put-class .ensures .0) in
     let h = c .if1 .taken in
     (meet-big (words [] 0) (statesIn (c .before .before .before .before .before .before .args .scratch .now) (c .before .before .before .before .before .before .args .m)) K (omega (arith, h, e)), refl)
 
--- src/explore.rt:137:21
 slice-aggregate-least : tie.Need-slice-aggregate-least
 slice-aggregate-least c = search needs
 
--- src/explore.rt:137:9
 least-requires : tie.Need-least-requires
 least-requires c κs = let K = classAt (c .before .before .before .before .before .before .before .args .dep .now) (c .before .before .before .before .before .before .before .args .goals .now) (c .before .before .before .before .before .before .before .args .n) (c .before .before .before .before .before .before .before .args .r) in
     let e = flat-thirds K (c .before .before .before .put-class .result) (c .before .before .before .put-class .ensures .0) in
     let f = class-few (c .before .before .before .before .before .before .before .args .dep .now) (c .before .before .before .before .before .before .before .args .goals .now) (c .before .before .before .before .before .before .before .args .n) (c .before .before .before .before .before .before .before .args .r) (c .before .before .before .before .before .before .before .pre .1) in
     search needs
 
--- src/explore.rt:138:16
 slice-aggregate-put-lifted : tie.Need-slice-aggregate-put-lifted
 slice-aggregate-put-lifted c = search needs
 
--- src/explore.rt:138:35
 slice-aggregate-put-lifted-2 : tie.Need-slice-aggregate-put-lifted-2
 slice-aggregate-put-lifted-2 c = search needs
 
--- src/explore.rt:138:5
 put-lifted-requires : tie.Need-put-lifted-requires
 put-lifted-requires c κs = search needs
 
--- src/explore.rt:139:31
 slice-aggregate-find-state : tie.Need-slice-aggregate-find-state
 slice-aggregate-find-state c = search needs
 
--- src/explore.rt:139:8
 find-state-requires : tie.Need-find-state-requires
 find-state-requires c κs = search needs
 
--- src/explore.rt:140:9
 same-length : tie.Need-same-length
 same-length c = search needs
 
--- src/explore.rt:140:9
 returns-2 : tie.Need-returns-2
 returns-2 c = let a = c .before .before .before .before .before .before .before .before .before .before .before .before .before .before .before .before .args in let K = classAt (a .dep .now) (a .goals .now) (a .n) (a .r) in
     let f = class-few (a .dep .now) (a .goals .now) (a .n) (a .r) (c .before .before .before .before .before .before .before .before .before .before .before .before .before .before .before .before .pre .1) in
@@ -78,11 +69,9 @@ returns-2 c = let a = c .before .before .before .before .before .before .before 
     let l = lifting K (replicate {A = ℕ} 288 0) _ (replicate {A = ℕ} 96 0) _ (c .before .before .before .before .before .before .before .before .before .before .before .before .put-class .result) _ (c .before .before .before .before .before .before .before .before .before .before .before .before .put-class .ensures .0) (c .before .before .before .before .before .before .before .before .before .before .before .before .put-class .ensures .1) (omega (arith, f)) (c .before .before .before .before .before .before .before .before .least .ensures) (c .before .before .before .before .before .put-lifted .ensures) (omega (arith, e, c .before .before .before .before .before .before .before .before .before .before .if1 .left)) in
     (met-known (a .scratch .now) (a .m) (c .before .before .before .before .before .before .before .before .before .before .before .before .before .before .before .before .pre .0) K _ _ _ _ l (c .before .before .before .before .before .before .before .before .before .before .if1 .left) (c .before .find-state .ensures) (c .if2 .taken), refl)
 
--- src/explore.rt:143:9
 same-length-2 : tie.Need-same-length-2
 same-length-2 c = search needs
 
--- src/explore.rt:143:9
 returns-3 : tie.Need-returns-3
 returns-3 c = let a = c .before .before .before .before .before .before .before .before .before .before .before .before .before .before .before .before .before .args in let K = classAt (a .dep .now) (a .goals .now) (a .n) (a .r) in
     let f = class-few (a .dep .now) (a .goals .now) (a .n) (a .r) (c .before .before .before .before .before .before .before .before .before .before .before .before .before .before .before .before .before .pre .1) in
@@ -90,23 +79,18 @@ returns-3 c = let a = c .before .before .before .before .before .before .before 
     let l = lifting K (replicate {A = ℕ} 288 0) _ (replicate {A = ℕ} 96 0) _ (c .before .before .before .before .before .before .before .before .before .before .before .before .before .put-class .result) _ (c .before .before .before .before .before .before .before .before .before .before .before .before .before .put-class .ensures .0) (c .before .before .before .before .before .before .before .before .before .before .before .before .before .put-class .ensures .1) (omega (arith, f)) (c .before .before .before .before .before .before .before .before .before .least .ensures) (c .before .before .before .before .before .before .put-lifted .ensures) (omega (arith, e, c .before .before .before .before .before .before .before .before .before .before .before .if1 .left)) in
     (met-full (a .scratch .now) (a .m) (c .before .before .before .before .before .before .before .before .before .before .before .before .before .before .before .before .before .pre .0) K _ _ _ _ l (c .before .before .before .before .before .before .before .before .before .before .before .if1 .left) (c .before .before .find-state .ensures) (c .before .if2 .left) (c .if3 .taken), refl)
 
--- src/explore.rt:145:27
 slice-aggregate-add-state : tie.Need-slice-aggregate-add-state
 slice-aggregate-add-state c = search needs
 
--- src/explore.rt:145:5
 add-state-requires : tie.Need-add-state-requires
 add-state-requires c κs = search needs
 
--- src/explore.rt:146:13
 add-t11 : tie.Need-add-t11
 add-t11 c = search needs
 
--- src/explore.rt:126:1
 same-length-3 : tie.Need-same-length-3
 same-length-3 c = search needs
 
--- src/explore.rt:126:1
 returns-4 : tie.Need-returns-4
 returns-4 c = let a = c .before .before .before .before .before .before .before .before .before .before .before .before .before .before .before .before .before .before .before .before .before .before .args in let K = classAt (a .dep .now) (a .goals .now) (a .n) (a .r) in
     let f = class-few (a .dep .now) (a .goals .now) (a .n) (a .r) (c .before .before .before .before .before .before .before .before .before .before .before .before .before .before .before .before .before .before .before .before .before .before .pre .1) in

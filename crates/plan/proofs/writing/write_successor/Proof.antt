@@ -22,70 +22,56 @@ use Rattle.goals.proofs.lift.put_lifted.Reads as put-lifted-reads
 use Rattle.plan.proofs.states.find_state.Reads as find-state-reads
 
 -- src/writing.rt:125:41
+-- src/writing.rt:219:41
+
 slice-aggregate-put-class : tie.Need-slice-aggregate-put-class
 slice-aggregate-put-class c = search needs
 
--- src/writing.rt:125:13
 put-class-requires : tie.Need-put-class-requires
 put-class-requires c κs = let h = class-room (c .before .before .before .before .args .dep .now) (c .before .before .before .before .args .goals .now) (c .before .before .before .before .args .n) (c .before .before .before .before .args .r) (c .before .before .before .before .pre .1) in (c .before .before .before .before .pre .1, c .before .before .before .before .pre .4, c .before .before .before .before .pre .3, c .before .before .before .before .pre .2, h)
 
--- src/writing.rt:127:21
 slice-aggregate-least : tie.Need-slice-aggregate-least
 slice-aggregate-least c = search needs
 
--- src/writing.rt:127:9
 least-requires : tie.Need-least-requires
 least-requires c κs = let e = flat-thirds (classAt (c .before .before .before .before .before .before .before .args .dep .now) (c .before .before .before .before .before .before .before .args .goals .now) (c .before .before .before .before .before .before .before .args .n) (c .before .before .before .before .before .before .before .args .r)) (c .before .before .put-class .result) (c .before .before .put-class .ensures .0) in let f = c .before .before .before .before .before .before .before .pre .5 in search needs
 
--- src/writing.rt:128:16
 slice-aggregate-put-lifted : tie.Need-slice-aggregate-put-lifted
 slice-aggregate-put-lifted c = search needs
 
--- src/writing.rt:128:35
 slice-aggregate-put-lifted-2 : tie.Need-slice-aggregate-put-lifted-2
 slice-aggregate-put-lifted-2 c = search needs
 
--- src/writing.rt:128:5
 put-lifted-requires : tie.Need-put-lifted-requires
 put-lifted-requires c κs = let e = flat-thirds (classAt (c .before .before .before .before .before .before .before .before .before .before .args .dep .now) (c .before .before .before .before .before .before .before .before .before .before .args .goals .now) (c .before .before .before .before .before .before .before .before .before .before .args .n) (c .before .before .before .before .before .before .before .before .before .before .args .r)) (c .before .before .before .before .before .put-class .result) (c .before .before .before .before .before .put-class .ensures .0) in let f = c .before .before .before .before .before .before .before .before .before .before .pre .5 in search needs
 
--- src/writing.rt:129:39
 slice-aggregate-find-state : tie.Need-slice-aggregate-find-state
 slice-aggregate-find-state c = search needs
 
--- src/writing.rt:129:16
 find-state-requires : tie.Need-find-state-requires
 find-state-requires c κs = (c .before .before .before .before .before .before .before .before .before .before .before .before .before .pre .0, omega (arith, flat-thirds (classAt (c .before .before .before .before .before .before .before .before .before .before .before .before .before .args .dep .now) (c .before .before .before .before .before .before .before .before .before .before .before .before .before .args .goals .now) (c .before .before .before .before .before .before .before .before .before .before .before .before .before .args .n) (c .before .before .before .before .before .before .before .before .before .before .before .before .before .args .r)) (c .before .before .before .before .before .before .before .before .put-class .result) (c .before .before .before .before .before .before .before .before .put-class .ensures .0), c .before .before .before .before .before .before .before .before .before .before .before .before .before .pre .5), omega (arith, flat-thirds (classAt (c .before .before .before .before .before .before .before .before .before .before .before .before .before .args .dep .now) (c .before .before .before .before .before .before .before .before .before .before .before .before .before .args .goals .now) (c .before .before .before .before .before .before .before .before .before .before .before .before .before .args .n) (c .before .before .before .before .before .before .before .before .before .before .before .before .before .args .r)) (c .before .before .before .before .before .before .before .before .put-class .result) (c .before .before .before .before .before .before .before .before .put-class .ensures .0), c .before .before .before .before .before .before .before .before .before .before .before .before .before .pre .5, c .before .before .put-lifted .kept .1 .1 .1 .1 .0))
 
--- src/writing.rt:129:16
 cast-plan : tie.Need-cast-plan
 cast-plan c = omega (arith, (c .find-state .ensures ∙ ap (placeOf (statesIn (c .before .before .before .before .before .before .before .before .before .before .before .before .before .before .args .scratch .now) (c .before .before .before .before .before .before .before .before .before .before .before .before .before .before .args .m))) ((lifting (classAt (c .before .before .before .before .before .before .before .before .before .before .before .before .before .before .args .dep .now) (c .before .before .before .before .before .before .before .before .before .before .before .before .before .before .args .goals .now) (c .before .before .before .before .before .before .before .before .before .before .before .before .before .before .args .n) (c .before .before .before .before .before .before .before .before .before .before .before .before .before .before .args .r)) (replicate {A = ℕ} 288 0) _ (replicate {A = ℕ} 96 0) _ (c .before .before .before .before .before .before .before .before .before .put-class .result) _ (c .before .before .before .before .before .before .before .before .before .put-class .ensures .0) (c .before .before .before .before .before .before .before .before .before .put-class .ensures .1) (omega (arith, class-few (c .before .before .before .before .before .before .before .before .before .before .before .before .before .before .args .dep .now) (c .before .before .before .before .before .before .before .before .before .before .before .before .before .before .args .goals .now) (c .before .before .before .before .before .before .before .before .before .before .before .before .before .before .args .n) (c .before .before .before .before .before .before .before .before .before .before .before .before .before .before .args .r) (c .before .before .before .before .before .before .before .before .before .before .before .before .before .before .pre .1))) (c .before .before .before .before .before .before .least .ensures) (c .before .before .before .put-lifted .ensures) (omega (arith, c .before .before .before .before .before .before .before .before .before .before .before .before .before .before .pre .5))) .up)), place-le (statesIn (c .before .before .before .before .before .before .before .before .before .before .before .before .before .before .args .scratch .now) (c .before .before .before .before .before .before .before .before .before .before .before .before .before .before .args .m)) (liftedW (classAt (c .before .before .before .before .before .before .before .before .before .before .before .before .before .before .args .dep .now) (c .before .before .before .before .before .before .before .before .before .before .before .before .before .before .args .goals .now) (c .before .before .before .before .before .before .before .before .before .before .before .before .before .before .args .n) (c .before .before .before .before .before .before .before .before .before .before .before .before .before .before .args .r))), states-length (c .before .before .before .before .before .before .before .before .before .before .before .before .before .before .args .scratch .now) (c .before .before .before .before .before .before .before .before .before .before .before .before .before .before .args .m), c .before .before .before .before .before .before .before .before .before .before .before .before .before .before .pre .0 .few)
 
--- src/writing.rt:129:5
 mul-plan : tie.Need-mul-plan
 mul-plan c = search needs
 
--- src/writing.rt:129:5
 slice-write-plan : tie.Need-slice-write-plan
 slice-write-plan c = search needs
 
--- src/writing.rt:130:10
 add-plan : tie.Need-add-plan
 add-plan c = search needs
 
--- src/writing.rt:130:5
 mul-plan-2 : tie.Need-mul-plan-2
 mul-plan-2 c = omega (arith, c .before .before .before .before .before .before .before .before .before .before .before .before .before .before .pre .6, length-set (c .before .before .before .before .before .before .before .before .before .before .before .before .before .before .args .plan .now) (c .before .before .before .before .before .before .before .before .before .before .before .before .before .before .args .at) (c .find-state .result))
 
--- src/writing.rt:130:5
 slice-write-plan-2 : tie.Need-slice-write-plan-2
 slice-write-plan-2 c = omega (arith, c .before .before .before .before .before .before .before .before .before .before .before .before .before .before .pre .6, length-set (c .before .before .before .before .before .before .before .before .before .before .before .before .before .before .args .plan .now) (c .before .before .before .before .before .before .before .before .before .before .before .before .before .before .args .at) (c .find-state .result))
 
--- src/writing.rt:120:1
 same-length : tie.Need-same-length
 same-length c = search needs
 
--- src/writing.rt:120:1
 returns : tie.Need-returns
 returns c = two-stores (c .before .before .before .before .before .before .before .before .before .before .before .before .before .before .args .plan .now) (c .before .before .before .before .before .before .before .before .before .before .before .before .before .before .args .at) _ _ ∙ ap₂ (λ x y. sets (c .before .before .before .before .before .before .before .before .before .before .before .before .before .before .args .plan .now) (c .before .before .before .before .before .before .before .before .before .before .before .before .before .before .args .at) (x ∷ y ∷ [])) (c .find-state .ensures ∙ ap (placeOf (statesIn (c .before .before .before .before .before .before .before .before .before .before .before .before .before .before .args .scratch .now) (c .before .before .before .before .before .before .before .before .before .before .before .before .before .before .args .m))) ((lifting (classAt (c .before .before .before .before .before .before .before .before .before .before .before .before .before .before .args .dep .now) (c .before .before .before .before .before .before .before .before .before .before .before .before .before .before .args .goals .now) (c .before .before .before .before .before .before .before .before .before .before .before .before .before .before .args .n) (c .before .before .before .before .before .before .before .before .before .before .before .before .before .before .args .r)) (replicate {A = ℕ} 288 0) _ (replicate {A = ℕ} 96 0) _ (c .before .before .before .before .before .before .before .before .before .put-class .result) _ (c .before .before .before .before .before .before .before .before .before .put-class .ensures .0) (c .before .before .before .before .before .before .before .before .before .put-class .ensures .1) (omega (arith, class-few (c .before .before .before .before .before .before .before .before .before .before .before .before .before .before .args .dep .now) (c .before .before .before .before .before .before .before .before .before .before .before .before .before .before .args .goals .now) (c .before .before .before .before .before .before .before .before .before .before .before .before .before .before .args .n) (c .before .before .before .before .before .before .before .before .before .before .before .before .before .before .args .r) (c .before .before .before .before .before .before .before .before .before .before .before .before .before .before .pre .1))) (c .before .before .before .before .before .before .least .ensures) (c .before .before .before .put-lifted .ensures) (omega (arith, c .before .before .before .before .before .before .before .before .before .before .before .before .before .before .pre .5))) .up)) ((lifting (classAt (c .before .before .before .before .before .before .before .before .before .before .before .before .before .before .args .dep .now) (c .before .before .before .before .before .before .before .before .before .before .before .before .before .before .args .goals .now) (c .before .before .before .before .before .before .before .before .before .before .before .before .before .before .args .n) (c .before .before .before .before .before .before .before .before .before .before .before .before .before .before .args .r)) (replicate {A = ℕ} 288 0) _ (replicate {A = ℕ} 96 0) _ (c .before .before .before .before .before .before .before .before .before .put-class .result) _ (c .before .before .before .before .before .before .before .before .before .put-class .ensures .0) (c .before .before .before .before .before .before .before .before .before .put-class .ensures .1) (omega (arith, class-few (c .before .before .before .before .before .before .before .before .before .before .before .before .before .before .args .dep .now) (c .before .before .before .before .before .before .before .before .before .before .before .before .before .before .args .goals .now) (c .before .before .before .before .before .before .before .before .before .before .before .before .before .before .args .n) (c .before .before .before .before .before .before .before .before .before .before .before .before .before .before .args .r) (c .before .before .before .before .before .before .before .before .before .before .before .before .before .before .pre .1))) (c .before .before .before .before .before .before .least .ensures) (c .before .before .before .put-lifted .ensures) (omega (arith, c .before .before .before .before .before .before .before .before .before .before .before .before .before .before .pre .5))) .top-is)
 

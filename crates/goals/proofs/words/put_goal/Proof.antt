@@ -5,8 +5,12 @@ use lib.ListN.{length, getD, set, length-set}
 use mathlib.Core.Path.{_≡_, refl, ap, ap₂, sym, _∙_}
 use native.Mathlib.Omega.{arith}
 use borrow.Author.Needs.{needs}
-use Rattle.goals.proofs.derive.put_goal.Statement.{statement}
-use Rattle.goals.proofs.derive.put_goal.Tie as tie
+use Rattle.goals.proofs.words.put_goal.Statement.{statement}
+use Rattle.goals.proofs.words.put_goal.Tie as tie
+use Rattle.goals.proofs.words.put_goal.Reads as reads
+use Rattle.goals.proofs.words.put_goal.Lts as lts
+
+-- src/words.rt:29:5
 
 mul-out : tie.Need-mul-out
 mul-out c = search needs
@@ -21,7 +25,7 @@ mul-out-2 : tie.Need-mul-out-2
 mul-out-2 c = search needs
 
 slice-write-out-2 : tie.Need-slice-write-out-2
-slice-write-out-2 c = let a = c .args in lt-length-set (a .out .now) (a .to) (a .s) (omega arith)
+slice-write-out-2 c = let a = c .args in lt-length-set (a .out .now) (a .to) (a .g .shape .0) (omega arith)
 
 add-out-2 : tie.Need-add-out-2
 add-out-2 c = search needs
@@ -30,7 +34,7 @@ mul-out-3 : tie.Need-mul-out-3
 mul-out-3 c = search needs
 
 slice-write-out-3 : tie.Need-slice-write-out-3
-slice-write-out-3 c = let a = c .args in lt-length-set (set (a .out .now) (a .to) (a .s)) (a .to + 1) (a .a) (lt-length-set (a .out .now) (a .to) (a .s) (omega arith))
+slice-write-out-3 c = let a = c .args in lt-length-set (set (a .out .now) (a .to) (a .g .shape .0)) (a .to + 1) (a .g .at .0) (lt-length-set (a .out .now) (a .to) (a .g .shape .0) (omega arith))
 
 same-length : tie.Need-same-length
 same-length c = search needs
