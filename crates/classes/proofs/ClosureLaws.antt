@@ -200,26 +200,6 @@ module _ (n : ℕ) (hn : n ≤ 96) (p : ℕ → ℕ → Type 0) where
     row = λ b h. absurd (omega arith);
   }
 
-  pub fill-skip : {d : List (List Bool)} {i j : ℕ} → (p i j → ⊥) → Filled n p d i j → Filled n p d i (j + 1)
-  fill-skip {d} {i} {j} none f = record {
-    square = f .square;
-    only = f .only;
-    all = f .all;
-    row = below-more (λ (b : ℕ). p i b → cell d i b ≡ true) j (f .row) (λ h. absurd (none h));
-  }
-
-  pub fill-put : {d : List (List Bool)} {i j : ℕ} → i < n → j < n → p i j → Filled n p d i j → Filled n p (put d i j) i (j + 1)
-  fill-put {d} {i} {j} hi hj it f =
-      let i96 : i < 96 = omega arith in
-      let j96 : j < 96 = omega arith in
-      let g = grown-put 96 d (f .square) i j i96 j96 in
-      record {
-        square = square-put 96 d (f .square) i j i96 j96;
-        only = λ a b h. put-only 96 d (f .square) i j i96 j96 p it (f .only) a b h;
-        all = λ a ha b hb x. put-grows 96 d (f .square) i j i96 j96 a b (f .all a ha b hb x);
-        row = below-more (λ (b : ℕ). p i b → cell (put d i j) i b ≡ true) j (λ b hb x. put-grows 96 d (f .square) i j i96 j96 i b (f .row b hb x)) (λ x. cell-same 96 d (f .square) i j i96 j96);
-      }
-
   pub to-chain : {d : List (List Bool)} {i j : ℕ} → Filled n p d n 0 → Reach n d i j → Chain n p i j
   to-chain f (one {i = a} {j = b} h) = step (f .only a b h)
   to-chain f (via h x y) = join h (to-chain f x) (to-chain f y)
@@ -230,14 +210,3 @@ module _ (n : ℕ) (hn : n ≤ 96) (p : ℕ → ℕ → Type 0) where
 
 pub empty-square : Square 96 (replicate 96 (replicate 96 false))
 empty-square = record { rows = refl; cols = λ i h. ap (λ (r : List Bool). length r) (getD-replicate 96 i (replicate 96 false) [] h) }
-
-pub empty-cell : (a b : ℕ) → cell (replicate 96 (replicate 96 false)) a b ≡ true → ⊥
-empty-cell a b h = go (decLt a 96) (decLt b 96)
-  where
-    row : a < 96 → getD (replicate 96 (replicate 96 false)) a [] ≡ replicate 96 false
-    row x = getD-replicate 96 a (replicate 96 false) [] x
-
-    go : Dec (a < 96) → Dec (b < 96) → ⊥
-    go (yes x) (yes y) = no-both _ (ap (λ (r : List Bool). getD r b false) (row x) ∙ getD-replicate 96 b false false y) h
-    go (yes x) (no y) = no-both _ (ap (λ (r : List Bool). getD r b false) (row x) ∙ List·getD-eq-default (replicate 96 false) false {n = b} (omega (arith, length-replicate {A = Bool} 96 false))) h
-    go (no x) y = no-both _ (ap (λ (r : List Bool). getD r b false) (List·getD-eq-default (replicate 96 (replicate 96 false)) [] {n = a} (omega (arith, length-replicate 96 (replicate 96 false))))) h

@@ -1,3 +1,4 @@
 pub mod SameLaws
 pub mod ClosureLaws
 pub mod SquareLaws
+pub mod ClassLaws

@@ -1,7 +1,7 @@
 use crate::members::leader;
+use deriving::sorting::arrange;
 use goals::obligations::first_owed;
 use goals::obligations::padded;
-use goals::sorting::arrange;
 use goals::words::goal_at;
 ghost use mathlib.Core.Path.{_≡_};
 ghost use mathlib.Core.List.{List, []};
@@ -12,7 +12,7 @@ ghost use lib.Seq.{sets};
 ghost use Rattle.kinds.specs.Lists.{gather, sort};
 ghost use Rattle.goals.specs.GoalWords.{Tabled, goalAt, owedBy, firstCode};
 ghost use Rattle.classes.specs.Squares.{Square};
-ghost use Rattle.goals.specs.Orders.{classAt, leadItems};
+ghost use Rattle.deriving.specs.Orders.{classAt, leadItems};
 
 // The classes of n goals in their order: for each 128 times the padded code of its first obligation position and the row that begins it.
 // Answers how many.

@@ -24,7 +24,7 @@ use Rattle.automaton.proofs.Bounds.{root-label, ann-small, gcp-small}
 use Rattle.automaton.proofs.Reachable.{class-sound, class-announces, lift-sound}
 use Rattle.goals.specs.GoalWords.{GoalWords, labelCode}
 use Rattle.goals.specs.WordStages.{derivW, leastCode, underCode, liftW, classesW}
-use Rattle.goals.specs.Decoding.{goalOf, stateOf}
+use Rattle.decoding.specs.Decoding.{goalOf, stateOf}
 use Rattle.decoding.specs.GoodStates.{Ready, settingOf}
 use Rattle.decoding.proofs.GcpDecoded.{Tops, none, more, TopIn, now, late, gcp-is}
 use Rattle.decoding.proofs.LiftDecoded.{under-is, lift-is}

@@ -19,16 +19,19 @@ use Rattle.term.specs.Terms.{Term}
 use Rattle.automaton.specs.Bare.{bare}
 use Rattle.automaton.specs.Goals.{Goal, allObs, first}
 use Rattle.automaton.specs.Classes.{Square, close, picked, rowsFrom, dep, closed, classBefore, classes}
-use Rattle.automaton.proofs.Classes.{Class, class-some, on-row, picked-in}
+use Rattle.automaton.proofs.Classes.{Class, class-some, on-row, picked-in, picked-map}
 use Rattle.automaton.proofs.Derivative.{owes, first-in}
 use Rattle.goals.specs.GoalWords.{GoalWords, owedBy, pad, firstCode}
 use Rattle.goals.specs.WordStages.{depW, pickedW, closedW, classKey, classBeforeW, classesW}
-use Rattle.goals.specs.Decoding.{shapeAt, goalOf, stateOf, TableOf}
+use Rattle.decoding.specs.Decoding.{shapeAt, goalOf, stateOf, TableOf}
 use Rattle.decoding.proofs.PaddedCodes.{code-before}
 use Rattle.decoding.proofs.GoalDecoded.{Fine, owed-is}
 use Rattle.decoding.proofs.LabelDecoded.{Fit, first-from}
 use Rattle.decoding.proofs.DepDecoded.{fit-obs, dep-is}
-use Rattle.goals.proofs.ClassLaws.{picked-is}
+
+pub picked-is : (shapes : List Term) (bs : List Bool) (gs : List GoalWords) → stateOf shapes (pickedW bs gs) ≡ picked bs (stateOf shapes gs)
+unfolding pickedW
+picked-is shapes bs gs = picked-map (goalOf shapes) bs gs
 
 module _ (shapes : List Term) (tab : List ℕ) (tables : (s : ℕ) → s < length shapes → TableOf tab s (shapeAt shapes s)) where
   pub closed-words : (gs : List GoalWords) → ((g : GoalWords) → g ∈ gs → Fine shapes g) → closedW tab gs ≡ closed (bare shapes) (stateOf shapes gs)

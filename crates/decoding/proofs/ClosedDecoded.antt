@@ -14,7 +14,7 @@ use Rattle.automaton.specs.Goals.{Goal, State}
 use Rattle.automaton.specs.Classes.{entry, dep, square, close, closed}
 use Rattle.goals.specs.GoalWords.{GoalWords, goalW, goalAt, goalsFrom}
 use Rattle.goals.specs.WordStages.{depW}
-use Rattle.goals.specs.Decoding.{goalOf, stateOf, shapeAt, TableOf}
+use Rattle.decoding.specs.Decoding.{goalOf, stateOf, shapeAt, TableOf}
 use Rattle.decoding.proofs.GoalDecoded.{Fine}
 use Rattle.decoding.proofs.DepDecoded.{dep-is}
 use Rattle.automaton.proofs.Closure.{Chain, link, step, chain-join, close-chain}
@@ -72,13 +72,3 @@ module _ (shapes : List Term) (tab : List ℕ) (tables : (s : ℕ) → s < lengt
   from-chain : {a b : ℕ} → a < n → b < n → Chain (entry (square (bare shapes) goals)) n a b → Linked n linkedBy a b
   from-chain {a} {b} ha hb (link e) = near (entry-is a b ha hb ∙ e)
   from-chain {a} {b} ha hb (step {m = c} e hc x) = over hc (near (entry-is a c ha hc ∙ e)) (from-chain hc hb x)
-
-  -- what `dependency` ensures is the definition's closed square
-  pub closed-is : (d : List (List Bool))
-      → ((a b : ℕ) → a < n → b < n → cell d a b ≡ true → Linked n linkedBy a b)
-      → ((a b : ℕ) → a < n → b < n → Linked n linkedBy a b → cell d a b ≡ true)
-      → (a b : ℕ) → a < n → b < n → cell d a b ≡ entry (closed (bare shapes) goals) a b
-  closed-is d sound complete a b ha hb =
-      bool-ext (cell d a b) (entry (closed (bare shapes) goals) a b)
-      (λ e. ap (λ k. entry (close (range 0 k) (square (bare shapes) goals)) a b) size ∙ close-chain n (square (bare shapes) goals) a b .1 (to-chain ha hb (sound a b ha hb e)))
-      (λ e. complete a b ha hb (from-chain ha hb (close-chain n (square (bare shapes) goals) a b .0 (ap (λ k. entry (close (range 0 k) (square (bare shapes) goals)) a b) (sym size) ∙ e))))

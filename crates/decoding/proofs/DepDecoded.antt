@@ -16,7 +16,7 @@ use Rattle.kinds.specs.Lists.{any, same}
 use Rattle.kinds.specs.Positions.{Pos, code, decode}
 use Rattle.decoding.proofs.LabelDecoded.{Fit}
 use Rattle.decoding.proofs.GoalDecoded.{Fine, owed-is}
-use Rattle.goals.specs.Decoding.{select, shapeAt, goalOf, TableOf}
+use Rattle.decoding.specs.Decoding.{select, shapeAt, goalOf, TableOf}
 use Rattle.goals.specs.GoalWords.{GoalWords, owedBy}
 use Rattle.goals.specs.WordStages.{hasCode, sharing, depW}
 use Rattle.term.specs.Places.{dom}

@@ -17,7 +17,7 @@ use Rattle.kinds.specs.Lists.{any, filter, gather, range, same, isNil}
 use Rattle.kinds.specs.Positions.{Pos, before, code, codeFrom, decodeTo, decode}
 use Rattle.decoding.proofs.MaskReduced.{select-one, dom-below, below, gather-append}
 use Rattle.decoding.proofs.GoalDecoded.{Fine, owed-is, stays-is, moves-is}
-use Rattle.goals.specs.Decoding.{select, shapeAt, goalOf, stateOf, TableOf}
+use Rattle.decoding.specs.Decoding.{select, shapeAt, goalOf, stateOf, TableOf}
 use Rattle.goals.specs.GoalWords.{GoalWords, owedBy, pad, firstCode, rootCodes, labelCode}
 use Rattle.goals.specs.WordStages.{stays, moves, freshW, freshesW, bornW, derivW}
 use Rattle.term.specs.Places.{sub, dom}

@@ -7,7 +7,7 @@
 --   reduct-for                  what reducing at the label makes of a goal of it
 --   FromWords deriv-from        a goal of the derivative stayed, moved on with its mask reduced, or is born
 --   deriv-bounded deriv-goals-sound deriv-fine   so the derivative is bounded, sound and Fine
---   class-within class-fine     a class has goals of its list only
+--   class-within      a class has goals of its list only
 use mathlib.Core.Path.{_≡_, refl, ap₂, sym, _∙_, subst}
 use mathlib.Core.List.{List, [], _∷_, _++_, map, append-nil}
 use mathlib.Core.Bool.{Bool, true, false, cond}
@@ -39,7 +39,7 @@ use Rattle.automaton.proofs.Reachable.{deriv-sound}
 use Rattle.automaton.proofs.Classes.{picked-in}
 use Rattle.goals.specs.GoalWords.{GoalWords, nodeAt, labelCode}
 use Rattle.goals.specs.WordStages.{stays, moves, reduct, goesOn, withMask, freshW, freshesW, bornW, derivW, pickedW, closedW, classBeforeW, classesW}
-use Rattle.goals.specs.Decoding.{shapeAt, goalOf, stateOf}
+use Rattle.decoding.specs.Decoding.{shapeAt, goalOf, stateOf}
 use Rattle.decoding.specs.GoodStates.{Ready, settingOf, GoodState}
 use Rattle.decoding.proofs.GoalDecoded.{Fine}
 use Rattle.decoding.proofs.Goalwise.{goal-apart}
@@ -208,7 +208,3 @@ unfolding classesW pickedW
 class-within tab gs c m g i =
     on-map (λ bs. pickedW bs gs) (rowsFrom 0 (closedW tab gs)) (in-sort (classBeforeW tab) (map (λ bs. pickedW bs gs) (rowsFrom 0 (closedW tab gs))) m) λ bs j e.
     picked-in bs gs g (rw (← e) i)
-
-pub class-fine : {ar tab : List ℕ} {n : ℕ} (r : Ready ar tab n) (gs : List GoalWords) (good : GoodFor r gs) (f k : ℕ) (a : getElem? ar f ≡ some k)
-    → (c : List GoalWords) → c ∈ classesW tab (derivW tab n (labelCode tab gs) f k gs) → (g : GoalWords) → g ∈ c → Fine (r .shapes) g
-class-fine {tab = tab} {n} r gs good f k a c m g i = deriv-fine r gs good f k a g (class-within tab (derivW tab n (labelCode tab gs) f k gs) c m g i)

@@ -14,7 +14,7 @@ use Rattle.automaton.specs.Goals.{Goal, State}
 use Rattle.kinds.proofs.Codes.{code-of, code-le}
 use Rattle.kinds.proofs.Members.{_∈_, here, there}
 use Rattle.kinds.specs.Positions.{Pos, code, join, decode}
-use Rattle.goals.specs.Decoding.{goalOf, stateOf}
+use Rattle.decoding.specs.Decoding.{goalOf, stateOf}
 use Rattle.goals.specs.GoalWords.{GoalWords}
 use Rattle.goals.specs.WordStages.{leastCode}
 use Rattle.term.specs.Terms.{Term}

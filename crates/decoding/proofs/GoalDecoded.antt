@@ -26,7 +26,7 @@ use Rattle.kinds.specs.Positions.{Pos, code, decode}
 use Rattle.decoding.proofs.ShapeNodes.{Node, node-of, kidsIn, headWord}
 use Rattle.decoding.proofs.MaskReduced.{below, args-select, swap-mask, dom-below, span-below, roots-below, swapped}
 use Rattle.decoding.proofs.Selecting.{select-at, select-zero, select-none}
-use Rattle.goals.specs.Decoding.{select, roots, shapeAt, goalOf, TableOf}
+use Rattle.decoding.specs.Decoding.{select, roots, shapeAt, goalOf, TableOf}
 use Rattle.goals.specs.GoalWords.{GoalWords, codeAt, sizeOf, symOf, kidsOf, owedFrom, owedBy, nodeFrom, nodeAt, maskAfter}
 use Rattle.goals.specs.WordStages.{stays, moves, reduct, goesOn, withMask}
 use Rattle.term.specs.Places.{sub, dom}

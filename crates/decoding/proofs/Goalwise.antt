@@ -6,7 +6,7 @@ use Rattle.term.specs.Terms.{Term, span}
 use Rattle.kinds.specs.Positions.{Pos}
 use Rattle.goals.specs.GoalWords.{GoalWords}
 use Rattle.automaton.specs.Goals.{Goal}
-use Rattle.goals.specs.Decoding.{select, shapeAt, goalOf}
+use Rattle.decoding.specs.Decoding.{select, shapeAt, goalOf}
 use Rattle.term.specs.Places.{dom}
 use Rattle.kinds.specs.Positions.{decode}
 use Rattle.kinds.proofs.Members.{_∈_, here, there, map-in}

@@ -28,7 +28,7 @@ use Rattle.automaton.proofs.Sound.{SoundState}
 use Rattle.automaton.proofs.Reachable.{initial-sound}
 use Rattle.goals.specs.GoalWords.{GoalWords, Low, labelCode}
 use Rattle.goals.specs.WordStages.{freshW, freshesW, derivW, leastCode, liftW, classesW, outputsW}
-use Rattle.goals.specs.Decoding.{shapeAt, goalOf, stateOf}
+use Rattle.decoding.specs.Decoding.{shapeAt, goalOf, stateOf}
 use Rattle.decoding.specs.GoodStates.{Ready, settingOf, GoodState}
 use Rattle.decoding.proofs.GoalDecoded.{Fine}
 use Rattle.decoding.proofs.Room.{deriv-room as room-of}

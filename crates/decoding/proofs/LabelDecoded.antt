@@ -16,7 +16,7 @@ use Rattle.kinds.proofs.ListLaws.{map-append}
 use Rattle.kinds.specs.Lists.{filter, gather}
 use Rattle.kinds.specs.Positions.{Pos, before, code, decodeTo, decode}
 use Rattle.decoding.proofs.GoalDecoded.{Fine, owed-is}
-use Rattle.goals.specs.Decoding.{select, shapeAt, goalOf, stateOf, TableOf}
+use Rattle.decoding.specs.Decoding.{select, shapeAt, goalOf, stateOf, TableOf}
 use Rattle.goals.specs.GoalWords.{GoalWords, owedBy, pad, firstCode, rootCodes, labelCode}
 use Rattle.term.specs.Places.{dom}
 use Rattle.term.specs.Terms.{Term}

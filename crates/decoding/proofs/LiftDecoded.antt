@@ -16,7 +16,7 @@ use Rattle.kinds.proofs.Codes.{Proper, codeFrom-append, code-join, decode-prope
 use Rattle.kinds.proofs.Prefixes.{strip-append}
 use Rattle.kinds.proofs.ListLaws.{map-map, map-same}
 use Rattle.kinds.specs.Positions.{Pos, code, codeFrom, strip, decode}
-use Rattle.goals.specs.Decoding.{goalOf, select, shapeAt}
+use Rattle.decoding.specs.Decoding.{goalOf, select, shapeAt}
 use Rattle.goals.specs.GoalWords.{GoalWords}
 use Rattle.goals.specs.WordStages.{underFrom, underCode, liftW}
 use Rattle.term.specs.Places.{dom}

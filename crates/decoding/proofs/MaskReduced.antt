@@ -17,7 +17,7 @@ use Rattle.kinds.specs.Lists.{gather, same}
 use Rattle.kinds.specs.Positions.{Pos}
 use Rattle.decoding.proofs.ShapeNodes.{Node, kidsIn}
 use Rattle.decoding.proofs.Selecting.{select-zero, select-append, select-sub, select-map}
-use Rattle.goals.specs.Decoding.{select, roots, solid}
+use Rattle.decoding.specs.Decoding.{select, roots, solid}
 use Rattle.goals.specs.GoalWords.{maskAfter}
 use Rattle.term.specs.Places.{dom, doms}
 use Rattle.term.specs.Terms.{count, Term, blank, node, Terms, tnil, tcons, span, spans}

@@ -12,7 +12,7 @@ use lib.Pow.{pow-pos, split}
 use lib.ListN.{length, getD, length-map}
 use Rattle.term.specs.Terms.{Term, blank, node, Terms, tnil, tcons, span}
 use Rattle.kinds.specs.Positions.{Pos}
-use Rattle.goals.specs.Decoding.{select}
+use Rattle.decoding.specs.Decoding.{select}
 use Rattle.term.specs.Places.{dom, doms}
 use Rattle.term.proofs.Subterms.{length-dom}
 use Rattle.kinds.proofs.Members.{_∈_, here, there, ∈-left, ∈-right, ∈-append, on-map}

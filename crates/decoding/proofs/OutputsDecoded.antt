@@ -33,7 +33,7 @@ use Rattle.automaton.proofs.Bounds.{ann-small}
 use Rattle.goals.specs.GoalWords.{GoalWords, pad, labelCode}
 use Rattle.goals.specs.WordStages.{reduct, withMask, announces, annKey, outputsW}
 use Rattle.decoding.specs.WordMachine.{announcementW}
-use Rattle.goals.specs.Decoding.{select, shapeAt, goalOf, stateOf}
+use Rattle.decoding.specs.Decoding.{select, shapeAt, goalOf, stateOf}
 use Rattle.decoding.specs.GoodStates.{Ready, settingOf}
 use Rattle.decoding.proofs.PaddedCodes.{code-before}
 use Rattle.decoding.proofs.Selecting.{select-zero, select-none}

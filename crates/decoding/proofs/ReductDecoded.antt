@@ -26,7 +26,7 @@ use Rattle.term.specs.Terms.{count, Term, blank, node, Terms, span}
 use Rattle.term.proofs.Subterms.{length-dom}
 use Rattle.automaton.specs.Bare.{bare, owed, argsOf, headsOf, args}
 use Rattle.automaton.specs.Goals.{reduced}
-use Rattle.goals.specs.Decoding.{select, roots, shapeAt, goalOf, TableOf}
+use Rattle.decoding.specs.Decoding.{select, roots, shapeAt, goalOf, TableOf}
 use Rattle.goals.specs.GoalWords.{GoalWords, nodeAt, symOf, kidsOf, maskAfter}
 use Rattle.goals.specs.WordStages.{reduct, withMask}
 use Rattle.decoding.proofs.ShapeNodes.{Node, node-of, kidsIn, headWord}

@@ -11,7 +11,7 @@ use Rattle.kinds.specs.Lists.{gather, range}
 use Rattle.goals.specs.GoalWords.{GoalWords, Low, flat, nodeAt, symOf, kidsOf, maskAfter}
 use Rattle.goals.specs.WordStages.{stays, moves, reduct, goesOn, withMask, freshW, freshesW, bornW, derivW}
 use Rattle.kinds.proofs.Members.{length-range}
-use Rattle.goals.proofs.DeriveLaws.{flat-append}
+use Rattle.deriving.proofs.DeriveLaws.{flat-append}
 
 pub flat-length : (gs : List GoalWords) → length (flat gs) ≡ 3 * length gs
 unfolding flat

@@ -21,7 +21,7 @@ use Rattle.kinds.specs.Lists.{any, all, same}
 use Rattle.kinds.specs.Positions.{Pos, code, strip, decode}
 use Rattle.decoding.proofs.GoalDecoded.{Fine}
 use Rattle.decoding.proofs.Selecting.{select-sub}
-use Rattle.goals.specs.Decoding.{select, shapeAt, goalOf, stateOf}
+use Rattle.decoding.specs.Decoding.{select, shapeAt, goalOf, stateOf}
 use Rattle.goals.specs.GoalWords.{GoalWords}
 use Rattle.goals.specs.WordStages.{sameW, amongW, withinW, sameStateW}
 use Rattle.term.specs.Places.{dom}

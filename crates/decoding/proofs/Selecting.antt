@@ -12,7 +12,7 @@ use lib.Bits.{block-half, block-odd}
 use lib.ListN.{length, getD}
 use Rattle.kinds.proofs.Bools.{eqb-is}
 use Rattle.kinds.proofs.Members.{_∈_, here, there}
-use Rattle.goals.specs.Decoding.{select}
+use Rattle.decoding.specs.Decoding.{select}
 
 module _ {ℓ} {A : Type ℓ} where
   pub select-zero : (xs : List A) → select 0 xs ≡ []

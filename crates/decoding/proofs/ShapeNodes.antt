@@ -16,7 +16,7 @@ use Rattle.kinds.proofs.Members.{_∈_, here, there, ∈-append, on-map}
 use Rattle.kinds.proofs.ListLaws.{map-append, map-map}
 use Rattle.kinds.specs.Lists.{bind, same}
 use Rattle.kinds.specs.Positions.{Pos}
-use Rattle.goals.specs.Decoding.{roots, solid, kidMasks, kidMaskss}
+use Rattle.decoding.specs.Decoding.{roots, solid, kidMasks, kidMaskss}
 use Rattle.term.specs.Places.{nth, child, sub, dom, doms}
 use Rattle.term.specs.Terms.{Term, blank, node, Terms, tnil, tcons, span, spans, flatten, flattens}
 use Rattle.term.proofs.Subterms.{length-dom}

@@ -9,7 +9,7 @@ use native.Mathlib.Decide.{decLt}
 use lib.ListN.{length, getD, List·getD-append}
 use lib.Seq.{getD-append-add}
 use Rattle.term.specs.Terms.{Term, blank, node, Terms, tnil, tcons, span, spans, count, flatten, flattens, Fits, Fitss}
-use Rattle.goals.specs.Decoding.{roots, solid, kidMasks, kidMaskss}
+use Rattle.decoding.specs.Decoding.{roots, solid, kidMasks, kidMaskss}
 use Rattle.decoding.proofs.ShapeNodes.{length-kids}
 use Rattle.tables.specs.ShapeTables.{wordAt, spanAt, kidsFrom, kidsAt}
 use Rattle.tables.proofs.TableLaws.{kids-there, kids-on, kids-off}

@@ -14,7 +14,7 @@ use lib.ListN.{length, getD, getElem?, length-map, List·getD-append, List·getD
 use lib.Seq.{getD-append-add}
 use Rattle.term.specs.Terms.{Term, blank, node, Terms, tnil, tcons, span, spans, count, flatten, Fits, Fitss}
 use Rattle.kinds.specs.Positions.{Pos, code, codeFrom}
-use Rattle.goals.specs.Decoding.{roots, solid}
+use Rattle.decoding.specs.Decoding.{roots, solid}
 use Rattle.term.specs.Places.{dom, doms}
 use Rattle.term.proofs.Subterms.{length-dom}
 use Rattle.term.proofs.Sizes.{span-pos}

@@ -11,7 +11,7 @@ use lib.Seq.{getD-append-add}
 use Rattle.term.specs.Terms.{Term, blank, node, Terms, tnil, tcons, span, spans, flatten, flattens, Fits, Fitss}
 use Rattle.kinds.specs.Positions.{Pos, code}
 use Rattle.kinds.proofs.Codes.{five-pos}
-use Rattle.goals.specs.Decoding.{kidMasks, TableOf}
+use Rattle.decoding.specs.Decoding.{kidMasks, TableOf}
 use Rattle.term.specs.Places.{dom}
 use Rattle.term.proofs.Sizes.{length-flatten, span-pos}
 use Rattle.tables.specs.ShapeTables.{wordAt, spanAt, kidsAt, nodeWord, entryW}

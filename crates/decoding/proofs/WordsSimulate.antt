@@ -19,7 +19,7 @@ use Rattle.automaton.proofs.SamePlan.{same-plan}
 use Rattle.goals.specs.GoalWords.{GoalWords, labelCode}
 use Rattle.goals.specs.WordStages.{freshesW, derivW, classesW}
 use Rattle.decoding.specs.WordMachine.{words}
-use Rattle.goals.specs.Decoding.{goalOf, stateOf}
+use Rattle.decoding.specs.Decoding.{goalOf, stateOf}
 use Rattle.decoding.specs.GoodStates.{Ready}
 use Rattle.decoding.proofs.SameDecoded.{same-state-is}
 use Rattle.decoding.proofs.FineSound.{GoodFor, good-fine, label-small, label-code, deriv-decoded, deriv-goals-sound, deriv-fine}

@@ -16,7 +16,7 @@ use Rattle.folio.proofs.ShapesFound.{solid-node}
 use Rattle.automaton.specs.Walking.{Setting}
 use Rattle.automaton.proofs.Sound.{SoundState}
 use Rattle.goals.specs.GoalWords.{GoalWords, Tabled}
-use Rattle.goals.specs.Decoding.{shapeAt, stateOf, TableOf}
+use Rattle.decoding.specs.Decoding.{shapeAt, stateOf, TableOf}
 
 pub record Ready (ar tab : List ℕ) (n : ℕ) : Type 0 where
   pub shapes : List Term

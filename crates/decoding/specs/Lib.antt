@@ -1,2 +1,3 @@
 pub mod WordMachine
 pub mod GoodStates
+pub mod Decoding

@@ -1,9 +1,11 @@
 -- The words of one subtree: a term's that stands there within the limits, and none where none does.
 --   piece-term piece-empty       of any words
+--   Piece piece-or-none          and the way back
 --   subtree-shape subtree-score  of the table asked for
 --   subtree-node                 of a node of the score
 use mathlib.Core.Path.{_≡_, refl, ap, sym, _∙_}
 use mathlib.Core.List.{List, [], _++_}
+use mathlib.Core.Logic.{_⊎_, inl, inr}
 use mathlib.Core.Option.{some}
 use Prim.Native.Nat.{ℕ, _+_, _-_, _<_, _≤_}
 use native.Mathlib.Omega.{arith}
@@ -13,8 +15,12 @@ use Rattle.kinds.specs.Positions.{Pos}
 use Rattle.kinds.specs.declared.Node.{Node}
 use Rattle.term.specs.Terms.{Term, span, depth, flatten, Fits}
 use Rattle.term.specs.Places.{sub, number}
+use Rattle.term.specs.Reading.{reading}
 use Rattle.term.specs.declared.Limits.{Limits}
-use Rattle.term.proofs.WholeTerm.{TermAt}
+use Rattle.term.specs.declared.Reading.{Reading}
+use Rattle.term.specs.declared.Reading.the-variants as read
+use Rattle.term.proofs.LawsReading.{whole-in}
+use Rattle.term.proofs.WholeTerm.{TermAt, whole-term}
 use Rattle.term.proofs.TermWhole.{read-back}
 use Rattle.term.proofs.Sizes.{length-flatten, span-pos}
 use Rattle.following.proofs.FollowTree.{words-stand}
@@ -23,7 +29,7 @@ use Rattle.folio.specs.Again.{pieceAt, subtreeAt}
 use Rattle.folio.specs.declared.Asked.the-variants as asked
 use Rattle.folio.specs.Folio.{GoodSymbols, IsScore}
 use Rattle.folio.proofs.Symbols.{symbols-of}
-use Rattle.folio.proofs.LawsAgain.{piece-some, subtree-some}
+use Rattle.folio.proofs.LawsAgain.{piece-none, piece-some, subtree-some}
 
 module _ (ar ws : List ℕ) (l : Limits) (levels at : ℕ) where
   pub piece-term : (u : Term) (r : List ℕ) → Fits ar (l .blanks) u → depth u < levels → at + span u ≤ l .stop → drop at ws ≡ flatten u ++ r → pieceAt ar ws l levels at ≡ flatten u
@@ -40,6 +46,23 @@ module _ (ar ws : List ℕ) (l : Limits) (levels at : ℕ) where
       let w = piece-term (t .tree) (drop e ws) (t .fits) (t .flat) (omega arith) (t .words) in
       let n : length (flatten (t .tree)) ≡ 0 = ap length (sym w ∙ q) in
       omega (arith, n, length-flatten (t .tree), span-pos (t .tree))
+
+  -- the way back: a term stands there within the limits and the words are its words, or there are none
+  pub record Piece : Type 0 where
+    pub end : ℕ
+    pub term : TermAt ar ws (l .blanks) levels at end
+    pub inside : end ≤ l .stop
+    pub is : pieceAt ar ws l levels at ≡ flatten (term .tree)
+
+  pub piece-or-none : Piece ⊎ (pieceAt ar ws l levels at ≡ [])
+  piece-or-none = go (reading ar ws l levels at) refl
+    where
+      go : (r : Reading) → reading ar ws l levels at ≡ r → Piece ⊎ (pieceAt ar ws l levels at ≡ [])
+      go (read.Refused f p) e = inr (piece-none ar ws l levels at e)
+      go (read.Whole m) e =
+          let t = whole-term ar ws l levels at m e in
+          let few = whole-in ar ws l levels at m e .few in
+          inl (record { end = m .end; term = t; inside = few; is = piece-term (t .tree) (drop (m .end) ws) (t .fits) (t .flat) (omega (arith, t .size, few)) (t .words) })
 
 module _ (ar sh sc : List ℕ) (g : GoodSymbols ar) where
   pub subtree-shape : (at : ℕ) → subtreeAt (asked.Shapes at) ar sh sc ≡ pieceAt ar sh (shapeLimits blankWord at) shapeLevels at

@@ -29,9 +29,6 @@ codeOf tab s r = getD tab (16 * s + r) 0
 abbrev pub powOf : List ℕ → ℕ → ℕ → ℕ
 powOf tab s r = getD tab (256 + (16 * s + r)) 0
 
-abbrev pub spanOf : List ℕ → ℕ → ℕ → ℕ
-spanOf tab s r = getD tab (512 + (16 * s + r)) 0
-
 -- the nodes of shape s
 abbrev pub sizeOf : List ℕ → ℕ → ℕ
 sizeOf tab s = getD tab (512 + 16 * s) 0

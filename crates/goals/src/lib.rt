@@ -3,10 +3,6 @@ use kinds::Shape;
 
 pub mod words; // a goal as three words
 pub mod obligations; // what a goal owes, and a state's label
-pub mod derive; // a state's goals after a symbol
-pub mod announce; // what is announced after a symbol
-pub mod lift; // goals moved up under a common position
-pub mod sorting; // numbers in order
 
 // A shape awaited: what it announces, and a mask of its nodes that are open.
 pub struct Goal {

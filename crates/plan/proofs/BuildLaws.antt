@@ -33,14 +33,14 @@ use Rattle.goals.specs.GoalWords.{GoalWords}
 use Rattle.goals.specs.WordStages.{sameW, amongW, withinW, sameStateW}
 use Rattle.decoding.specs.WordMachine.{words, statesIn, Kept}
 use Rattle.decoding.specs.GoodStates.{Ready}
-use Rattle.plan.specs.Meeting.{AllGood, wordsOf, ExploredIs}
+use Rattle.exploring.specs.Meeting.{AllGood, wordsOf, ExploredIs}
 use Rattle.plan.specs.Building.{Out, cleared, size, written, planOf, buildOf, refuse}
 use Rattle.folio.specs.Folio.{shapeTerms}
 use Rattle.plan.specs.declared.Built.{Built}
 use Rattle.plan.specs.declared.Built.the-variants as built
-use Rattle.plan.specs.declared.Explored.{Explored}
-use Rattle.plan.specs.declared.Explored.the-variants as result
-use Rattle.plan.proofs.StateLaws.{states-length}
+use Rattle.exploring.specs.declared.Explored.{Explored}
+use Rattle.exploring.specs.declared.Explored.the-variants as result
+use Rattle.exploring.proofs.StateLaws.{states-length}
 use Rattle.plan.proofs.WriteLaws.{plan-length}
 
 -- ---- the first k words zero

@@ -36,7 +36,7 @@ use Rattle.term.proofs.Subterms.{sub-depth, fits-proper}
 use Rattle.term.proofs.Sizes.{length-flatten}
 use Rattle.goals.specs.GoalWords.{Tabled, sizeOf}
 use Rattle.tables.specs.ShapeTables.{wordAt, spanAt, entryW, entriesFrom}
-use Rattle.goals.specs.Decoding.{roots, kidMasks, shapeAt, TableOf}
+use Rattle.decoding.specs.Decoding.{roots, kidMasks, shapeAt, TableOf}
 use Rattle.decoding.specs.GoodStates.{Ready}
 use Rattle.decoding.specs.WordMachine.{words}
 use Rattle.plan.specs.Building.{planOf}

@@ -28,13 +28,13 @@ use Rattle.goals.specs.GoalWords.{GoalWords, goalsFrom, labelCode}
 use Rattle.goals.specs.WordStages.{derivW, leastCode, classesW, outputsW, sameStateW}
 use Rattle.decoding.specs.WordMachine.{words, announcementW, stateIn, statesIn, Kept}
 use Rattle.decoding.specs.GoodStates.{Ready, GoodState}
-use Rattle.goals.specs.Orders.{classAt, outItems, goalOn}
-use Rattle.plan.specs.Meeting.{placeOf, liftedW, AllGood}
+use Rattle.deriving.specs.Orders.{classAt, outItems, goalOn}
+use Rattle.exploring.specs.Meeting.{placeOf, liftedW, AllGood}
 use Rattle.plan.specs.FinalBlocks.{rowWords, pairs}
-use Rattle.plan.proofs.StateLaws.{states-length, states-at}
-use Rattle.plan.proofs.InOrder.{outputs-in-order}
+use Rattle.exploring.proofs.StateLaws.{states-length, states-at}
+use Rattle.exploring.proofs.InOrder.{outputs-in-order}
 use Rattle.decoding.proofs.GoodLaws.{output-back, least-back, label-back}
-use Rattle.plan.proofs.ExploreLaws.{classesBy, place-in, pairs-length, block-length}
+use Rattle.exploring.proofs.ExploreLaws.{classesBy, place-in, pairs-length, block-length}
 
 -- ---- a count and pairs of words
 pub two-stores : (l : List ℕ) (i a b : ℕ) → set (set l i a) (i + 1) b ≡ sets l i (a ∷ b ∷ [])

@@ -1,8 +1,8 @@
 use crate::Built;
-use crate::Explored;
 use crate::Size;
-use crate::explore::explore;
 use crate::writing::write_plan;
+use exploring::Explored;
+use exploring::meeting::explore;
 use folio::checking::shapes_good;
 use kinds::Reason;
 use tables::filling::fill_tables;

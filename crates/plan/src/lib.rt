@@ -2,9 +2,7 @@ use kinds::Reason;
 use kinds::State;
 
 pub mod building; // the call that builds a plan
-mod explore; // the first pass: states met
-mod states; // the states met, in scratch
-mod writing; // the second pass: the plan's words
+mod writing; // the plan's words from the states met
 
 // How many states a plan has, and how many words.
 pub struct Size {
@@ -15,16 +13,5 @@ pub struct Size {
 pub enum Built {
     Plan(Size),
     Refused(Reason),
-    Stopped(Reason, State),
-}
-
-// How many states there are now, and how many words the blocks made take.
-pub enum Met {
-    On(usize, usize),
-    Stopped(Reason),
-}
-
-pub enum Explored {
-    Made(usize, usize),
     Stopped(Reason, State),
 }

@@ -1,11 +1,11 @@
-use crate::states::find_state;
 use classes::members::put_class;
 use classes::order::class_order;
 use classes::square::dependency;
-use goals::announce::outputs;
-use goals::derive::derive;
-use goals::lift::least;
-use goals::lift::put_lifted;
+use deriving::announce::outputs;
+use deriving::derivative::derive;
+use deriving::lift::least;
+use deriving::lift::put_lifted;
+use exploring::states::find_state;
 use goals::obligations::label;
 use kinds::Position;
 use kinds::State;
@@ -23,8 +23,8 @@ ghost use Rattle.goals.specs.WordStages.{leastCode};
 ghost use Rattle.decoding.specs.WordMachine.{words as machine, stateIn, statesIn, Kept};
 ghost use Rattle.decoding.specs.GoodStates.{Ready};
 ghost use Rattle.classes.specs.Squares.{Square};
-ghost use Rattle.goals.specs.Orders.{classAt, goalOn};
-ghost use Rattle.plan.specs.Meeting.{AllGood, placeOf, liftedW};
+ghost use Rattle.deriving.specs.Orders.{classAt, goalOn};
+ghost use Rattle.exploring.specs.Meeting.{AllGood, placeOf, liftedW};
 ghost use Rattle.plan.specs.FinalBlocks.{blockOf, allBlocks, SmallOn, rowWords, pairs};
 
 // The plan of the m states in scratch, of `total` words.

@@ -32,7 +32,7 @@ use Rattle.walk.specs.Starting.{Walk, begun, roomFor, started}
 use Rattle.walk.specs.Starting.{Out as Walking}
 use Rattle.walk.specs.declared.Record.{Record}
 use Rattle.walk.specs.declared.Walked.the-variants as walking
-use Rattle.walk.proofs.PlanRead.{on-planned}
+use Rattle.walking.proofs.PlanRead.{on-planned}
 
 -- ---- the plan
 module _ {S : Type 0} (C : Construction S) (ar : List ℕ) (n : ℕ) where

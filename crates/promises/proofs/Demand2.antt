@@ -9,7 +9,7 @@ use Rattle.kinds.specs.Bits.{bit}
 use Rattle.term.specs.Terms.{Term}
 use Rattle.term.specs.Places.{Matches}
 use Rattle.walk.specs.Starting.{Walk}
-use Rattle.walk.proofs.AnyWalk.{marks-right, marks-shapes}
+use Rattle.walking.proofs.AnyWalk.{marks-right, marks-shapes}
 use Rattle.promises.specs.OneFile.{OneFile, shapesIn, scoreIn}
 use Rattle.promises.specs.Demand2.{Demand2}
 use Rattle.promises.proofs.Setting.{is-folio, shape-words, score-words, score-spans, plan-is, told}

@@ -22,8 +22,8 @@ use Rattle.counting.specs.Clashes.{clash, clashNumber}
 use Rattle.report.specs.Text.{firstLine, lines, report}
 use Rattle.walk.specs.Starting.{Walk, Out, refuse}
 use Rattle.walk.specs.declared.Walked.the-variants.{On, Refused}
-use Rattle.walk.specs.OneFolio.{walkIn}
-use Rattle.walk.proofs.AnyWalk as any-walk
+use Rattle.walking.specs.OneFolio.{walkIn}
+use Rattle.walking.proofs.AnyWalk as any-walk
 use Rattle.promises.specs.OneFile.{OneFile, shapesIn, scoreIn, spansIn, after, stepAfter, acceptedIn, reported}
 use Rattle.promises.specs.Demand2.{Demand2}
 use Rattle.promises.specs.Demand3.{Demand3}

@@ -4,7 +4,7 @@
 use mathlib.Core.Path.{_≡_, refl, ap, ap₂, sym, _∙_}
 use mathlib.Core.Logic.{_↔_}
 use mathlib.Core.List.{List}
-use Prim.Native.Nat.{ℕ, _+_, _-_, _*_, _%_, _/_, _<_, _≤_}
+use Prim.Native.Nat.{ℕ, _+_, _-_, _*_, _<_}
 use native.Mathlib.Omega.{arith}
 use native.Mathlib.Decide.{decLt}
 use lib.ListN.{length, take, drop, length-drop}
@@ -14,11 +14,10 @@ use Rattle.kinds.specs.declared.Reason.the-variants as reason
 use Rattle.kinds.proofs.Members.{in-take, in-drop}
 use Rattle.term.specs.Terms.{span}
 use Rattle.term.proofs.Sizes.{length-flatten}
-use Rattle.sections.specs.Bytes.{wordsOf}
-use Rattle.sections.specs.Sections.{trailerOf, symbolsOf, sectionsOf}
+use Rattle.sections.specs.Sections.{trailerOf, symbolsOf}
 use Rattle.contents.specs.Tables.{blankWord, Row, shapesOf, scoreOf}
 use Rattle.folio.specs.Opening.{Lent, Room, Out, refuse, stored, held, opened}
-use Rattle.folio.specs.Folio.{GoodSymbols, Scored, startsAt}
+use Rattle.folio.specs.Folio.{GoodSymbols, Shaped, Scored}
 use Rattle.sections.specs.declared.Places.{Places}
 use Rattle.sections.specs.declared.Sections.{Sections}
 use Rattle.sections.specs.declared.Sections.the-variants as sections
@@ -35,10 +34,10 @@ use Rattle.sections.proofs.LawsSections.{Placed, trailer-in, sections-trailer, 
 use Rattle.folio.proofs.LawsOpening.{stored-words, stored-starts, stored-score, stored-spans, stored-all, held-shapes, held-score, held-on, opened-refused, opened-at}
 use Rattle.folio.proofs.Symbols.{symbols-is, symbols-of}
 use Rattle.folio.proofs.ScoreWhole.{Below, words-below, score-is, score-of}
-use Rattle.folio.proofs.ShapesFound.{length-starts}
-use Rattle.promises.specs.Refusals.{symbolsAt, shapesAt, scoreAt, Framed, ShapesPass, Given, in-trailer, in-symbols, in-shapes, in-score, row-18}
+use Rattle.folio.proofs.ShapesFound.{length-starts, found-shapes}
+use Rattle.promises.specs.Refusals.{symbolsAt, shapesAt, scoreAt, Framed, Given, in-trailer, in-symbols, in-shapes, in-score, row-18}
 use Rattle.promises.proofs.TrailerRows.{trailer-row, row-trailer, trailer-framed, framed-trailer, symbol-row, row-symbol}
-use Rattle.promises.proofs.ShapeRows.{shape-row, row-shape, shapes-pass, pass-shapes}
+use Rattle.promises.proofs.ShapeRows.{shape-row, row-shape, pass-shapes}
 use Rattle.promises.proofs.ScoreRows.{score-row, row-score}
 
 same-refusal {κ} : {C : Type κ} {r s : Reason} {p q : ℕ} → opening.Refused r p ≡ opening.Refused s q → (r ≡ s → p ≡ q → C) → C
@@ -76,31 +75,34 @@ module _ (file : List ℕ) (l : Lent) where
       whole : opened file l ≡ held ar ws sc (q .shapes) l
       whole = opened-at file l q (sections-good file q eq good)
 
-      no-room : (s : ShapesPass ar ws) (t : Scored ar sc) → stored ar ws (startsAt 0 (s .shapes)) sc l .answer ≡ opening.Refused r p → Given file l r p
-      no-room s t d = go (decLt (length (l .words)) (length ws)) (decLt (length (l .starts)) (length (startsAt 0 (s .shapes)))) (decLt (length (l .score)) (length sc)) (decLt (length (l .spans)) (length sc))
+      no-room : (st : List ℕ) (s : Shaped ar ws st) (t : Scored ar sc) → stored ar ws st sc l .answer ≡ opening.Refused r p → Given file l r p
+      no-room st s t d = go (decLt (length (l .words)) (length ws)) (decLt (length (l .starts)) (length st)) (decLt (length (l .score)) (length sc)) (decLt (length (l .spans)) (length sc))
         where
+          st-is : length st ≡ length (s .trees)
+          st-is = ap length (s .begins) ∙ length-starts 0 (s .trees)
+
           n-is : length sc ≡ span (t .tree)
           n-is = ap length (t .words) ∙ length-flatten (t .tree)
 
-          given : (Room l (length ws) (length (s .shapes)) (span (t .tree)) → ⊥) → stored ar ws (startsAt 0 (s .shapes)) sc l ≡ refuse reason.Tables 0 l → Given file l r p
-          given n x = same-refusal (sym (ap (λ (o : Out). o .answer) x) ∙ d) λ a b. row-18 q (trailer-framed file q eq) (symbols-is ar good) s t n (sym a) (sym b)
+          given : (Room l (length ws) (length (s .trees)) (span (t .tree)) → ⊥) → stored ar ws st sc l ≡ refuse reason.Tables 0 l → Given file l r p
+          given n x = same-refusal (sym (ap (λ (o : Out). o .answer) x) ∙ d) λ a b. row-18 q (trailer-framed file q eq) (symbols-is ar good) st s t n (sym a) (sym b)
 
-          go : Dec (length (l .words) < length ws) → Dec (length (l .starts) < length (startsAt 0 (s .shapes))) → Dec (length (l .score) < length sc) → Dec (length (l .spans) < length sc) → Given file l r p
-          go (yes a) b c d = given (λ x. let y = x .words in omega arith) (stored-words ar ws (startsAt 0 (s .shapes)) sc l a)
-          go (no a) (yes b) c d = given (λ x. let y = x .starts in omega (arith, b, length-starts 0 (s .shapes))) (stored-starts ar ws (startsAt 0 (s .shapes)) sc l (omega arith) b)
-          go (no a) (no b) (yes c) d = given (λ x. let y = x .score in omega (arith, c, n-is)) (stored-score ar ws (startsAt 0 (s .shapes)) sc l (omega arith) (omega arith) c)
-          go (no a) (no b) (no c) (yes d) = given (λ x. let y = x .spans in omega (arith, d, n-is)) (stored-spans ar ws (startsAt 0 (s .shapes)) sc l (omega arith) (omega arith) (omega arith) d)
-          go (no a) (no b) (no c) (no x) = no-refusal (sym (ap (λ (o : Out). o .answer) (stored-all ar ws (startsAt 0 (s .shapes)) sc l (omega arith) (omega arith) (omega arith) (omega arith))) ∙ d)
+          go : Dec (length (l .words) < length ws) → Dec (length (l .starts) < length st) → Dec (length (l .score) < length sc) → Dec (length (l .spans) < length sc) → Given file l r p
+          go (yes a) b c d = given (λ x. let y = x .words in omega arith) (stored-words ar ws st sc l a)
+          go (no a) (yes b) c d = given (λ x. let y = x .starts in omega (arith, b, st-is)) (stored-starts ar ws st sc l (omega arith) b)
+          go (no a) (no b) (yes c) d = given (λ x. let y = x .score in omega (arith, c, n-is)) (stored-score ar ws st sc l (omega arith) (omega arith) c)
+          go (no a) (no b) (no c) (yes d) = given (λ x. let y = x .spans in omega (arith, d, n-is)) (stored-spans ar ws st sc l (omega arith) (omega arith) (omega arith) d)
+          go (no a) (no b) (no c) (no x) = no-refusal (sym (ap (λ (o : Out). o .answer) (stored-all ar ws st sc l (omega arith) (omega arith) (omega arith) (omega arith))) ∙ d)
 
       on-score : (n : ℕ) → shapesOf ar blankWord ws .answer ≡ shapes.Found n → (x : Score) → scoreOf ar sc ≡ x → Given file l r p
       on-score n es (score.Refused s i) ex =
           same-refusal (told _ (whole ∙ held-score ar ws sc (q .shapes) l es ex)) λ a b.
-          in-score q (trailer-framed file q eq) (symbols-is ar good) (shapes-pass ar ws n es) i (score-row ar sc r i (ex ∙ ap (λ y. score.Refused y i) a))
+          in-score q (trailer-framed file q eq) (symbols-is ar good) (shapesOf ar blankWord ws .starts) (found-shapes ar ws n es) i (score-row ar sc r i (ex ∙ ap (λ y. score.Refused y i) a))
           (sym b ∙ ap (λ y. y + 2 * i) (score-begins q (trailer-in file q eq)))
       on-score n es score.Whole ex =
-          let s = shapes-pass ar ws n es in
+          let s = found-shapes ar ws n es in
           let t = score-is ar sc (words-below _ (λ w m. small w (in-drop (q .score) file (in-take (q .end - q .score) (drop (q .score) file) m)))) ex in
-          no-room s t (sym (ap (λ (x : Row). stored ar ws (x .starts) sc l .answer) (pass-shapes ar ws s)) ∙ rw-told (held-on ar ws sc (q .shapes) l es ex))
+          no-room (shapesOf ar blankWord ws .starts) s t (rw-told (held-on ar ws sc (q .shapes) l es ex))
         where
           rw-told : {o : Out} → held ar ws sc (q .shapes) l ≡ o → o .answer ≡ opening.Refused r p
           rw-told d = told _ (whole ∙ d)
@@ -135,14 +137,14 @@ module _ (file : List ℕ) (l : Lent) where
   given-refused (in-symbols q f x) = opened-refused file l (sections-symbols file q (framed-trailer file q f) (row-symbol (symbolsAt file q) x))
   given-refused {r} {p} (in-shapes q f g i x e) =
       framed-at q f g ∙ held-shapes (symbolsAt file q) (shapesAt file q) (scoreAt file q) (q .shapes) l (row-shape (symbolsAt file q) (shapesAt file q) x) ∙ ap (λ y. refuse r y l) (sym e)
-  given-refused {r} {p} (in-score q f g s i x e) =
+  given-refused {r} {p} (in-score q f g st s i x e) =
       framed-at q f g
-      ∙ held-score (symbolsAt file q) (shapesAt file q) (scoreAt file q) (q .shapes) l (ap (λ (y : Row). y .answer) (pass-shapes (symbolsAt file q) (shapesAt file q) s)) (row-score (symbolsAt file q) (scoreAt file q) x)
+      ∙ held-score (symbolsAt file q) (shapesAt file q) (scoreAt file q) (q .shapes) l (ap (λ (y : Row). y .answer) (pass-shapes (symbolsAt file q) (shapesAt file q) st s)) (row-score (symbolsAt file q) (scoreAt file q) x)
       ∙ ap (λ y. refuse r (y + 2 * i) l) (score-begins q (trailer-in file q (framed-trailer file q f))) ∙ ap (λ y. refuse r y l) (sym e)
-  given-refused {r} {p} (row-18 q f g s t n er ep) =
+  given-refused {r} {p} (row-18 q f g st s t n er ep) =
       framed-at q f g
-      ∙ held-on ar ws sc (q .shapes) l (ap (λ (y : Row). y .answer) (pass-shapes ar ws s)) (ap (scoreOf ar) (t .words) ∙ score-of ar (t .tree) (t .is))
-      ∙ ap (λ (y : Row). stored ar ws (y .starts) sc l) (pass-shapes ar ws s)
+      ∙ held-on ar ws sc (q .shapes) l (ap (λ (y : Row). y .answer) (pass-shapes ar ws st s)) (ap (scoreOf ar) (t .words) ∙ score-of ar (t .tree) (t .is))
+      ∙ ap (λ (y : Row). stored ar ws (y .starts) sc l) (pass-shapes ar ws st s)
       ∙ go (decLt (length (l .words)) (length ws)) (decLt (length (l .starts)) (length st)) (decLt (length (l .score)) (length sc)) (decLt (length (l .spans)) (length sc))
       ∙ ap₂ (λ x y. refuse x y l) (sym er) (sym ep)
     where
@@ -155,8 +157,8 @@ module _ (file : List ℕ) (l : Lent) where
       sc : List ℕ
       sc = scoreAt file q
 
-      st : List ℕ
-      st = startsAt 0 (s .shapes)
+      st-is : length st ≡ length (s .trees)
+      st-is = ap length (s .begins) ∙ length-starts 0 (s .trees)
 
       n-is : length sc ≡ span (t .tree)
       n-is = ap length (t .words) ∙ length-flatten (t .tree)
@@ -166,7 +168,7 @@ module _ (file : List ℕ) (l : Lent) where
       go (no a) (yes b) c d = stored-starts ar ws st sc l (omega arith) b
       go (no a) (no b) (yes c) d = stored-score ar ws st sc l (omega arith) (omega arith) c
       go (no a) (no b) (no c) (yes d) = stored-spans ar ws st sc l (omega arith) (omega arith) (omega arith) d
-      go (no a) (no b) (no c) (no d) = absurd (n (record { words = omega arith; starts = omega (arith, b, length-starts 0 (s .shapes)); score = omega (arith, c, n-is); spans = omega (arith, d, n-is) }))
+      go (no a) (no b) (no c) (no d) = absurd (n (record { words = omega arith; starts = omega (arith, b, st-is); score = omega (arith, c, n-is); spans = omega (arith, d, n-is) }))
 
   pub refused-exactly : Below 256 file → (r : Reason) (p : ℕ) → (opened file l .answer ≡ opening.Refused r p) ↔ Given file l r p
   refused-exactly small r p = (refused-given small r p, λ x. ap (λ (o : Out). o .answer) (given-refused x))

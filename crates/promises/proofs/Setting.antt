@@ -32,9 +32,9 @@ use Rattle.plan.specs.Building.{planOf}
 use Rattle.walk.specs.Starting.{Walk, Out, begun, roomFor}
 use Rattle.walk.specs.Stepping.{stepped, run}
 use Rattle.walk.specs.Stepping.{accepted as acceptedOf}
-use Rattle.walk.specs.OneFolio.{OneFolio, Lent, stepIn, walkIn}
-use Rattle.walk.specs.OneFolio.{planIn as planOn, acceptedIn as acceptedOn}
-use Rattle.walk.proofs.FolioWalk.{scoredOf, on-plan}
+use Rattle.walking.specs.OneFolio.{OneFolio, Lent, stepIn, walkIn}
+use Rattle.walking.specs.OneFolio.{planIn as planOn, acceptedIn as acceptedOn}
+use Rattle.walking.proofs.FolioWalk.{scoredOf, on-plan}
 use Rattle.promises.specs.OneFile.{OneFile, symbolsIn, wordsIn, startsIn, nodesIn, spansIn, shapesIn, scoreIn, planIn, begunIn, after, stepAfter, acceptedIn}
 use Rattle.promises.proofs.Answers.{BuiltAs, built-as, started-as, same-planned}
 

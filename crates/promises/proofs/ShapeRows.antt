@@ -1,22 +1,20 @@
 -- Rows 7 to 12: the shapes' tests give them, and give nothing else.
 --   shape-row row-shape     from the tests to a row, and back
---   shapes-pass pass-shapes and where none of them is given
+--   pass-shapes             and where none of them is given
 use mathlib.Core.Path.{_≡_, refl, ap, ap₂, sym, _∙_, subst}
-use mathlib.Core.Logic.{_⊎_, inl, inr, ⊎-elim}
+use mathlib.Core.Logic.{⊎-elim}
 use mathlib.Core.Bool.{Bool, true, false, cond}
 use mathlib.Core.List.{List, [], _∷_, _++_, append-assoc, append-nil}
-use mathlib.Core.Option.{some}
 use Prim.Native.Nat.{ℕ, zero, suc, _+_, _-_, _<_, _≤_}
 use native.Mathlib.Omega.{arith}
 use native.Mathlib.Nat.{zero-add, add-zero}
 use borrow.Author.Tests.{ltb-true, ltb-false, leb-true, leb-false, lt-ltb, lt-leb, le-leb}
 use lib.Dec.{ltb, leb}
-use lib.ListN.{length, getD, getElem?, drop, length-append}
-use lib.Seq.{drop-at}
+use lib.ListN.{length, getD, drop, length-append}
 use Rattle.kinds.specs.Lists.{gather}
 use Rattle.kinds.specs.declared.Reason.{Reason}
 use Rattle.kinds.specs.declared.Reason.the-variants as reason
-use Rattle.kinds.proofs.Members.{_∈_, here, there, in-one, ∈-append}
+use Rattle.kinds.proofs.Members.{here, there, in-one, ∈-append}
 use Rattle.kinds.proofs.Places.{at-in, on-in}
 use Rattle.kinds.proofs.ListLaws.{from, gather-append}
 use Rattle.kinds.proofs.Options.{none-not}
@@ -24,7 +22,6 @@ use Rattle.term.specs.Terms.{Term, blank, span, flatten}
 use Rattle.term.specs.Reading.{met, reading}
 use Rattle.term.specs.declared.Fault.{Fault}
 use Rattle.term.specs.declared.Fault.the-variants.{Ends, NoSymbol, Many, Deep}
-use Rattle.term.specs.declared.Met.{Met}
 use Rattle.term.specs.declared.Reading.{Reading}
 use Rattle.term.specs.declared.Reading.the-variants as read
 use Rattle.term.proofs.LawsReading.{whole-in}
@@ -33,12 +30,12 @@ use Rattle.term.proofs.TermWhole.{read-back}
 use Rattle.term.proofs.Sizes.{length-flatten}
 use Rattle.term.proofs.FirstFault.{fault-of, of-fault}
 use Rattle.contents.specs.Tables.{blankWord, shapeLevels, shapeLimits, shapeReason, Row, row, push, shape, shapesFrom, shapesOf}
-use Rattle.folio.specs.Folio.{IsShape, startsAt}
+use Rattle.folio.specs.Folio.{IsShape, Shaped}
 use Rattle.contents.specs.declared.Shapes.{Shapes}
 use Rattle.contents.specs.declared.Shapes.the-variants as shapes
 use Rattle.contents.proofs.LawsTables.{shapes-none, shapes-some}
-use Rattle.folio.proofs.ShapesFound.{Each, solid, head-word, found-shapes, shapes-found}
-use Rattle.promises.specs.Refusals.{ShapesTo, ShapeFault, ShapeRow, row-7, row-8, row-9, row-10, row-11, row-12-none, row-12-more, ShapesPass}
+use Rattle.folio.proofs.ShapesFound.{Each, solid, head-word, shapes-found}
+use Rattle.promises.specs.Refusals.{ShapesTo, ShapeFault, ShapeRow, row-7, row-8, row-9, row-10, row-11, row-12-none, row-12-more}
 
 not-refused {κ} : {C : Type κ} {r : Reason} {n i : ℕ} → shapes.Found n ≡ shapes.Refused r i → C
 not-refused e = let z : _≡_ {A = ℕ} 0 1 = cc in absurd (omega arith)
@@ -168,10 +165,5 @@ module _ (ar ws : List ℕ) where
   row-shape (row-12-more i h s) = to-there i 16 0 refl s (omega arith) ∙ rw (lt-ltb i (length ws) h) refl
 
   -- ---- where they give nothing
-  pub shapes-pass : (n : ℕ) → shapesOf ar blankWord ws .answer ≡ shapes.Found n → ShapesPass ar ws
-  shapes-pass n e =
-      let f = found-shapes ar ws n e in
-      record { shapes = f .trees; some-shape = f .some-shape; few-shapes = f .few-shapes; each = λ i t m. f .each t (at-in (f .trees) i m); words = f .words }
-
-  pub pass-shapes : (s : ShapesPass ar ws) → shapesOf ar blankWord ws ≡ row (shapes.Found (0 + length (s .shapes))) (startsAt 0 (s .shapes))
-  pass-shapes s = ap (shapesOf ar blankWord) (s .words) ∙ shapes-found ar (s .shapes) (λ t m. on-in m (λ i e. s .each i t e)) (s .some-shape) (s .few-shapes)
+  pub pass-shapes : (st : List ℕ) (s : Shaped ar ws st) → shapesOf ar blankWord ws ≡ row (shapes.Found (0 + length (s .trees))) st
+  pass-shapes st s = ap (shapesOf ar blankWord) (s .words) ∙ shapes-found ar (s .trees) (s .each) (s .some-shape) (s .few-shapes) ∙ ap (row (shapes.Found (0 + length (s .trees)))) (sym (s .begins))

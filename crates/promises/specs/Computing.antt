@@ -16,9 +16,10 @@ use Rattle.walk.specs.Stepping.{look, tried, stepped, run, runBy}
 use Rattle.queue.specs.Targets.{targets, marked}
 use Rattle.counting.specs.Counting.{anyTo, sumTo, someMatch, numberAt, total}
 use Rattle.counting.specs.Counting.{counted as countedIn}
+use Rattle.report.specs.Lines.{written}
 use Rattle.report.specs.Paths.{childOn, pathTo}
 use Rattle.report.specs.Text.{digitsTo, digits, pathText, texts, lines, report}
 
 unfoldable pub computing : ℕ
-unfolding decodeTo childrenOf headOf reading over spansOf sibling childAt follow target wordsOf distancesOf trailerOf overAt symbolsOf sectionsOf shapesFrom shapesOf scoreOf stored held opened symbolsGood shapesGood scoreGood pieceAt subtreeAt cleared buildOf pairs counted blockAt labelWord blockOf pairAt labelOf lengthsOf announcementOf successorOf started targets look marked tried stepped run runBy anyTo sumTo someMatch numberAt total countedIn childOn pathTo digitsTo digits pathText texts lines report
+unfolding decodeTo childrenOf headOf reading over spansOf sibling childAt follow target wordsOf distancesOf trailerOf overAt symbolsOf sectionsOf shapesFrom shapesOf scoreOf stored held opened symbolsGood shapesGood scoreGood pieceAt subtreeAt cleared buildOf pairs counted blockAt labelWord blockOf pairAt labelOf lengthsOf announcementOf successorOf started targets look marked tried stepped run runBy anyTo sumTo someMatch numberAt total countedIn childOn pathTo digitsTo digits pathText texts lines report written
 computing = 0

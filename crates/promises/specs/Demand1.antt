@@ -5,20 +5,25 @@
 --   StartRow    31, 30; or a walk that is begun
 --   StepRow     32, 34; or a step
 --   CountRow    31, 30; or a number, for matches and for clashes
+--   LineRow     30 for a buffer under 1,400 bytes (docs/DECISIONS.md); or the line at its start, the bytes behind it as they were
+--   FoundRow    34; or what is found: in `Found`, for subtree and the plan readers
 --   By          an outcome has a row, and every row that applies gives this outcome
 use mathlib.Core.Path.{_≡_}
-use mathlib.Core.List.{List}
+use mathlib.Core.List.{List, [], _++_}
 use mathlib.Core.Option.{none, some}
 use Prim.Native.Nat.{ℕ, _*_, _<_, _≤_}
-use lib.ListN.{length, getElem?, take}
+use lib.ListN.{length, getD, getElem?, take, drop}
 use lib.Seq.{sets}
 use Rattle.kinds.specs.Lists.{gather}
+use Rattle.kinds.specs.Kinds.{position}
 use Rattle.kinds.specs.declared.Reason.{Reason}
 use Rattle.kinds.specs.declared.Reason.the-variants.{BadShapes, ShortScratch, LongPlan, ShortBuffers, BadScore, NoSuchItem, OutOfRange}
 use Rattle.term.specs.Terms.{Term, span, flatten}
 use Rattle.folio.specs.Opening.{Lent, Room, refuse, opened}
 use Rattle.folio.specs.Opening.{Out as Opening}
 use Rattle.folio.specs.Folio.{Folio, GoodSymbols, Shaped, GoodScore, shapeTerms, answered}
+use Rattle.folio.specs.Again.{subtreeAt}
+use Rattle.folio.specs.declared.Asked.{Asked}
 use Rattle.sections.specs.declared.Places.{Places}
 use Rattle.automaton.specs.PlanWords.{halted, too-long, plan-of}
 use Rattle.plan.specs.Building.{scratchWords, cleared, size, stateNumber, planOf, buildOf}
@@ -27,10 +32,21 @@ use Rattle.plan.specs.declared.Built.the-variants as built
 use Rattle.walk.specs.Starting.{Walk, goOn, begun, started}
 use Rattle.walk.specs.Starting.{Out as Walking, refuse as refuseWalk}
 use Rattle.walk.specs.Stepping.{tried, stepped}
-use Rattle.counting.specs.Counting.{counted, total}
+use Rattle.counting.specs.Counting.{counted, total, matchAt}
 use Rattle.counting.specs.Clashes.{clashNumber, clash}
 use Rattle.counting.specs.declared.Counted.{Counted}
 use Rattle.counting.specs.declared.Counted.the-variants as count
+use Rattle.readers.specs.BlockWords.{middle}
+use Rattle.readers.specs.PlanParts.{labelOf, lengthsOf, announcementOf, successorOf}
+use Rattle.readers.specs.declared.Label.the-variants as label
+use Rattle.readers.specs.declared.Block.the-variants as block
+use Rattle.readers.specs.declared.Announcement.the-variants as announcement
+use Rattle.readers.specs.declared.Successor.the-variants as successor
+use Rattle.report.specs.Text.{line, firstLine, refusalText}
+use Rattle.report.specs.Lines.{lineRoom, outOf, lineOut, firstOut, refusalOut}
+use Rattle.report.specs.Lines.{Out as Line}
+use Rattle.report.specs.declared.Written.the-variants as written
+use Rattle.promises.specs.Found.{FoundRow, Standing, LabelFound, BlockFound, AnnouncementFound, SuccessorFound}
 use Rattle.promises.specs.Refusals.{Given, Framed, symbolsAt, shapesAt, scoreAt}
 
 abbrev pub By : {A : Type 0} → (A → Type 0) → A → Type 0
@@ -97,6 +113,11 @@ pub data StepRow (plan score spans : List ℕ) (i : ℕ) (w : Walk) : Walking �
   step-34 : i < w .count .waiting → tried plan score spans i w ≡ none → StepRow plan score spans i w (refuseWalk OutOfRange w)
   takes : i < w .count .waiting → (v : Walk) → tried plan score spans i w ≡ some v → StepRow plan score spans i w (goOn v)
 
+-- ---- a line of the report
+pub data LineRow (text buffer : List ℕ) : Line → Type 0 where
+  line-30 : length buffer < lineRoom → LineRow text buffer (outOf (written.Refused ShortBuffers) buffer)
+  writes : lineRoom ≤ length buffer → LineRow text buffer (outOf (written.Bytes (length text)) (text ++ drop (length text) buffer))
+
 pub record Demand1 : Type 0 where
   pub opening : (file : List ℕ) (l : Lent) → Below 256 file → By (OpenRow file l) (opened file l)
   pub building : (ar ws st plan scratch : List ℕ) → By (BuildRow ar ws st plan scratch) (buildOf ar ws st plan scratch)
@@ -104,3 +125,14 @@ pub record Demand1 : Type 0 where
   pub stepping : (plan score spans : List ℕ) (i : ℕ) (w : Walk) → By (StepRow plan score spans i w) (stepped plan score spans i w)
   pub matches : (ar score spans marks : List ℕ) → Below 65536 score → By (CountRow ar score spans total marks) (counted total ar score spans marks)
   pub clashes : (ar score spans marks : List ℕ) → Below 65536 score → By (CountRow ar score spans (clashNumber (clash spans)) marks) (counted (clashNumber (clash spans)) ar score spans marks)
+  pub subtree : (w : Asked) (ar shapes score : List ℕ) → Below 65536 score → By (FoundRow (Standing ar shapes score w) [] flatten) (subtreeAt w ar shapes score)
+  pub label : (plan : List ℕ) (m k s : ℕ) → By (FoundRow (LabelFound plan m k s) (label.Refused OutOfRange) (λ c. label.At (position c))) (labelOf plan m k s)
+  pub lengths : (plan : List ℕ) (m k s f : ℕ)
+      → By (FoundRow (BlockFound plan m k s f) (block.Refused OutOfRange) (λ b. block.Of (record { announcements = getD plan b 0; successors = getD plan (middle plan b) 0 }))) (lengthsOf plan m k s f)
+  pub announcement : (plan : List ℕ) (m k s f i : ℕ)
+      → By (FoundRow (AnnouncementFound plan m k s f i) (announcement.Refused OutOfRange) (λ x. announcement.Of (record { 0 = x .0 }) (position (x .1)))) (announcementOf plan m k s f i)
+  pub successor : (plan : List ℕ) (m k s f i : ℕ)
+      → By (FoundRow (SuccessorFound plan m k s f i) (successor.Refused OutOfRange) (λ x. successor.Of (record { 0 = x .0 }) (position (x .1)))) (successorOf plan m k s f i)
+  pub first-line : (n s m c : ℕ) (buffer : List ℕ) → By (LineRow (firstLine n s m c) buffer) (firstOut n s m c buffer)
+  pub match-line : (spans : List ℕ) (x j : ℕ) (buffer : List ℕ) → By (LineRow (line spans (matchAt x j)) buffer) (lineOut spans x j buffer)
+  pub refusal-line : (r : Reason) (p : ℕ) (buffer : List ℕ) → By (LineRow (refusalText r p) buffer) (refusalOut r p buffer)

@@ -2,6 +2,7 @@
 pub mod Computing
 pub mod Sample
 pub mod Refusals
+pub mod Found
 pub mod Demand1
 pub mod OneFile
 pub mod Demand2

@@ -3,7 +3,7 @@
 --   SymbolRow     5, 6
 --   ShapeRow      7 to 12: "12 where a shape begins; else at each node 8, 7, 10, 11; then 9 when the shape is complete"
 --   ScoreRow      13 to 17: "at each node: 14, 13, 17, 15; then 16"
---   Framed ShapesPass   what holds where the rows of a section give nothing
+--   Framed        what holds where 1 to 4 are not given; where 5 to 17 are not it is `GoodSymbols`, `Shaped` and `Scored` of folio/specs
 --   Given         "Order: 1 to 6, then shapes, then score, then 18": a row counts where the sections before it pass
 use mathlib.Core.Path.{_≡_}
 use mathlib.Core.List.{List, _++_}
@@ -21,7 +21,7 @@ use Rattle.sections.specs.Bytes.{wordAt, wordsOf}
 use Rattle.sections.specs.Sections.{places}
 use Rattle.contents.specs.Tables.{blankWord, noBlank, shapeLevels, scoreLevels, shapeLimits, scoreLimits}
 use Rattle.folio.specs.Opening.{Lent, Room}
-use Rattle.folio.specs.Folio.{IsShape, GoodSymbols, Scored}
+use Rattle.folio.specs.Folio.{IsShape, GoodSymbols, Shaped, Scored}
 use Rattle.sections.specs.declared.Places.{Places}
 
 -- ---- 1 to 4
@@ -94,13 +94,6 @@ module _ (ar ws : List ℕ) where
     row-12-none : length ws ≡ 0 → ShapeRow Shapes 0
     row-12-more : (i : ℕ) → i < length ws → ShapesTo i 16 → ShapeRow Shapes i
 
-  pub record ShapesPass : Type 0 where
-    pub shapes : List Term
-    pub some-shape : 1 ≤ length shapes
-    pub few-shapes : length shapes ≤ 16
-    pub each : (i : ℕ) (t : Term) → getElem? shapes i ≡ some t → IsShape ar t
-    pub words : ws ≡ gather flatten shapes
-
 -- ---- 13 to 17
 module _ (ar sc : List ℕ) where
   abbrev pub ScoreFault : Fault → ℕ → Type 0
@@ -128,7 +121,7 @@ pub data Given (file : List ℕ) (l : Lent) (r : Reason) (p : ℕ) : Type 0 wher
   in-trailer : TrailerRow file r p → Given file l r p
   in-symbols : (q : Places) → Framed file q → SymbolRow (symbolsAt file q) r p → Given file l r p
   in-shapes : (q : Places) → Framed file q → GoodSymbols (symbolsAt file q) → (i : ℕ) → ShapeRow (symbolsAt file q) (shapesAt file q) r i → p ≡ q .shapes + 2 * i → Given file l r p
-  in-score : (q : Places) → Framed file q → GoodSymbols (symbolsAt file q) → ShapesPass (symbolsAt file q) (shapesAt file q)
+  in-score : (q : Places) → Framed file q → GoodSymbols (symbolsAt file q) → (starts : List ℕ) → Shaped (symbolsAt file q) (shapesAt file q) starts
       → (i : ℕ) → ScoreRow (symbolsAt file q) (scoreAt file q) r i → p ≡ q .score + 2 * i → Given file l r p
-  row-18 : (q : Places) → Framed file q → GoodSymbols (symbolsAt file q) → (s : ShapesPass (symbolsAt file q) (shapesAt file q)) → (t : Scored (symbolsAt file q) (scoreAt file q))
-      → (Room l (length (shapesAt file q)) (length (s .shapes)) (span (t .tree)) → ⊥) → r ≡ Tables → p ≡ 0 → Given file l r p
+  row-18 : (q : Places) → Framed file q → GoodSymbols (symbolsAt file q) → (starts : List ℕ) (s : Shaped (symbolsAt file q) (shapesAt file q) starts) → (t : Scored (symbolsAt file q) (scoreAt file q))
+      → (Room l (length (shapesAt file q)) (length (s .trees)) (span (t .tree)) → ⊥) → r ≡ Tables → p ≡ 0 → Given file l r p

@@ -1,4 +1,4 @@
--- The sample folio: P1 to P10 of document 01, the whole plan and the whole report, as one table of the definitions with one claim.
+-- The sample folio: P1 to P10 of document 01, the whole plan and the whole report, and the plan's readers on it, as one table of the definitions with one claim.
 --   file      the 49 bytes
 --   table     what the definitions give: from the file its opening, from that the building, from that the plan, from that the walks and the report
 --   claimed   what document 01 says
@@ -9,20 +9,24 @@ use Prim.Native.Nat.{ℕ, _*_, _-_}
 use lib.ListN.{length, take, drop, replicate}
 use Rattle.kinds.specs.Positions.{code}
 use Rattle.kinds.specs.Reasons.{Says}
-use Rattle.folio.specs.Opening.{Lent, lent, opened, openedSays}
+use Rattle.folio.specs.Opening.{lent, opened, openedSays}
 use Rattle.folio.specs.Opening.{Out as Opening}
 use Rattle.plan.specs.Building.{buildOf, builtSays}
 use Rattle.plan.specs.Building.{Out as Building}
+use Rattle.kinds.specs.Kinds.{position, childOf, childSays}
+use Rattle.following.specs.Following.{target, reached, reachedSays}
+use Rattle.readers.specs.PlanParts.{labelOf, labelSays, lengthsOf, blockSays, announcementOf, announcementSays, successorOf, successorSays}
 use Rattle.walk.specs.Starting.{Walk, walkOf, counting, started, walkedSays}
 use Rattle.walk.specs.Stepping.{stepped, runBy}
 use Rattle.counting.specs.Counting.{matchesOf, countedSays}
 use Rattle.counting.specs.Clashes.{clashesOf}
 use Rattle.report.specs.Quoted.{bytes}
+use Rattle.report.specs.Lines.{lineOut, writtenSays}
 use Rattle.report.specs.Text.{report}
 use Rattle.promises.specs.Computing.{computing}
 
 -- rest, join, close with 0, 2, 1 children
-abbrev symbols : List ℕ
+abbrev pub symbols : List ℕ
 symbols = 0 ∷ 2 ∷ 1 ∷ []
 
 -- join(_, close(_)) and join(join(_, _), _)
@@ -36,22 +40,29 @@ abbrev pub file : List ℕ
 file = symbols ++ (shapeBytes ++ (scoreBytes ++ (41 ∷ 0 ∷ 38 ∷ 0 ∷ 20 ∷ 0 ∷ 83 ∷ 67 ∷ [])))
 
 -- what document 01 says that opening and building write; the rows below hold the calls against it, and go on from it
-abbrev shapeWords : List ℕ
+abbrev pub shapeWords : List ℕ
 shapeWords = 1 ∷ 65535 ∷ 2 ∷ 65535 ∷ 1 ∷ 1 ∷ 65535 ∷ 65535 ∷ 65535 ∷ []
 
-abbrev starts : List ℕ
+abbrev pub starts : List ℕ
 starts = 0 ∷ 4 ∷ []
 
-abbrev score : List ℕ
+abbrev pub score : List ℕ
 score = 1 ∷ 1 ∷ 0 ∷ 2 ∷ 0 ∷ 2 ∷ 1 ∷ 0 ∷ 2 ∷ 0 ∷ []
 
-abbrev spans : List ℕ
+abbrev pub spans : List ℕ
 spans = 10 ∷ 4 ∷ 1 ∷ 2 ∷ 1 ∷ 5 ∷ 4 ∷ 1 ∷ 2 ∷ 1 ∷ []
 
-abbrev plan : List ℕ
+abbrev pub plan : List ℕ
 plan = 3 ∷ 3 ∷ 2 ∷ 56 ∷ 0 ∷ 1 ∷ 2 ∷ 16 ∷ 18 ∷ 24 ∷ 28 ∷ 30 ∷ 38 ∷ 42 ∷ 44 ∷ 50 ∷ 0 ∷ 0 ∷ 0 ∷ 2 ∷ 1 ∷ 0 ∷ 2 ∷ 0 ∷ 0 ∷ 1 ∷ 0 ∷ 1 ∷ 0 ∷ 0 ∷ 1 ∷ 1 ∷ 0 ∷ 2 ∷ 1 ∷ 1 ∷ 2 ∷ 1 ∷ 0 ∷ 1 ∷ 0 ∷ 6 ∷ 0 ∷ 0 ∷ 0 ∷ 2 ∷ 1 ∷ 2 ∷ 2 ∷ 2 ∷ 1 ∷ 0 ∷ 0 ∷ 1 ∷ 0 ∷ 11 ∷ []
 
-abbrev nines : ℕ → List ℕ
+abbrev pub marks : List ℕ
+marks = 3 ∷ 1 ∷ 0 ∷ 0 ∷ 0 ∷ 0 ∷ 1 ∷ 0 ∷ 0 ∷ 0 ∷ []
+
+-- what find prints
+abbrev pub text : List ℕ
+text = bytes "nodes 10 states 3 matches 4 clashes 4\n0 0 -\n0 1 -\n1 0 1\n6 0 2.1\n"
+
+abbrev pub nines : ℕ → List ℕ
 nines n = replicate n 9
 
 pub opening : Opening
@@ -89,11 +100,13 @@ table =
     ∷ row (openedSays (opening .answer)) ∷ opening .tables .words ∷ opening .tables .starts ∷ opening .tables .score ∷ opening .tables .spans
     ∷ row (builtSays (building .answer)) ∷ building .plan
     ∷ row (countedSays (matchesOf symbols score spans (firsts .marks))) ∷ row (countedSays (clashesOf symbols score spans (firsts .marks)))
+    ∷ row (labelSays (labelOf plan 3 3 1)) ∷ row (blockSays (lengthsOf plan 3 3 1 1)) ∷ row (announcementSays (announcementOf plan 3 3 1 1 0)) ∷ row (successorSays (successorOf plan 3 3 2 2 0)) ∷ row (labelSays (labelOf plan 3 3 3))
+    ∷ row (childSays (childOf (position 2) 1)) ∷ row (reachedSays (reached (target 10 spans 0 11))) ∷ row (writtenSays (lineOut spans 6 0 (nines 1399) .answer))
     ∷ report spans 3 (firsts .marks) ∷ []
 
 abbrev pub claimed : List (List ℕ)
 claimed =
-    (3 ∷ 1 ∷ 0 ∷ 0 ∷ 0 ∷ 0 ∷ 1 ∷ 0 ∷ 0 ∷ 0 ∷ []) ∷ (0 ∷ 1 ∷ 5 ∷ 2 ∷ 3 ∷ 6 ∷ 4 ∷ 7 ∷ 8 ∷ 9 ∷ []) ∷ (0 ∷ 5 ∷ 6 ∷ 8 ∷ 9 ∷ 7 ∷ 1 ∷ 3 ∷ 4 ∷ 2 ∷ [])
+    marks ∷ (0 ∷ 1 ∷ 5 ∷ 2 ∷ 3 ∷ 6 ∷ 4 ∷ 7 ∷ 8 ∷ 9 ∷ []) ∷ (0 ∷ 5 ∷ 6 ∷ 8 ∷ 9 ∷ 7 ∷ 1 ∷ 3 ∷ 4 ∷ 2 ∷ [])
     ∷ (0 ∷ 2 ∷ 1 ∷ 0 ∷ 2 ∷ 0 ∷ []) ∷ (1 ∷ 1 ∷ 0 ∷ 2 ∷ 1 ∷ 1 ∷ 2 ∷ 1 ∷ []) ∷ (1 ∷ 0 ∷ 0 ∷ 1 ∷ 0 ∷ 11 ∷ [])
     ∷ (11 ∷ [])
     ∷ (0 ∷ 1 ∷ [])
@@ -102,7 +115,9 @@ claimed =
     ∷ (0 ∷ 3 ∷ 2 ∷ 9 ∷ 10 ∷ []) ∷ shapeWords ∷ starts ∷ score ∷ spans
     ∷ (0 ∷ 3 ∷ 56 ∷ []) ∷ (plan ++ (9 ∷ []))
     ∷ (0 ∷ 4 ∷ []) ∷ (0 ∷ 4 ∷ [])
-    ∷ bytes "nodes 10 states 3 matches 4 clashes 4\n0 0 -\n0 1 -\n1 0 1\n6 0 2.1\n" ∷ []
+    ∷ (0 ∷ 1 ∷ []) ∷ (0 ∷ 1 ∷ 2 ∷ []) ∷ (0 ∷ 1 ∷ 0 ∷ []) ∷ (0 ∷ 0 ∷ 11 ∷ []) ∷ (34 ∷ 0 ∷ [])
+    ∷ (0 ∷ 11 ∷ []) ∷ (0 ∷ 6 ∷ []) ∷ (30 ∷ 0 ∷ [])
+    ∷ text ∷ []
 
 pub sample : table ≡ claimed
 unfolding table opening building firsts lasts alone computing

@@ -2,4 +2,3 @@
 pub mod Starting
 pub mod Stepping
 pub mod ByIndex
-pub mod OneFolio

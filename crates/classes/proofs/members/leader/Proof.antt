@@ -1,4 +1,4 @@
-use Rattle.goals.proofs.ClassLaws.{leads-no, leads-next, leads-end}
+use Rattle.classes.proofs.ClassLaws.{leads-no, leads-next, leads-end}
 use Rattle.automaton.specs.Classes.{leads}
 use Prim.Native.Nat.{ℕ, _≤_, _<_, _+_, _-_, _*_}
 use native.Mathlib.Nat.{sub-zero}

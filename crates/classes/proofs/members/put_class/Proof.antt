@@ -1,5 +1,5 @@
-use Rattle.goals.proofs.DeriveLaws.{run-three}
-use Rattle.goals.proofs.ClassLaws.{Left, pick-on, pick-off, pick-end, pick-all}
+use Rattle.deriving.proofs.DeriveLaws.{run-three}
+use Rattle.classes.proofs.ClassLaws.{Left, pick-on, pick-off, pick-end, pick-all}
 use Rattle.goals.specs.GoalWords.{goalsFrom, flat}
 use Rattle.goals.specs.WordStages.{pickedW}
 use Prim.Native.Nat.{ℕ, _≤_, _<_, _+_, _-_, _*_}

@@ -1,5 +1,5 @@
-use Rattle.goals.proofs.OrderLaws.{Listed, listed-begin, listed-on, listed-off, listed-end, key-of, key-small}
-use Rattle.goals.specs.Orders.{begins, classAt}
+use Rattle.deriving.proofs.OrderLaws.{Listed, listed-begin, listed-on, listed-off, listed-end, key-of, key-small}
+use Rattle.deriving.specs.Orders.{begins, classAt}
 use Rattle.goals.specs.GoalWords.{pad}
 use Rattle.goals.specs.WordStages.{classKey}
 use Prim.Native.Nat.{ℕ, _≤_, _<_, _+_, _-_, _*_}
@@ -15,7 +15,7 @@ use Rattle.classes.proofs.order.class_order.Lts as lts
 use Rattle.classes.proofs.members.leader.Reads as leader-reads
 use Rattle.goals.proofs.obligations.padded.Reads as padded-reads
 use Rattle.classes.proofs.order.first_in_row.Reads as first-in-row-reads
-use Rattle.goals.proofs.sorting.arrange.Reads as arrange-reads
+use Rattle.deriving.proofs.sorting.arrange.Reads as arrange-reads
 
 abbrev Inv-loop : tie.InvT-loop
 Inv-loop tab ws n dep items₀ k₀ i₀ items k i = Listed (begins dep) (λ x. classKey tab (classAt dep ws n x)) n items₀ items k i

@@ -1,4 +1,4 @@
-use Rattle.goals.proofs.OrderLaws.{firstFrom, first-on, first-off, first-end, first-all}
+use Rattle.deriving.proofs.OrderLaws.{firstFrom, first-on, first-off, first-end, first-all}
 use Rattle.goals.specs.GoalWords.{goalAt, owedBy, firstCode}
 use Prim.Native.Nat.{ℕ, _≤_, _<_, _+_, _-_, _*_}
 use lib.ListN.{length, getD}

@@ -9,7 +9,7 @@ use Rattle.plan.proofs.building.make.Statement.{statement}
 use Rattle.plan.proofs.building.make.Tie as tie
 use Rattle.plan.proofs.building.make.Reads as reads
 use Rattle.plan.proofs.building.make.Lts as lts
-use Rattle.plan.proofs.explore.explore.Reads as explore-reads
+use Rattle.exploring.proofs.meeting.explore.Reads as explore-reads
 use Rattle.plan.proofs.writing.write_plan.Reads as write-plan-reads
 
 -- src/building.rt:43:11

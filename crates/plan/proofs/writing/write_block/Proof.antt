@@ -1,15 +1,15 @@
-use Rattle.plan.proofs.ExploreLaws.{state-in, Derived, derived, derive-small, derive-room, part-count, part-is, part-few, part-low, part-within, outs-many}
+use Rattle.exploring.proofs.ExploreLaws.{state-in, Derived, derived, derive-small, derive-room, part-count, part-is, part-few, part-low, part-within, outs-many}
 use Rattle.plan.proofs.WriteLaws.{block-is, block-size, class-small, block-written, out-room}
 use Rattle.decoding.proofs.GoodLaws.{good-low, good-label}
-use Rattle.plan.proofs.WordArrays.{low-at}
+use Rattle.exploring.proofs.WordArrays.{low-at}
 use Rattle.classes.proofs.ClosureLaws.{empty-square}
-use Rattle.plan.proofs.InOrder.{classes-in-order}
-use Rattle.goals.proofs.SortLaws.{sort-length}
+use Rattle.exploring.proofs.InOrder.{classes-in-order}
+use Rattle.deriving.proofs.SortLaws.{sort-length}
 use Rattle.decoding.specs.GoodStates.{GoodState}
 use Rattle.goals.specs.GoalWords.{goalsFrom, labelCode}
 use Rattle.goals.specs.WordStages.{classKey, annKey, classesW, outputsW}
 use Rattle.decoding.specs.WordMachine.{words, stateIn, statesIn}
-use Rattle.goals.specs.Orders.{classAt, begins, goesOut, goalOn, outItems}
+use Rattle.deriving.specs.Orders.{classAt, begins, goesOut, goalOn, outItems}
 use lib.ListN.{length, getD, take, replicate}
 use Prim.Native.Nat.{ℕ, _≤_, _<_, _+_, _-_, _*_, _/_, _%_}
 use mathlib.Core.List.{List, [], _∷_, _++_, map}
@@ -20,8 +20,8 @@ use Rattle.plan.proofs.writing.write_block.Statement.{statement}
 use Rattle.plan.proofs.writing.write_block.Tie as tie
 use Rattle.plan.proofs.writing.write_block.Reads as reads
 use Rattle.plan.proofs.writing.write_block.Lts as lts
-use Rattle.goals.proofs.announce.outputs.Reads as outputs-reads
-use Rattle.goals.proofs.derive.derive.Reads as derive-reads
+use Rattle.deriving.proofs.announce.outputs.Reads as outputs-reads
+use Rattle.deriving.proofs.derivative.derive.Reads as derive-reads
 use Rattle.classes.proofs.order.class_order.Reads as class-order-reads
 use Rattle.classes.proofs.square.dependency.Reads as dependency-reads
 use Rattle.plan.proofs.writing.write_outputs.Reads as write-outputs-reads

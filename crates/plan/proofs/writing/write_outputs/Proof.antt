@@ -1,5 +1,5 @@
 use Rattle.plan.proofs.WriteLaws.{two-stores, Paired, paired-begin, paired-on, paired-end}
-use Rattle.goals.specs.Orders.{goalOn}
+use Rattle.deriving.specs.Orders.{goalOn}
 use lib.ListN.{length, getD, set, length-set}
 use Prim.Native.Nat.{ℕ, _≤_, _<_, _+_, _-_, _*_, _%_}
 use mathlib.Core.Path.{_≡_, refl, ap, ap₂, sym, _∙_}

@@ -1,5 +1,5 @@
 use Rattle.plan.proofs.WriteLaws.{Planned, planned-begin, planned-room, planned-below, planned-on, planned-end, plan-total, head-length}
-use Rattle.plan.proofs.ExploreLaws.{state-in}
+use Rattle.exploring.proofs.ExploreLaws.{state-in}
 use Rattle.decoding.proofs.GoodLaws.{good-low, good-label}
 use Rattle.decoding.specs.WordMachine.{stateIn, statesIn}
 use Rattle.decoding.specs.GoodStates.{GoodState}

@@ -1,4 +1,4 @@
-use Rattle.plan.proofs.ExploreLaws.{state-in}
+use Rattle.exploring.proofs.ExploreLaws.{state-in}
 use Rattle.decoding.specs.WordMachine.{stateIn}
 use Rattle.plan.proofs.WriteLaws.{Rowed, rowed-begin, rowed-room, rowed-on, rowed-end}
 use lib.ListN.{length, getD, set, length-set}

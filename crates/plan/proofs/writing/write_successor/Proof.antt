@@ -1,10 +1,10 @@
-use Rattle.plan.proofs.ExploreLaws.{class-few, class-room, Lifting, lifting}
+use Rattle.exploring.proofs.ExploreLaws.{class-few, class-room, Lifting, lifting}
 use Rattle.plan.proofs.WriteLaws.{two-stores, place-le}
-use Rattle.plan.proofs.WordArrays.{flat-thirds}
-use Rattle.plan.proofs.StateLaws.{states-length}
+use Rattle.exploring.proofs.WordArrays.{flat-thirds}
+use Rattle.exploring.proofs.StateLaws.{states-length}
 use Rattle.decoding.specs.WordMachine.{statesIn}
-use Rattle.goals.specs.Orders.{classAt}
-use Rattle.plan.specs.Meeting.{placeOf, liftedW}
+use Rattle.deriving.specs.Orders.{classAt}
+use Rattle.exploring.specs.Meeting.{placeOf, liftedW}
 use lib.ListN.{length, getD, set, length-set, replicate}
 use lib.Seq.{sets}
 use Prim.Native.Nat.{ℕ, _≤_, _<_, _+_, _-_, _*_, _%_}
@@ -17,9 +17,9 @@ use Rattle.plan.proofs.writing.write_successor.Tie as tie
 use Rattle.plan.proofs.writing.write_successor.Reads as reads
 use Rattle.plan.proofs.writing.write_successor.Lts as lts
 use Rattle.classes.proofs.members.put_class.Reads as put-class-reads
-use Rattle.goals.proofs.lift.least.Reads as least-reads
-use Rattle.goals.proofs.lift.put_lifted.Reads as put-lifted-reads
-use Rattle.plan.proofs.states.find_state.Reads as find-state-reads
+use Rattle.deriving.proofs.lift.least.Reads as least-reads
+use Rattle.deriving.proofs.lift.put_lifted.Reads as put-lifted-reads
+use Rattle.exploring.proofs.states.find_state.Reads as find-state-reads
 
 -- src/writing.rt:125:41
 -- src/writing.rt:219:41

@@ -1,8 +1,8 @@
 use Rattle.plan.proofs.WriteLaws.{Paired, paired-begin, paired-on, paired-end}
 use Rattle.goals.specs.WordStages.{leastCode}
 use Rattle.decoding.specs.WordMachine.{statesIn}
-use Rattle.goals.specs.Orders.{classAt}
-use Rattle.plan.specs.Meeting.{placeOf, liftedW}
+use Rattle.deriving.specs.Orders.{classAt}
+use Rattle.exploring.specs.Meeting.{placeOf, liftedW}
 use lib.ListN.{length, getD, set, length-set}
 use Prim.Native.Nat.{ℕ, _≤_, _<_, _+_, _-_, _*_, _%_}
 use mathlib.Core.Path.{_≡_, refl, ap, ap₂, sym, _∙_}

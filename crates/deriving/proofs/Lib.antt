@@ -1,0 +1,4 @@
+pub mod DeriveLaws
+pub mod LiftLaws
+pub mod SortLaws
+pub mod OrderLaws

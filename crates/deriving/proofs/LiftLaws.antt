@@ -1,0 +1,70 @@
+-- Least announcement and lifting along a loop's turn.
+use Prim.Native.Nat.{ℕ, zero, suc, _+_, _-_, _*_, _/_, _%_, _^_, _<_, _≤_}
+use mathlib.Core.Path.{_≡_, refl, ap, sym, _∙_}
+use mathlib.Core.List.{List, [], _∷_, map}
+use mathlib.Core.Bool.{Bool, true, false, cond}
+use native.Mathlib.Omega.{arith}
+use native.Mathlib.Nat.{pow-suc, mod-le}
+use borrow.Author.Tests.{lt-ltb, le-ltb}
+use lib.Dec.{ltb}
+use lib.ListN.{length, getD}
+use Rattle.goals.specs.GoalWords.{GoalWords, goalAt, goalsFrom, flat}
+use Rattle.goals.specs.WordStages.{leastCode, underFrom, underCode, liftW}
+use Rattle.goals.proofs.GoalLaws.{goals-next, goals-end, sub-one}
+
+module _ (ws : List ℕ) (at k best : ℕ) where
+  pub least-next : 0 < k → getD ws (at + 1) 0 < best → leastCode best (goalsFrom ws at k) ≡ leastCode (getD ws (at + 1) 0) (goalsFrom ws (at + 3) (k - 1))
+  unfolding leastCode
+  least-next h l = ap (leastCode best) (goals-next ws at k h) ∙ ap (λ t. leastCode (cond t (getD ws (at + 1) 0) best) (goalsFrom ws (at + 3) (k - 1))) (lt-ltb (getD ws (at + 1) 0) best l)
+
+  pub least-keep : 0 < k → best ≤ getD ws (at + 1) 0 → leastCode best (goalsFrom ws at k) ≡ leastCode best (goalsFrom ws (at + 3) (k - 1))
+  unfolding leastCode
+  least-keep h l = ap (leastCode best) (goals-next ws at k h) ∙ ap (λ t. leastCode (cond t (getD ws (at + 1) 0) best) (goalsFrom ws (at + 3) (k - 1))) (le-ltb (getD ws (at + 1) 0) best l)
+
+  pub least-end : k ≤ 0 → leastCode best (goalsFrom ws at k) ≡ best
+  unfolding leastCode
+  least-end h = ap (leastCode best) (goals-end ws at k h)
+
+module _ (g c : ℕ) where
+  pub under-stop : (k t w : ℕ) → t ≤ g → underFrom k g c t w ≡ c % w
+  unfolding underFrom
+  under-stop zero t w h = refl
+  under-stop (suc k) t w h = rw (le-ltb g t h) refl
+
+  pub under-next : (k t w : ℕ) → 0 < k → g < t → underFrom k g c t w ≡ underFrom (k - 1) g c (t / 5) (w * 5)
+  unfolding underFrom
+  under-next zero t w l h = absurd (omega arith)
+  under-next (suc k) t w l h = rw (lt-ltb g t h, sub-one k) refl
+
+  pub under-end : (k t w : ℕ) → k ≤ 0 → underFrom k g c t w ≡ c % w
+  unfolding underFrom
+  under-end zero t w h = refl
+  under-end (suc k) t w h = absurd (omega arith)
+
+pub five-le : (n : ℕ) → n ≤ 7 → (0 < 5 ^ n) × (5 ^ n ≤ 78125)
+five-le zero h = omega arith
+five-le (suc zero) h = omega arith
+five-le (suc (suc zero)) h = omega arith
+five-le (suc (suc (suc zero))) h = omega arith
+five-le (suc (suc (suc (suc zero)))) h = omega arith
+five-le (suc (suc (suc (suc (suc zero))))) h = omega arith
+five-le (suc (suc (suc (suc (suc (suc zero)))))) h = omega arith
+five-le (suc (suc (suc (suc (suc (suc (suc zero))))))) h = omega arith
+five-le (suc (suc (suc (suc (suc (suc (suc (suc n)))))))) h = absurd (omega arith)
+
+pub five-next : (k : ℕ) → 0 < k → k ≤ 7 → 5 ^ (7 - k) * 5 ≡ 5 ^ (7 - (k - 1))
+five-next k h l = let e : 7 - (k - 1) ≡ suc (7 - k) = omega arith in sym (ap (λ n. 5 ^ n) e ∙ pow-suc 5 (7 - k))
+
+pub rem-le : (c w : ℕ) → c % w ≤ c
+rem-le c w = mod-le c w
+
+abbrev pub lifted : ℕ → List ℕ → ℕ → ℕ → List ℕ
+lifted c ws at k = flat (map (liftW c) (goalsFrom ws at k))
+
+pub lifted-next : (c : ℕ) (ws : List ℕ) (at k : ℕ) → 0 < k → lifted c ws at k ≡ getD ws at 0 ∷ underCode c (getD ws (at + 1) 0) ∷ getD ws (at + 2) 0 ∷ lifted c ws (at + 3) (k - 1)
+unfolding flat
+lifted-next c ws at k h = ap (λ gs. flat (map (liftW c) gs)) (goals-next ws at k h)
+
+pub lifted-end : (c : ℕ) (ws : List ℕ) (at k : ℕ) → k ≤ 0 → lifted c ws at k ≡ []
+unfolding flat
+lifted-end c ws at k h = ap (λ gs. flat (map (liftW c) gs)) (goals-end ws at k h)

@@ -1,0 +1,5 @@
+pub mod StateLaws
+pub mod InOrder
+pub mod MeetLaws
+pub mod WordArrays
+pub mod ExploreLaws

@@ -1,0 +1,98 @@
+use Rattle.exploring.proofs.ExploreLaws.{Running, running-begin, running-on, running-stop, running-end, fresh-room}
+use lib.ListN.{length, getD}
+use Prim.Native.Nat.{ℕ, _≤_, _<_, _+_, _-_, _*_, _/_, _%_}
+use mathlib.Core.Path.{_≡_, refl, ap, ap₂, sym, _∙_}
+use native.Mathlib.Omega.{arith}
+use borrow.Author.Needs.{needs}
+use Rattle.exploring.proofs.meeting.explore.Statement.{statement}
+use Rattle.exploring.proofs.meeting.explore.Tie as tie
+use Rattle.exploring.proofs.meeting.explore.Reads as reads
+use Rattle.exploring.proofs.meeting.explore.Lts as lts
+use Rattle.deriving.proofs.derivative.put_fresh.Reads as put-fresh-reads
+use Rattle.exploring.proofs.meeting.explore_state.Reads as explore-state-reads
+use Rattle.exploring.proofs.states.add_state.Reads as add-state-reads
+
+abbrev Inv-loop : tie.InvT-loop
+Inv-loop tab arity shapes scratch₀ m₀ words₀ i₀ scratch m words i = Running arity tab shapes scratch₀ scratch m words i
+
+abbrev μ-loop : tie.MeasureT-loop
+μ-loop tab arity shapes scratch₀ m₀ words₀ i₀ scratch m words i = 128 - i
+
+slice-aggregate-put-fresh : tie.Need-slice-aggregate-put-fresh Inv-loop μ-loop
+slice-aggregate-put-fresh c = search needs
+
+put-fresh-requires : tie.Need-put-fresh-requires Inv-loop μ-loop
+put-fresh-requires c κs = (c .before .before .before .before .pre .0 .few-shapes, fresh-room (c .before .before .before .before .args .shapes) (c .before .before .before .before .pre .0 .few-shapes))
+
+slice-aggregate-add-state : tie.Need-slice-aggregate-add-state Inv-loop μ-loop
+slice-aggregate-add-state c = search needs
+
+add-state-requires : tie.Need-add-state-requires Inv-loop μ-loop
+add-state-requires c κs = search needs
+
+loop-holds : tie.Need-loop-holds Inv-loop μ-loop
+loop-holds c = (running-begin (c .before .before .before .before .before .before .before .before .before .before .before .args .arity .now) (c .before .before .before .before .before .before .before .before .before .before .before .args .tab .now) (c .before .before .before .before .before .before .before .before .before .before .before .args .shapes) (c .before .before .before .before .before .before .before .before .before .before .before .args .scratch .now) (c .before .before .before .before .before .before .before .before .before .before .before .pre .0) (c .before .before .before .before .before .before .before .before .before .before .before .pre .1) _ _ (c .before .before .before .before .before .before .put-fresh .ensures .1) (c .before .before .add-state .ensures)) .0
+
+cast-t25 : tie.Need-cast-t25 Inv-loop μ-loop
+cast-t25 c = omega (arith, c .before .loop-test .taken, c .before .before .loop .inv .kept .few)
+
+explore-state-requires : tie.Need-explore-state-requires Inv-loop μ-loop
+explore-state-requires c κs = (c .before .before .loop .inv .kept, c .before .loop-test .taken, c .before .before .loop .inv .good)
+
+enum-known-states : tie.Need-enum-known-states Inv-loop μ-loop
+enum-known-states c = search needs
+
+add-words : tie.Need-add-words Inv-loop μ-loop
+add-words c = let s = (running-on (c .before .before .before .before .before .before .before .before .before .before .before .before .before .before .before .before .before .before .before .before .args .arity .now) (c .before .before .before .before .before .before .before .before .before .before .before .before .before .before .before .before .before .before .before .before .args .tab .now) (c .before .before .before .before .before .before .before .before .before .before .before .before .before .before .before .before .before .before .before .before .args .shapes) _ (c .before .before .before .before .before .before .before .before .loop .inv) (c .before .before .before .before .before .before .before .loop-test .taken) _ (c .before .before .before .before .before .explore-state .result) _ _ (c .before .states .given .1) (c .before .before .before .before .before .explore-state .ensures .0) (c .before .before .before .before .before .explore-state .ensures .1) (c .before .before .before .before .before .explore-state .kept .1 .1 .1 .0)) in omega (arith, s .sum, s .below, s .kept .few)
+
+enum-known-reason : tie.Need-enum-known-reason Inv-loop μ-loop
+enum-known-reason c = search needs
+
+cast-t27 : tie.Need-cast-t27 Inv-loop μ-loop
+cast-t27 c = omega (arith, c .before .before .before .before .before .before .before .loop-test .taken, c .before .before .before .before .before .before .before .before .loop .inv .kept .few)
+
+same-length : tie.Need-same-length Inv-loop μ-loop
+same-length c = c .before .before .before .before .before .explore-state .kept .1 .1 .1 .0 ∙ c .before .before .before .before .before .before .before .before .loop .inv .long ∙ c .before .before .before .before .before .before .before .before .before .before .before .add-state .kept .0
+
+returns : tie.Need-returns Inv-loop μ-loop
+returns c = (running-stop (c .before .before .before .before .before .before .before .before .before .before .before .before .before .before .before .before .before .before .before .before .args .arity .now) (c .before .before .before .before .before .before .before .before .before .before .before .before .before .before .before .before .before .before .before .before .args .tab .now) (c .before .before .before .before .before .before .before .before .before .before .before .before .before .before .before .before .before .before .before .before .args .shapes) _ (c .before .before .before .before .before .before .before .before .loop .inv) (c .before .before .before .before .before .before .before .loop-test .taken) _ (c .before .before .before .before .before .explore-state .result) _ (c .before .reason .given .1) (c .before .before .before .before .before .explore-state .ensures .0), c .before .before .before .before .before .explore-state .ensures .1 ∙ c .before .before .before .before .before .before .before .before .loop .inv .behind ∙ (running-begin (c .before .before .before .before .before .before .before .before .before .before .before .before .before .before .before .before .before .before .before .before .args .arity .now) (c .before .before .before .before .before .before .before .before .before .before .before .before .before .before .before .before .before .before .before .before .args .tab .now) (c .before .before .before .before .before .before .before .before .before .before .before .before .before .before .before .before .before .before .before .before .args .shapes) (c .before .before .before .before .before .before .before .before .before .before .before .before .before .before .before .before .before .before .before .before .args .scratch .now) (c .before .before .before .before .before .before .before .before .before .before .before .before .before .before .before .before .before .before .before .before .pre .0) (c .before .before .before .before .before .before .before .before .before .before .before .before .before .before .before .before .before .before .before .before .pre .1) _ _ (c .before .before .before .before .before .before .before .before .before .before .before .before .before .before .before .put-fresh .ensures .1) (c .before .before .before .before .before .before .before .before .before .before .before .add-state .ensures)) .1)
+
+add-i : tie.Need-add-i Inv-loop μ-loop
+add-i c = omega (arith, c .before .before .before .before .before .before .before .loop-test .taken, c .before .before .before .before .before .before .before .before .loop .inv .kept .few)
+
+loop-less : tie.Need-loop-less Inv-loop μ-loop
+loop-less c = omega (arith, c .before .before .before .before .before .before .before .loop-test .taken, c .before .before .before .before .before .before .before .before .loop .inv .kept .few)
+
+loop-again : tie.Need-loop-again Inv-loop μ-loop
+loop-again c = (running-on (c .before .before .before .before .before .before .before .before .before .before .before .before .before .before .before .before .before .before .before .before .args .arity .now) (c .before .before .before .before .before .before .before .before .before .before .before .before .before .before .before .before .before .before .before .before .args .tab .now) (c .before .before .before .before .before .before .before .before .before .before .before .before .before .before .before .before .before .before .before .before .args .shapes) _ (c .before .before .before .before .before .before .before .before .loop .inv) (c .before .before .before .before .before .before .before .loop-test .taken) _ (c .before .before .before .before .before .explore-state .result) _ _ (c .before .states .given .1) (c .before .before .before .before .before .explore-state .ensures .0) (c .before .before .before .before .before .explore-state .ensures .1) (c .before .before .before .before .before .explore-state .kept .1 .1 .1 .0))
+
+same-length-2 : tie.Need-same-length-2 Inv-loop μ-loop
+same-length-2 c = c .before .loop .inv .long ∙ c .before .before .before .before .add-state .kept .0
+
+returns-2 : tie.Need-returns-2 Inv-loop μ-loop
+returns-2 c = (running-end (c .before .before .before .before .before .before .before .before .before .before .before .before .before .args .arity .now) (c .before .before .before .before .before .before .before .before .before .before .before .before .before .args .tab .now) (c .before .before .before .before .before .before .before .before .before .before .before .before .before .args .shapes) _ (c .before .loop .inv) (c .loop-test .left), c .before .loop .inv .behind ∙ (running-begin (c .before .before .before .before .before .before .before .before .before .before .before .before .before .args .arity .now) (c .before .before .before .before .before .before .before .before .before .before .before .before .before .args .tab .now) (c .before .before .before .before .before .before .before .before .before .before .before .before .before .args .shapes) (c .before .before .before .before .before .before .before .before .before .before .before .before .before .args .scratch .now) (c .before .before .before .before .before .before .before .before .before .before .before .before .before .pre .0) (c .before .before .before .before .before .before .before .before .before .before .before .before .before .pre .1) _ _ (c .before .before .before .before .before .before .before .before .put-fresh .ensures .1) (c .before .before .before .before .add-state .ensures)) .1)
+
+pub explore-spec : {M : Type 1} → statement M
+explore-spec =
+    tie.close
+    (tie.spec
+    Inv-loop
+    μ-loop
+    slice-aggregate-put-fresh
+    put-fresh-requires
+    slice-aggregate-add-state
+    add-state-requires
+    loop-holds
+    cast-t25
+    explore-state-requires
+    enum-known-states
+    add-words
+    enum-known-reason
+    cast-t27
+    same-length
+    returns
+    add-i
+    loop-less
+    loop-again
+    same-length-2
+    returns-2)

@@ -1,0 +1,132 @@
+use Rattle.exploring.proofs.ExploreLaws.{state-in, Rowing, rowing-begin, rowing-on, rowing-stop, rowing-end}
+use Rattle.decoding.proofs.GoodLaws.{good-low, good-label}
+use Rattle.decoding.specs.GoodStates.{GoodState}
+use Rattle.goals.specs.GoalWords.{labelCode}
+use Rattle.decoding.specs.WordMachine.{stateIn}
+use lib.ListN.{length, getD}
+use Prim.Native.Nat.{ℕ, _≤_, _<_, _+_, _-_, _*_, _/_, _%_}
+use mathlib.Core.Path.{_≡_, refl, ap, ap₂, sym, _∙_}
+use native.Mathlib.Omega.{arith}
+use borrow.Author.Needs.{needs}
+use Rattle.exploring.proofs.meeting.explore_state.Statement.{statement}
+use Rattle.exploring.proofs.meeting.explore_state.Tie as tie
+use Rattle.exploring.proofs.meeting.explore_state.Reads as reads
+use Rattle.exploring.proofs.meeting.explore_state.Lts as lts
+use Rattle.exploring.proofs.meeting.explore_symbol.Reads as explore-symbol-reads
+use Rattle.goals.proofs.obligations.label.Reads as label-reads
+
+abbrev Inv-loop : tie.InvT-loop
+Inv-loop tab arity shapes scratch₀ m state i n c states₀ words₀ f₀ scratch states words f = Rowing arity tab shapes scratch₀ m (state .0) scratch states words f
+
+abbrev μ-loop : tie.MeasureT-loop
+μ-loop tab arity shapes scratch₀ m state i n c states₀ words₀ f₀ scratch states words f = length arity - f
+
+-- src/meeting.rt:62:13
+mul-n : tie.Need-mul-n Inv-loop μ-loop
+mul-n c = omega (arith, c .before .before .before .before .pre .0 .few, c .before .before .before .before .pre .1)
+
+-- src/meeting.rt:62:13
+slice-read-n : tie.Need-slice-read-n Inv-loop μ-loop
+slice-read-n c = omega (arith, c .before .before .before .before .before .pre .0 .few, c .before .before .before .before .before .pre .1, c .before .before .before .before .before .pre .0 .long)
+
+-- src/meeting.rt:62:13
+cast-n : tie.Need-cast-n Inv-loop μ-loop
+cast-n c = omega (arith, c .before .before .before .before .before .pre .0 .counts (c .before .before .before .before .before .args .state .0) (c .before .before .before .before .before .pre .1))
+
+-- src/meeting.rt:63:39
+mul-label : tie.Need-mul-label Inv-loop μ-loop
+mul-label c = omega (arith, c .before .before .before .before .before .before .pre .0 .few, c .before .before .before .before .before .before .pre .1)
+
+-- src/meeting.rt:63:33
+add-label : tie.Need-add-label Inv-loop μ-loop
+add-label c = omega (arith, c .before .before .before .before .before .before .pre .0 .few, c .before .before .before .before .before .before .pre .1)
+
+-- src/meeting.rt:63:13
+label-requires : tie.Need-label-requires Inv-loop μ-loop
+label-requires c κs = ((c .before .before .before .before .before .before .pre .2 (stateIn (c .before .before .before .before .before .before .args .scratch .now) (c .before .before .before .before .before .before .args .state .0)) (state-in (c .before .before .before .before .before .before .args .scratch .now) (c .before .before .before .before .before .before .args .m) (c .before .before .before .before .before .before .args .state .0) (c .before .before .before .before .before .before .pre .1))) .ready .tabled, omega (arith, c .before .before .before .before .before .before .pre .0 .counts (c .before .before .before .before .before .before .args .state .0) (c .before .before .before .before .before .before .pre .1)), omega (arith, c .before .before .before .before .before .before .pre .0 .counts (c .before .before .before .before .before .before .args .state .0) (c .before .before .before .before .before .before .pre .1), c .before .before .before .before .before .before .pre .0 .long, c .before .before .before .before .before .before .pre .0 .few, c .before .before .before .before .before .before .pre .1), good-low (c .before .before .before .before .before .before .pre .2 (stateIn (c .before .before .before .before .before .before .args .scratch .now) (c .before .before .before .before .before .before .args .state .0)) (state-in (c .before .before .before .before .before .before .args .scratch .now) (c .before .before .before .before .before .before .args .m) (c .before .before .before .before .before .before .args .state .0) (c .before .before .before .before .before .before .pre .1))))
+
+-- src/meeting.rt:63:13
+cast-c : tie.Need-cast-c Inv-loop μ-loop
+cast-c c = omega (arith, c .label .ensures, good-label (c .before .before .before .before .before .before .before .pre .2 (stateIn (c .before .before .before .before .before .before .before .args .scratch .now) (c .before .before .before .before .before .before .before .args .state .0)) (state-in (c .before .before .before .before .before .before .before .args .scratch .now) (c .before .before .before .before .before .before .before .args .m) (c .before .before .before .before .before .before .before .args .state .0) (c .before .before .before .before .before .before .before .pre .1))))
+
+-- src/meeting.rt:67:5
+loop-holds : tie.Need-loop-holds Inv-loop μ-loop
+loop-holds c = rowing-begin (c .before .before .before .before .before .before .before .args .arity .now) (c .before .before .before .before .before .before .before .args .tab .now) (c .before .before .before .before .before .before .before .args .shapes) (c .before .before .before .before .before .before .before .args .scratch .now) (c .before .before .before .before .before .before .before .args .m) (c .before .before .before .before .before .before .before .args .state .0) (c .before .before .before .before .before .before .before .pre .0) (c .before .before .before .before .before .before .before .pre .1) (c .before .before .before .before .before .before .before .pre .2)
+
+-- src/meeting.rt:68:15
+explore-symbol-requires : tie.Need-explore-symbol-requires Inv-loop μ-loop
+explore-symbol-requires c κs = (c .before .before .loop .inv .kept, c .before .before .loop .inv .inside, c .before .before .loop .inv .good, c .before .before .before .label .ensures ∙ ap (labelCode (c .before .before .before .before .before .before .before .before .before .before .args .tab .now)) (sym (c .before .before .loop .inv .still)), c .before .loop-test .taken)
+
+-- src/meeting.rt:69:21
+enum-known-all : tie.Need-enum-known-all Inv-loop μ-loop
+enum-known-all c = search needs
+
+-- src/meeting.rt:71:17
+add-words : tie.Need-add-words Inv-loop μ-loop
+add-words c = let s = (rowing-on (c .before .before .before .before .before .before .before .before .before .before .before .before .before .before .before .before .args .arity .now) (c .before .before .before .before .before .before .before .before .before .before .before .before .before .before .before .before .args .tab .now) (c .before .before .before .before .before .before .before .before .before .before .before .before .before .before .before .before .args .shapes) (c .before .before .before .before .before .before .before .before .before .before .before .before .before .before .before .before .args .scratch .now) (c .before .before .before .before .before .before .before .before .before .before .before .before .before .before .before .before .args .m) (c .before .before .before .before .before .before .before .before .before .before .before .before .before .before .before .before .args .state .0) (c .before .before .before .before .before .before .before .before .loop .inv) (c .before .before .before .before .before .before .before .loop-test .taken) (c .before .before .before .before .before .before .before .before .before .label .result) (c .before .before .before .before .before .before .before .before .before .label .ensures) _ (c .before .before .before .before .before .explore-symbol .result) _ _ (c .before .all .given .1) (c .before .before .before .before .before .explore-symbol .ensures .0) (c .before .before .before .before .before .explore-symbol .ensures .1) (c .before .before .before .before .before .explore-symbol .kept .1 .1 .1 .0)) in omega (arith, s .sum, s .below, (c .before .before .before .before .before .before .before .before .before .before .before .before .before .before .before .before .pre .2 (stateIn (c .before .before .before .before .before .before .before .before .before .before .before .before .before .before .before .before .args .scratch .now) (c .before .before .before .before .before .before .before .before .before .before .before .before .before .before .before .before .args .state .0)) (state-in (c .before .before .before .before .before .before .before .before .before .before .before .before .before .before .before .before .args .scratch .now) (c .before .before .before .before .before .before .before .before .before .before .before .before .before .before .before .before .args .m) (c .before .before .before .before .before .before .before .before .before .before .before .before .before .before .before .before .args .state .0) (c .before .before .before .before .before .before .before .before .before .before .before .before .before .before .before .before .pre .1))) .ready .few-symbols)
+
+-- src/meeting.rt:73:26
+enum-known-reason : tie.Need-enum-known-reason Inv-loop μ-loop
+enum-known-reason c = search needs
+
+-- src/meeting.rt:74:17
+same-length : tie.Need-same-length Inv-loop μ-loop
+same-length c = c .before .before .before .before .before .explore-symbol .kept .1 .1 .1 .0 ∙ c .before .before .before .before .before .before .before .before .loop .inv .long
+
+-- src/meeting.rt:74:17
+returns : tie.Need-returns Inv-loop μ-loop
+returns c = (rowing-stop (c .before .before .before .before .before .before .before .before .before .before .before .before .before .before .before .before .args .arity .now) (c .before .before .before .before .before .before .before .before .before .before .before .before .before .before .before .before .args .tab .now) (c .before .before .before .before .before .before .before .before .before .before .before .before .before .before .before .before .args .shapes) (c .before .before .before .before .before .before .before .before .before .before .before .before .before .before .before .before .args .scratch .now) (c .before .before .before .before .before .before .before .before .before .before .before .before .before .before .before .before .args .m) (c .before .before .before .before .before .before .before .before .before .before .before .before .before .before .before .before .args .state .0) (c .before .before .before .before .before .before .before .before .loop .inv) (c .before .before .before .before .before .before .before .loop-test .taken) (c .before .before .before .before .before .before .before .before .before .label .result) (c .before .before .before .before .before .before .before .before .before .label .ensures) _ (c .before .before .before .before .before .explore-symbol .result) _ (c .before .reason .given .1) (c .before .before .before .before .before .explore-symbol .ensures .0), c .before .before .before .before .before .explore-symbol .ensures .1 ∙ c .before .before .before .before .before .before .before .before .loop .inv .behind)
+
+-- src/meeting.rt:77:9
+add-f : tie.Need-add-f Inv-loop μ-loop
+add-f c = search needs
+
+-- src/meeting.rt:67:5
+loop-less : tie.Need-loop-less Inv-loop μ-loop
+loop-less c = search needs
+
+-- src/meeting.rt:67:5
+loop-again : tie.Need-loop-again Inv-loop μ-loop
+loop-again c = (rowing-on (c .before .before .before .before .before .before .before .before .before .before .before .before .before .before .before .before .args .arity .now) (c .before .before .before .before .before .before .before .before .before .before .before .before .before .before .before .before .args .tab .now) (c .before .before .before .before .before .before .before .before .before .before .before .before .before .before .before .before .args .shapes) (c .before .before .before .before .before .before .before .before .before .before .before .before .before .before .before .before .args .scratch .now) (c .before .before .before .before .before .before .before .before .before .before .before .before .before .before .before .before .args .m) (c .before .before .before .before .before .before .before .before .before .before .before .before .before .before .before .before .args .state .0) (c .before .before .before .before .before .before .before .before .loop .inv) (c .before .before .before .before .before .before .before .loop-test .taken) (c .before .before .before .before .before .before .before .before .before .label .result) (c .before .before .before .before .before .before .before .before .before .label .ensures) _ (c .before .before .before .before .before .explore-symbol .result) _ _ (c .before .all .given .1) (c .before .before .before .before .before .explore-symbol .ensures .0) (c .before .before .before .before .before .explore-symbol .ensures .1) (c .before .before .before .before .before .explore-symbol .kept .1 .1 .1 .0))
+
+-- src/meeting.rt:57:1
+same-length-2 : tie.Need-same-length-2 Inv-loop μ-loop
+same-length-2 c = c .before .loop .inv .long
+
+-- src/meeting.rt:57:1
+returns-2 : tie.Need-returns-2 Inv-loop μ-loop
+returns-2 c = (rowing-end (c .before .before .before .before .before .before .before .before .before .args .arity .now) (c .before .before .before .before .before .before .before .before .before .args .tab .now) (c .before .before .before .before .before .before .before .before .before .args .shapes) (c .before .before .before .before .before .before .before .before .before .args .scratch .now) (c .before .before .before .before .before .before .before .before .before .args .m) (c .before .before .before .before .before .before .before .before .before .args .state .0) (c .before .loop .inv) (c .loop-test .left) ((c .before .before .before .before .before .before .before .before .before .pre .2 (stateIn (c .before .before .before .before .before .before .before .before .before .args .scratch .now) (c .before .before .before .before .before .before .before .before .before .args .state .0)) (state-in (c .before .before .before .before .before .before .before .before .before .args .scratch .now) (c .before .before .before .before .before .before .before .before .before .args .m) (c .before .before .before .before .before .before .before .before .before .args .state .0) (c .before .before .before .before .before .before .before .before .before .pre .1))) .ready .few-symbols), c .before .loop .inv .behind)
+
+cast-i : tie.Need-cast-i Inv-loop μ-loop
+cast-i c = search needs
+
+cast-t29 : tie.Need-cast-t29 Inv-loop μ-loop
+cast-t29 c = omega (arith, c .before .loop-test .taken, (c .before .before .before .before .before .before .before .before .before .before .pre .2 (stateIn (c .before .before .before .before .before .before .before .before .before .before .args .scratch .now) (c .before .before .before .before .before .before .before .before .before .before .args .state .0)) (state-in (c .before .before .before .before .before .before .before .before .before .before .args .scratch .now) (c .before .before .before .before .before .before .before .before .before .before .args .m) (c .before .before .before .before .before .before .before .before .before .before .args .state .0) (c .before .before .before .before .before .before .before .before .before .before .pre .1))) .ready .few-symbols)
+
+pub explore-state-spec : {M : Type 1} → statement M
+explore-state-spec =
+    tie.close
+    (tie.spec
+    Inv-loop
+    μ-loop
+    cast-i
+    mul-n
+    slice-read-n
+    cast-n
+    mul-label
+    add-label
+    label-requires
+    cast-c
+    loop-holds
+    cast-t29
+    explore-symbol-requires
+    enum-known-all
+    add-words
+    enum-known-reason
+    same-length
+    returns
+    add-f
+    loop-less
+    loop-again
+    same-length-2
+    returns-2)

@@ -1,0 +1,99 @@
+use Rattle.exploring.proofs.ExploreLaws.{Meeting, meeting-begin, meeting-on, meeting-stop, meeting-end}
+use lib.ListN.{length}
+use Prim.Native.Nat.{ℕ, _≤_, _<_, _+_, _-_, _*_}
+use mathlib.Core.Path.{_≡_, refl, ap, sym, _∙_}
+use native.Mathlib.Omega.{arith}
+use borrow.Author.Needs.{needs}
+use Rattle.exploring.proofs.meeting.meet_all.Statement.{statement}
+use Rattle.exploring.proofs.meeting.meet_all.Tie as tie
+use Rattle.exploring.proofs.meeting.meet_all.Reads as reads
+use Rattle.exploring.proofs.meeting.meet_all.Lts as lts
+use Rattle.exploring.proofs.meeting.meet.Reads as meet-reads
+
+abbrev Inv-loop : tie.InvT-loop
+Inv-loop scratch₀ m goals n dep order base states₀ words₀ j₀ scratch states words j = Meeting dep goals n order base scratch₀ m scratch states words j
+
+abbrev μ-loop : tie.MeasureT-loop
+μ-loop scratch₀ m goals n dep order base states₀ words₀ j₀ scratch states words j = length order - j
+
+-- src/meeting.rt:110:5
+loop-holds : tie.Need-loop-holds Inv-loop μ-loop
+loop-holds c = meeting-begin (c .before .before .before .args .dep .now) (c .before .before .before .args .goals .now) (c .before .before .before .args .n) (c .before .before .before .args .order .now) (c .before .before .before .args .base) (c .before .before .before .args .scratch .now) (c .before .before .before .args .m) (c .before .before .before .pre .0)
+
+-- src/meeting.rt:111:53
+mul-meet : tie.Need-mul-meet Inv-loop μ-loop
+mul-meet c = search needs
+
+-- src/meeting.rt:111:53
+shared-slice-read-meet : tie.Need-shared-slice-read-meet Inv-loop μ-loop
+shared-slice-read-meet c = search needs
+
+-- src/meeting.rt:111:52
+cast-meet : tie.Need-cast-meet Inv-loop μ-loop
+cast-meet c = search needs
+
+-- src/meeting.rt:111:15
+meet-requires : tie.Need-meet-requires Inv-loop μ-loop
+meet-requires c κs = (c .before .before .before .loop .inv .kept, c .before .before .before .before .before .before .before .pre .1, c .before .before .before .before .before .before .before .pre .2, c .before .before .before .before .before .before .before .pre .3, c .before .before .before .before .before .before .before .pre .5 (c .before .before .before .loop .j) (c .before .before .loop-test .taken))
+
+-- src/meeting.rt:112:21
+enum-known-all : tie.Need-enum-known-all Inv-loop μ-loop
+enum-known-all c = search needs
+
+-- src/meeting.rt:114:17
+add-words : tie.Need-add-words Inv-loop μ-loop
+add-words c = let s = meeting-on (c .before .before .before .before .before .before .before .before .before .before .before .before .before .args .dep .now) (c .before .before .before .before .before .before .before .before .before .before .before .before .before .args .goals .now) (c .before .before .before .before .before .before .before .before .before .before .before .before .before .args .n) (c .before .before .before .before .before .before .before .before .before .before .before .before .before .args .order .now) (c .before .before .before .before .before .before .before .before .before .before .before .before .before .args .base) (c .before .before .before .before .before .before .before .before .before .before .before .before .before .args .scratch .now) (c .before .before .before .before .before .before .before .before .before .before .before .before .before .args .m) (c .before .before .before .before .before .before .before .before .before .loop .inv) (c .before .before .before .before .before .before .before .before .loop-test .taken) _ (c .before .before .before .before .before .meet .result) _ _ (c .before .all .given .1) (c .before .before .before .before .before .meet .ensures .0) (c .before .before .before .before .before .meet .ensures .1) (c .before .before .before .before .before .meet .kept .0) in omega (arith, s .sum, s .below, c .before .before .before .before .before .before .before .before .before .before .before .before .before .pre .4, c .before .before .before .before .before .before .before .before .before .before .before .before .before .pre .6)
+
+-- src/meeting.rt:116:26
+enum-known-reason : tie.Need-enum-known-reason Inv-loop μ-loop
+enum-known-reason c = search needs
+
+-- src/meeting.rt:117:17
+same-length : tie.Need-same-length Inv-loop μ-loop
+same-length c = c .before .before .before .before .before .meet .kept .0 ∙ c .before .before .before .before .before .before .before .before .before .loop .inv .long
+
+-- src/meeting.rt:117:17
+returns : tie.Need-returns Inv-loop μ-loop
+returns c = (meeting-stop (c .before .before .before .before .before .before .before .before .before .before .before .before .before .args .dep .now) (c .before .before .before .before .before .before .before .before .before .before .before .before .before .args .goals .now) (c .before .before .before .before .before .before .before .before .before .before .before .before .before .args .n) (c .before .before .before .before .before .before .before .before .before .before .before .before .before .args .order .now) (c .before .before .before .before .before .before .before .before .before .before .before .before .before .args .base) (c .before .before .before .before .before .before .before .before .before .before .before .before .before .args .scratch .now) (c .before .before .before .before .before .before .before .before .before .before .before .before .before .args .m) (c .before .before .before .before .before .before .before .before .before .loop .inv) (c .before .before .before .before .before .before .before .before .loop-test .taken) _ (c .before .before .before .before .before .meet .result) _ (c .before .reason .given .1) (c .before .before .before .before .before .meet .ensures .0), c .before .before .before .before .before .meet .ensures .1 ∙ c .before .before .before .before .before .before .before .before .before .loop .inv .behind)
+
+-- src/meeting.rt:120:9
+add-j : tie.Need-add-j Inv-loop μ-loop
+add-j c = search needs
+
+-- src/meeting.rt:110:5
+loop-less : tie.Need-loop-less Inv-loop μ-loop
+loop-less c = search needs
+
+-- src/meeting.rt:110:5
+loop-again : tie.Need-loop-again Inv-loop μ-loop
+loop-again c = meeting-on (c .before .before .before .before .before .before .before .before .before .before .before .before .before .args .dep .now) (c .before .before .before .before .before .before .before .before .before .before .before .before .before .args .goals .now) (c .before .before .before .before .before .before .before .before .before .before .before .before .before .args .n) (c .before .before .before .before .before .before .before .before .before .before .before .before .before .args .order .now) (c .before .before .before .before .before .before .before .before .before .before .before .before .before .args .base) (c .before .before .before .before .before .before .before .before .before .before .before .before .before .args .scratch .now) (c .before .before .before .before .before .before .before .before .before .before .before .before .before .args .m) (c .before .before .before .before .before .before .before .before .before .loop .inv) (c .before .before .before .before .before .before .before .before .loop-test .taken) _ (c .before .before .before .before .before .meet .result) _ _ (c .before .all .given .1) (c .before .before .before .before .before .meet .ensures .0) (c .before .before .before .before .before .meet .ensures .1) (c .before .before .before .before .before .meet .kept .0)
+
+-- src/meeting.rt:102:1
+same-length-2 : tie.Need-same-length-2 Inv-loop μ-loop
+same-length-2 c = c .before .loop .inv .long
+
+-- src/meeting.rt:102:1
+returns-2 : tie.Need-returns-2 Inv-loop μ-loop
+returns-2 c = (meeting-end (c .before .before .before .before .before .args .dep .now) (c .before .before .before .before .before .args .goals .now) (c .before .before .before .before .before .args .n) (c .before .before .before .before .before .args .order .now) (c .before .before .before .before .before .args .base) (c .before .before .before .before .before .args .scratch .now) (c .before .before .before .before .before .args .m) (c .before .loop .inv) (c .loop-test .left) (c .before .before .before .before .before .pre .4), c .before .loop .inv .behind)
+
+pub meet-all-spec : {M : Type 1} → statement M
+meet-all-spec =
+    tie.close
+    (tie.spec
+    Inv-loop
+    μ-loop
+    loop-holds
+    mul-meet
+    shared-slice-read-meet
+    cast-meet
+    meet-requires
+    enum-known-all
+    add-words
+    enum-known-reason
+    same-length
+    returns
+    add-j
+    loop-less
+    loop-again
+    same-length-2
+    returns-2)

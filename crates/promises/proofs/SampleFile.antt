@@ -1,0 +1,156 @@
+-- The sample file opens, is built and is walked: demands 2 and 3 speak of it, and say there what document 01 shows.
+--   one-file        the sample, with buffers full of nines
+--   ended           ten choices of item 0, and none waits
+--   shape-0-at-2-1  by demand 2, shape 0 matches at 2.1; no-shape-1-at-1: shape 1 does not at 1
+--   always-ten      by demand 3, every walk to the end has ten accepted steps
+--   always-reported by demand 3, every walk over the file to its end, in any order and with any buffers, reports the text of document 01
+use mathlib.Core.Path.{_≡_, refl, ap, ap₂, sym, _∙_}
+use mathlib.Core.List.{List, [], _∷_}
+use mathlib.Core.Option.{some}
+use Prim.Native.Nat.{ℕ, _<_}
+use native.Mathlib.Omega.{arith}
+use borrow.Author.Tests.{ltb-true}
+use lib.Dec.{ltb}
+use lib.ListN.{getD, getElem?, take, replicate}
+use Rattle.kinds.specs.Bits.{bit}
+use Rattle.kinds.proofs.Members.{all-at}
+use Rattle.kinds.proofs.Places.{at-in}
+use Rattle.term.specs.Terms.{Term, blank, node, tnil, tcons, span}
+use Rattle.term.specs.Places.{Matches, number}
+use Rattle.folio.specs.Folio.{shapeTerms, scoreTerm}
+use Rattle.folio.specs.Opening.{Lent, lent, counts, opened}
+use Rattle.folio.specs.declared.Counts.{Counts}
+use Rattle.folio.specs.declared.Opened.the-variants as opening
+use Rattle.plan.specs.Building.{size, buildOf}
+use Rattle.plan.specs.declared.Built.the-variants as building
+use Rattle.walk.specs.Starting.{Walk, Out, walkOf, counting, goOn, begun, started}
+use Rattle.walk.specs.Stepping.{run}
+use Rattle.report.specs.Text.{report}
+use Rattle.promises.specs.Computing.{computing}
+use Rattle.promises.specs.Sample.{file, symbols, shapeWords, starts, score, spans, plan, marks, text, nines}
+use Rattle.promises.specs.OneFile.{OneFile, wordsOf, startsOf, nodesOf, spansOf, nodesIn, spansIn, shapesIn, scoreIn, planIn, begunIn, after, acceptedIn, reported}
+use Rattle.promises.proofs.Demand2.{demand-2}
+use Rattle.promises.proofs.Demand3.{demand-3}
+
+pub bytes-are : (i b : ℕ) → getElem? file i ≡ some b → b < 256
+bytes-are i b e = ltb-true b 256 (all-at (λ x. ltb x 256) {xs = file} refl (at-in file i e))
+
+-- ---- what the three calls write
+abbrev pub tables : Lent
+tables = lent (nines 9) (nines 2) (nines 10) (nines 10)
+
+abbrev pub known : Counts
+known = counts 3 2 9 10
+
+abbrev pub walk : Walk
+walk = walkOf (nines 20) (nines 10) (nines 10) (counting 7 7)
+
+pub opens-are : opened file tables .answer ≡ opening.Folio known
+unfolding computing
+opens-are = refl
+
+pub words-are : wordsOf file tables known ≡ shapeWords
+unfolding computing
+words-are = refl
+
+pub starts-are : startsOf file tables known ≡ starts
+unfolding computing
+starts-are = refl
+
+pub nodes-are : nodesOf file tables known ≡ score
+unfolding computing
+nodes-are = refl
+
+pub spans-are : spansOf file tables known ≡ spans
+unfolding computing
+spans-are = refl
+
+pub build-is : buildOf symbols shapeWords starts (nines 57) (nines 32768) .answer ≡ building.Plan (size 3 56)
+unfolding computing
+build-is = refl
+
+plan-is : take 56 (buildOf symbols shapeWords starts (nines 57) (nines 32768) .plan) ≡ plan
+unfolding computing
+plan-is = refl
+
+pub start-is : started symbols score spans walk ≡ goOn (begun 10 walk)
+unfolding computing
+start-is = refl
+
+abbrev pub one-file : OneFile file
+one-file = record {
+  bytes = bytes-are;
+  tables = tables;
+  counts = known;
+  opens = opens-are;
+  plan = nines 57;
+  scratch = nines 32768;
+  size = size 3 56;
+  builds = ap₂ (λ w s. buildOf symbols w s (nines 57) (nines 32768) .answer) words-are starts-are ∙ build-is;
+  walk = walk;
+  first = counting 1 0;
+  starts = ap₂ (λ n s. started symbols n s walk .answer) nodes-are spans-are ∙ ap (λ (o : Out). o .answer) start-is;
+}
+
+-- ---- item 0 each time
+abbrev pub zeros : List ℕ
+zeros = replicate 10 0
+
+after-is : (choices : List ℕ) → after one-file choices ≡ run plan score spans choices (begun 10 walk)
+after-is choices =
+    let p : planIn one-file ≡ plan = ap₂ (λ w s. take 56 (buildOf symbols w s (nines 57) (nines 32768) .plan)) words-are starts-are ∙ plan-is in
+    let b : begunIn one-file ≡ begun 10 walk = ap₂ (λ n s. started symbols n s walk .walk) nodes-are spans-are ∙ ap (λ (o : Out). o .walk) start-is in
+    ap (λ q. run q (nodesIn one-file) (spansIn one-file) choices (begunIn one-file)) p
+    ∙ ap₂ (λ n s. run plan n s choices (begunIn one-file)) nodes-are spans-are
+    ∙ ap (run plan score spans choices) b
+
+walk-ends : (run plan score spans zeros (begun 10 walk) .count .waiting ≡ 0) × (run plan score spans zeros (begun 10 walk) .marks ≡ marks)
+unfolding computing
+walk-ends = (refl, refl)
+
+pub ended : after one-file zeros .count .waiting ≡ 0
+ended = ap (λ (w : Walk). w .count .waiting) (after-is zeros) ∙ walk-ends .0
+
+marks-are : after one-file zeros .marks ≡ marks
+marks-are = ap (λ (w : Walk). w .marks) (after-is zeros) ∙ walk-ends .1
+
+-- ---- the terms
+-- join(_, close(_)) and join(join(_, _), _)
+abbrev pub joinClose : Term
+joinClose = node 1 (tcons (blank 65535) (tcons (node 2 (tcons (blank 65535) tnil)) tnil))
+
+abbrev pub joinJoin : Term
+joinJoin = node 1 (tcons (node 1 (tcons (blank 65535) (tcons (blank 65535) tnil))) (tcons (blank 65535) tnil))
+
+abbrev tree : Term
+tree = scoreTerm symbols score
+
+shapes-are : shapesIn one-file ≡ joinClose ∷ joinJoin ∷ []
+shapes-are = ap (shapeTerms symbols) words-are
+
+tree-is : scoreIn one-file ≡ tree
+tree-is = ap (scoreTerm symbols) nodes-are
+
+-- ---- demand 2
+bit-is : (n j : ℕ) → bit (getD (after one-file zeros .marks) n 0) j ≡ bit (getD marks n 0) j
+bit-is n j = ap (λ m. bit (getD m n 0) j) marks-are
+
+pub shape-0-at-2-1 : Matches joinClose (scoreIn one-file) (2 ∷ 1 ∷ [])
+shape-0-at-2-1 = demand-2 one-file .exactly zeros ended 0 joinClose (ap (λ s. getElem? s 0) shapes-are) 6 (2 ∷ 1 ∷ []) (ap (λ t. number t (2 ∷ 1 ∷ [])) tree-is) .0 (bit-is 6 0)
+
+pub no-shape-1-at-1 : Matches joinJoin (scoreIn one-file) (1 ∷ []) → ⊥
+no-shape-1-at-1 h =
+    let b = demand-2 one-file .exactly zeros ended 1 joinJoin (ap (λ s. getElem? s 1) shapes-are) 1 (1 ∷ []) (ap (λ t. number t (1 ∷ [])) tree-is) .1 h in
+    let z : _≡_ {A = ℕ} 0 1 = sym (bit-is 1 1) ∙ b in
+    absurd (omega arith)
+
+-- ---- demand 3
+pub always-ten : (choices : List ℕ) → after one-file choices .count .waiting ≡ 0 → acceptedIn one-file choices ≡ 10
+always-ten choices e = demand-3 one-file .steps choices .2 .0 e ∙ ap span tree-is
+
+text-is : report spans 3 marks ≡ text
+unfolding computing
+text-is = refl
+
+pub always-reported : (T : OneFile file) (choices : List ℕ) → after T choices .count .waiting ≡ 0 → reported T choices ≡ text
+always-reported T choices e = demand-3 T .same-text one-file choices zeros e ended ∙ ap₂ (λ s m. report s 3 m) spans-are marks-are ∙ text-is

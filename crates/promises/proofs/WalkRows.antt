@@ -1,0 +1,139 @@
+-- Rows 30 to 34: the outcomes of starting, counting and stepping are those that they give.
+use mathlib.Core.Path.{_≡_, refl, sym, _∙_}
+use mathlib.Core.Bool.{true, false, _&&_}
+use mathlib.Core.Logic.{_⊎_, inl, inr}
+use mathlib.Core.List.{List}
+use mathlib.Core.Option.{Option, none, some}
+use Prim.Native.Nat.{ℕ, _*_, _<_, _≤_}
+use native.Mathlib.Omega.{arith}
+use native.Mathlib.Decide.{decLt}
+use borrow.Author.Tests.{lt-ltb, le-ltb, le-leb, lt-leb, leb-true}
+use lib.Dec.{leb}
+use lib.ListN.{length, take}
+use Rattle.kinds.specs.declared.Reason.the-variants.{BadScore, ShortBuffers}
+use Rattle.kinds.proofs.Bools.{test, both, and-l, and-r, false-true}
+use Rattle.kinds.proofs.Members.{_∈_}
+use Rattle.kinds.proofs.Places.{on-in}
+use Rattle.folio.specs.Again.{scoreGood}
+use Rattle.folio.proofs.GoodTables.{score-good-scored, scored-good}
+use Rattle.walk.specs.Starting.{Walk, goOn, begun, roomFor, started}
+use Rattle.walk.specs.Starting.{Out as Walking, refuse as refuseWalk}
+use Rattle.walk.specs.Stepping.{tried, stepped}
+use Rattle.counting.specs.Counting.{counted}
+use Rattle.counting.specs.declared.Counted.{Counted}
+use Rattle.counting.specs.declared.Counted.the-variants as count
+use Rattle.promises.specs.Demand1 as rows
+use Rattle.promises.specs.Demand1.{By, Below, Good, Roomy, StartRow, CountRow, StepRow}
+
+-- ---- starting and counting
+module _ (ar score spans : List ℕ) (small : Below 65536 score) where
+  words : (w : ℕ) → w ∈ score → w < 65536
+  words w m = on-in m (λ i e. small i w e)
+
+  score-or-not : (scoreGood ar score spans ≡ true) ⊎ (scoreGood ar score spans ≡ false) → Good ar score spans ⊎ (Good ar score spans → ⊥)
+  score-or-not (inl e) = inl (score-good-scored ar score spans words e)
+  score-or-not (inr e) = inr (λ g. false-true (sym e ∙ scored-good ar score spans (g .0) (g .1)))
+
+  score-bad : (Good ar score spans → ⊥) → scoreGood ar score spans ≡ false
+  score-bad n = go (test (scoreGood ar score spans))
+    where
+      go : (scoreGood ar score spans ≡ true) ⊎ (scoreGood ar score spans ≡ false) → scoreGood ar score spans ≡ false
+      go (inl e) = absurd (n (score-good-scored ar score spans words e))
+      go (inr e) = e
+
+  score-fine : Good ar score spans → scoreGood ar score spans ≡ true
+  score-fine g = scored-good ar score spans (g .0) (g .1)
+
+  module _ (w : Walk) where
+    room-is : Roomy ar score spans w → roomFor (length score) w ≡ true
+    room-is r = both (le-leb (2 * length score) (length (w .items)) (r .0)) (both (le-leb (length score) (length (w .log)) (r .1)) (le-leb (length score) (length (w .marks)) (r .2)))
+
+    is-room : roomFor (length score) w ≡ true → Roomy ar score spans w
+    is-room e =
+        let a = and-l (leb (length score) (length (w .log)) && leb (length score) (length (w .marks))) e in
+        let b = and-r (leb (2 * length score) (length (w .items))) e in
+        (leb-true (2 * length score) (length (w .items)) a, leb-true (length score) (length (w .log)) (and-l (leb (length score) (length (w .marks))) b), leb-true (length score) (length (w .marks)) (and-r (leb (length score) (length (w .log))) b))
+
+    no-room : (Roomy ar score spans w → ⊥) → roomFor (length score) w ≡ false
+    no-room n = go (test (roomFor (length score) w))
+      where
+        go : (roomFor (length score) w ≡ true) ⊎ (roomFor (length score) w ≡ false) → roomFor (length score) w ≡ false
+        go (inl e) = absurd (n (is-room e))
+        go (inr e) = e
+
+    started-bad : scoreGood ar score spans ≡ false → started ar score spans w ≡ refuseWalk BadScore w
+    unfolding started
+    started-bad e = rw e refl
+
+    started-short : scoreGood ar score spans ≡ true → roomFor (length score) w ≡ false → started ar score spans w ≡ refuseWalk ShortBuffers w
+    unfolding started
+    started-short e d = rw (e, d) refl
+
+    started-on : scoreGood ar score spans ≡ true → roomFor (length score) w ≡ true → started ar score spans w ≡ goOn (begun (length score) w)
+    unfolding started
+    started-on e d = rw (e, d) refl
+
+    start-row : StartRow ar score spans w (started ar score spans w)
+    start-row = go (score-or-not (test (scoreGood ar score spans))) (test (roomFor (length score) w))
+      where
+        go : Good ar score spans ⊎ (Good ar score spans → ⊥) → (roomFor (length score) w ≡ true) ⊎ (roomFor (length score) w ≡ false) → StartRow ar score spans w (started ar score spans w)
+        go (inr n) d = rw (started-bad (score-bad n)) (rows.start-31 n)
+        go (inl g) (inr d) = rw (started-short (score-fine g) d) (rows.start-30 g (λ r. false-true (sym d ∙ room-is r)))
+        go (inl g) (inl d) = rw (started-on (score-fine g) d) (rows.starts g (is-room d))
+
+    start-only : (o : Walking) → StartRow ar score spans w o → started ar score spans w ≡ o
+    start-only _ (rows.start-31 n) = started-bad (score-bad n)
+    start-only _ (rows.start-30 g n) = started-short (score-fine g) (no-room n)
+    start-only _ (rows.starts g r) = started-on (score-fine g) (room-is r)
+
+    pub by-start : By (StartRow ar score spans w) (started ar score spans w)
+    by-start = (start-row, start-only)
+
+  module _ (f : List ℕ → ℕ) (marks : List ℕ) where
+    counted-bad : scoreGood ar score spans ≡ false → counted f ar score spans marks ≡ count.Refused BadScore
+    unfolding counted
+    counted-bad e = rw e refl
+
+    counted-short : scoreGood ar score spans ≡ true → length marks < length score → counted f ar score spans marks ≡ count.Refused ShortBuffers
+    unfolding counted
+    counted-short e h = rw (e, lt-leb (length score) (length marks) h) refl
+
+    counted-on : scoreGood ar score spans ≡ true → length score ≤ length marks → counted f ar score spans marks ≡ count.Number (f (take (length score) marks))
+    unfolding counted
+    counted-on e h = rw (e, le-leb (length score) (length marks) h) refl
+
+    count-row : CountRow ar score spans f marks (counted f ar score spans marks)
+    count-row = go (score-or-not (test (scoreGood ar score spans))) (decLt (length marks) (length score))
+      where
+        go : Good ar score spans ⊎ (Good ar score spans → ⊥) → Dec (length marks < length score) → CountRow ar score spans f marks (counted f ar score spans marks)
+        go (inr n) d = rw (counted-bad (score-bad n)) (rows.count-31 n)
+        go (inl g) (yes h) = rw (counted-short (score-fine g) h) (rows.count-30 g h)
+        go (inl g) (no h) = let k : length score ≤ length marks = omega arith in rw (counted-on (score-fine g) k) (rows.counts g k)
+
+    count-only : (o : Counted) → CountRow ar score spans f marks o → counted f ar score spans marks ≡ o
+    count-only _ (rows.count-31 n) = counted-bad (score-bad n)
+    count-only _ (rows.count-30 g h) = counted-short (score-fine g) h
+    count-only _ (rows.counts g h) = counted-on (score-fine g) h
+
+    pub by-count : By (CountRow ar score spans f marks) (counted f ar score spans marks)
+    by-count = (count-row, count-only)
+
+-- ---- stepping
+module _ (plan score spans : List ℕ) (i : ℕ) (w : Walk) where
+  step-row : StepRow plan score spans i w (stepped plan score spans i w)
+  unfolding stepped
+  step-row = go (decLt i (w .count .waiting)) (tried plan score spans i w) refl
+    where
+      go : Dec (i < w .count .waiting) → (o : Option Walk) → tried plan score spans i w ≡ o → StepRow plan score spans i w (stepped plan score spans i w)
+      go (no h) o e = let k : w .count .waiting ≤ i = omega arith in rw (le-ltb i (w .count .waiting) k) (rows.step-32 k)
+      go (yes h) none e = rw (lt-ltb i (w .count .waiting) h, e) (rows.step-34 h e)
+      go (yes h) (some v) e = rw (lt-ltb i (w .count .waiting) h, e) (rows.takes h v e)
+
+  step-only : (o : Walking) → StepRow plan score spans i w o → stepped plan score spans i w ≡ o
+  unfolding stepped
+  step-only _ (rows.step-32 h) = rw (le-ltb i (w .count .waiting) h) refl
+  step-only _ (rows.step-34 h e) = rw (lt-ltb i (w .count .waiting) h, e) refl
+  step-only _ (rows.takes h v e) = rw (lt-ltb i (w .count .waiting) h, e) refl
+
+  pub by-step : By (StepRow plan score spans i w) (stepped plan score spans i w)
+  by-step = (step-row, step-only)

@@ -1,0 +1,42 @@
+-- From a folio to what a walk is lent: its terms as the construction takes them, and the plan that is planned for them.
+--   settingOf scoredOf   a folio within its limits
+--   on-plan              the words of a plan by the paper's construction are those of one folio
+use mathlib.Core.Path.{_≡_, sym, _∙_}
+use mathlib.Core.List.{List}
+use Prim.Native.Nat.{ℕ}
+use native.Mathlib.Omega.{arith}
+use lib.ListN.{length}
+use Rattle.term.specs.Terms.{Term}
+use Rattle.contents.specs.Tables.{blankWord, noBlank}
+use Rattle.folio.specs.Folio.{Folio}
+use Rattle.folio.proofs.ShapesFound.{solid-node}
+use Rattle.automaton.specs.Paper.{paper}
+use Rattle.automaton.specs.Bare.{bare}
+use Rattle.automaton.specs.Exploring.{construction}
+use Rattle.automaton.specs.PlanWords.{plan-of, planned}
+use Rattle.automaton.specs.Walking.{Setting, Scored}
+use Rattle.automaton.proofs.SamePlan.{same-plan}
+use Rattle.walking.specs.OneFolio.{OneFolio, planIn}
+use Rattle.walking.proofs.PlanRead.{on-planned}
+
+module _ {ar : List ℕ} {shapes : List Term} {score : Term} (folio : Folio ar shapes score) where
+  abbrev pub settingOf : Setting
+  settingOf = record {
+    counts = ar;
+    shapes = shapes;
+    blanks = blankWord;
+    children = folio .children;
+    some-shape = folio .some-shape;
+    few-shapes = folio .few-shapes;
+    fits = λ i x e. (folio .is-shape i x e) .fits;
+    flat = λ i x e. (folio .is-shape i x e) .flat;
+    solid = λ i x e. solid-node x ((folio .is-shape i x e) .solid);
+  }
+
+  abbrev pub scoredOf : Scored
+  scoredOf = record { setting = settingOf; score = score; score-blanks = noBlank; score-fits = folio .is-score .fits; whole = folio .is-score .whole }
+
+  pub on-plan {κ} : {Z : Type κ} (room m : ℕ) (w : List ℕ) → planned (construction (paper shapes)) ar (length shapes) room ≡ plan-of m w
+      → ((F : OneFolio scoredOf) → m ≡ length (F .states) → w ≡ planIn F → Z) → Z
+  on-plan room m w e k = on-planned (construction (bare shapes)) ar (length shapes) room m w (sym (same-plan ar shapes (length shapes) room) ∙ e) λ states blocks ex em ew.
+      k (record { few-symbols = folio .few-symbols; few-nodes = (let n = folio .is-score .small in omega arith); states = states; blocks = blocks; is-explored = ex }) em ew
