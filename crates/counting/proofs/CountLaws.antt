@@ -18,10 +18,10 @@ use Rattle.kinds.proofs.BitLaws.{ones-bits}
 use Rattle.kinds.specs.declared.Reason.{Reason}
 use Rattle.kinds.specs.declared.Reason.the-variants.{BadScore, ShortBuffers, Surplus}
 use Rattle.contents.specs.Tables.{scoreLimits, scoreLevels, scoreOf, scoreReason, alone}
-use Rattle.folio.specs.Again.{scoreGood}
+use Rattle.lent.specs.Again.{scoreGood}
 use Rattle.contents.specs.declared.Score.{Score}
 use Rattle.contents.specs.declared.Score.the-variants as score
-use Rattle.folio.proofs.LawsAgain.{score-good-is}
+use Rattle.lent.proofs.LawsAgain.{score-good-is}
 use Rattle.term.specs.Reading.{reading}
 use Rattle.term.proofs.LawsReading.{whole-in}
 use Rattle.term.specs.declared.Met.{Met}

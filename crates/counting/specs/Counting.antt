@@ -16,7 +16,7 @@ use Rattle.kinds.specs.Lists.{unless}
 use Rattle.kinds.specs.Bits.{bit, upTo}
 use Rattle.kinds.specs.Reasons.{Says, gives, refuses}
 use Rattle.kinds.specs.declared.Reason.the-variants.{ShortBuffers, BadScore}
-use Rattle.folio.specs.Again.{scoreGood}
+use Rattle.lent.specs.Again.{scoreGood}
 use Rattle.counting.specs.declared.Counted.{Counted}
 use Rattle.counting.specs.declared.Counted.the-variants.{Number, Refused}
 

@@ -6,8 +6,8 @@ ghost use mathlib.Core.Bool.{Bool, cond};
 ghost use Rattle.counting.specs.Clashes.{clashesOf, clashNumber, clash};
 ghost use Rattle.counting.specs.Passing.{markedIn, hits, further};
 use crate::Counted;
-use folio::checking::score_good;
 use kinds::Reason;
+use lent::checking::score_good;
 
 // The number of matches: the ones in the first n marks.
 pub fn matches(arity: &[u8], score: &[u16], spans: &[u16], marks: &[u16]) -> Counted

@@ -1,16 +1,1 @@
-use kinds::Reason;
-use kinds::State;
-
 pub mod meeting; // the states met, one symbol after the other
-pub mod states; // the states met, in scratch
-
-// How many states there are now, and how many words the blocks made take.
-pub enum Met {
-    On(usize, usize),
-    Stopped(Reason),
-}
-
-pub enum Explored {
-    Made(usize, usize),
-    Stopped(Reason, State),
-}

@@ -1,7 +1,3 @@
-use crate::Explored;
-use crate::Met;
-use crate::states::add_state;
-use crate::states::find_state;
 use classes::members::put_class;
 use classes::order::class_order;
 use classes::square::dependency;
@@ -15,6 +11,10 @@ use kinds::Position;
 use kinds::Reason;
 use kinds::State;
 use kinds::Symbol;
+use states::Explored;
+use states::Met;
+use states::keeping::add_state;
+use states::keeping::find_state;
 ghost use mathlib.Core.Path.{_≡_};
 ghost use mathlib.Core.List.{List, [], map};
 ghost use Prim.Native.Nat.{ℕ, _+_, _*_, _%_, _<_, _≤_};
@@ -26,7 +26,7 @@ ghost use Rattle.decoding.specs.WordMachine.{words as machine, stateIn, statesI
 ghost use Rattle.decoding.specs.GoodStates.{Ready};
 ghost use Rattle.classes.specs.Squares.{Square};
 ghost use Rattle.deriving.specs.Orders.{classAt};
-ghost use Rattle.exploring.specs.Meeting.{AllGood, MetIs, RowIs, ExploredIs};
+ghost use Rattle.states.specs.Meeting.{AllGood, MetIs, RowIs, ExploredIs};
 
 // Meets the states in the order of their numbers; scratch then holds them. Answers how many there are and how many words their blocks take.
 pub fn explore(tab: &[u16], arity: &[u8], shapes: usize, scratch: &mut [u16]) -> Explored

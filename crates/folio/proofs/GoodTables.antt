@@ -13,13 +13,13 @@ use Rattle.term.specs.Terms.{Term, flatten, sizes}
 use Rattle.term.specs.Spans.{spansOf}
 use Rattle.term.proofs.Sizes.{spans-are}
 use Rattle.contents.specs.Tables.{blankWord, noBlank, Row, shapesOf, scoreOf}
-use Rattle.folio.specs.Again.{shapesGood, scoreGood}
+use Rattle.lent.specs.Again.{shapesGood, scoreGood}
 use Rattle.folio.specs.Folio as folio
 use Rattle.folio.specs.Folio.{startsAt, Shaped, GoodScore, GoodSymbols, IsScore}
 use Rattle.folio.proofs.Symbols.{symbols-is, symbols-of}
 use Rattle.folio.proofs.ShapesFound.{found-shapes, shapes-found}
 use Rattle.folio.proofs.ScoreWhole.{Below, score-is, score-of}
-use Rattle.folio.proofs.LawsAgain.{shapes-good-is, shapes-good-of, score-good-is, score-good-of}
+use Rattle.lent.proofs.LawsAgain.{shapes-good-is, shapes-good-of, score-good-is, score-good-of}
 use Rattle.folio.proofs.Accepted.{each-shape}
 
 -- ---- 19

@@ -1,6 +1,5 @@
 -- What is known of opening and of the checks that later calls repeat.
 pub mod LawsOpening
-pub mod LawsAgain
 pub mod Symbols
 pub mod ShapesFound
 pub mod ScoreWhole

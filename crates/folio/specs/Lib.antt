@@ -1,4 +1,3 @@
 -- What opening a folio means, and the checks that later calls repeat.
 pub mod Opening
-pub mod Again
 pub mod Folio

@@ -1,10 +1,7 @@
-use kinds::Node;
 use kinds::Reason;
 
 pub mod opening; // the call that opens a folio
 mod storing; // what opening writes
-pub mod checking; // the tables lent to later calls
-pub mod showing; // the words of one subtree
 
 // How many symbols, shapes, shape words and nodes a folio has.
 pub struct Counts {
@@ -17,10 +14,4 @@ pub struct Counts {
 pub enum Opened {
     Folio(Counts),
     Refused(Reason, usize),
-}
-
-// Which table a subtree is asked of, and at which of its words.
-pub enum Asked {
-    Shapes(usize),
-    Score(Node),
 }

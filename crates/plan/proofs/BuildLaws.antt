@@ -24,7 +24,7 @@ use Rattle.kinds.specs.declared.Reason.the-variants.{BadShapes, ShortScratch, L
 use Rattle.kinds.proofs.Bools.{both, is-eqb, or-l, or-r}
 use Rattle.kinds.proofs.Members.{_∈_, here, there}
 use Rattle.kinds.proofs.ListLaws.{onto-sets}
-use Rattle.folio.specs.Again.{shapesGood}
+use Rattle.lent.specs.Again.{shapesGood}
 use Rattle.automaton.specs.Exploring.{Block, Made, refused, made, explored}
 use Rattle.automaton.specs.PlanWords.{Plan, halted, too-long, plan-of, planWords, toPlan, planned}
 use Rattle.automaton.specs.FinalBlocks.{allBlocks, SmallOn}
@@ -33,15 +33,15 @@ use Rattle.goals.specs.GoalWords.{GoalWords}
 use Rattle.goals.specs.WordStages.{sameW, amongW, withinW, sameStateW}
 use Rattle.decoding.specs.WordMachine.{words, statesIn, Kept}
 use Rattle.decoding.specs.GoodStates.{Ready}
-use Rattle.exploring.specs.Meeting.{AllGood, wordsOf, ExploredIs}
+use Rattle.states.specs.Meeting.{AllGood, wordsOf, ExploredIs}
 use Rattle.plan.specs.Building.{Out, cleared, size, written, planOf, buildOf, refuse}
 use Rattle.folio.specs.Folio.{shapeTerms}
 use Rattle.plan.specs.declared.Built.{Built}
 use Rattle.plan.specs.declared.Built.the-variants as built
-use Rattle.exploring.specs.declared.Explored.{Explored}
-use Rattle.exploring.specs.declared.Explored.the-variants as result
-use Rattle.exploring.proofs.StateLaws.{states-length}
-use Rattle.plan.proofs.WriteLaws.{plan-length}
+use Rattle.states.specs.declared.Explored.{Explored}
+use Rattle.states.specs.declared.Explored.the-variants as result
+use Rattle.states.proofs.StateLaws.{states-length}
+use Rattle.writing.proofs.WriteLaws.{plan-length}
 
 -- ---- the first k words zero
 pub record Clearing (k : ℕ) (l₀ l : List ℕ) (i : ℕ) : Type 0 where

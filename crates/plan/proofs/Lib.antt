@@ -1,3 +1,2 @@
 pub mod ReadyTables
-pub mod WriteLaws
 pub mod BuildLaws

@@ -25,7 +25,7 @@ use Rattle.kinds.proofs.Places.{at-in, at-getD}
 use Rattle.term.specs.Terms.{Term, blank, node, Terms, tnil, tcons, count, span, flatten, flattens}
 use Rattle.term.specs.Places.{sub, dom}
 use Rattle.folio.specs.Folio.{IsShape, GoodSymbols, Shaped, startsAt, shapeTerms}
-use Rattle.folio.specs.Again.{shapesGood}
+use Rattle.lent.specs.Again.{shapesGood}
 use Rattle.folio.proofs.ShapesFound.{length-starts, Each}
 use Rattle.folio.proofs.GoodTables.{shapes-good-shaped}
 use Rattle.folio.proofs.Accepted.{shape-terms}

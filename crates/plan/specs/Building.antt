@@ -17,7 +17,7 @@ use Rattle.kinds.specs.declared.State.{State}
 use Rattle.kinds.specs.declared.Reason.{Reason}
 use Rattle.kinds.specs.declared.Reason.the-variants.{BadShapes, ShortScratch, LongPlan}
 use Rattle.term.specs.Terms.{Term}
-use Rattle.folio.specs.Again.{shapesGood}
+use Rattle.lent.specs.Again.{shapesGood}
 use Rattle.folio.specs.Folio.{shapeTerms}
 use Rattle.automaton.specs.Paper.{paper}
 use Rattle.automaton.specs.Exploring.{construction}

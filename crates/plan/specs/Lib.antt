@@ -1,2 +1,1 @@
 pub mod Building
-pub mod FinalBlocks

@@ -1,11 +1,11 @@
 use crate::Built;
 use crate::Size;
-use crate::writing::write_plan;
-use exploring::Explored;
 use exploring::meeting::explore;
-use folio::checking::shapes_good;
 use kinds::Reason;
+use lent::checking::shapes_good;
+use states::Explored;
 use tables::filling::fill_tables;
+use writing::blocks::write_plan;
 ghost use mathlib.Core.Path.{_≡_};
 ghost use Prim.Native.Nat.{ℕ, _≤_};
 ghost use lib.ListN.{length, drop};

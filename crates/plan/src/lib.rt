@@ -2,7 +2,6 @@ use kinds::Reason;
 use kinds::State;
 
 pub mod building; // the call that builds a plan
-mod writing; // the plan's words from the states met
 
 // How many states a plan has, and how many words.
 pub struct Size {

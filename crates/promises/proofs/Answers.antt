@@ -18,7 +18,7 @@ use Rattle.kinds.specs.declared.Reason.{Reason}
 use Rattle.kinds.specs.declared.Reason.the-variants.{BadScore, ShortBuffers}
 use Rattle.kinds.proofs.Bools.{test, ltb-not, or-first}
 use Rattle.folio.specs.Folio.{shapeTerms}
-use Rattle.folio.specs.Again.{shapesGood, scoreGood}
+use Rattle.lent.specs.Again.{shapesGood, scoreGood}
 use Rattle.kinds.proofs.ListLaws.{stored-back}
 use Rattle.automaton.specs.Paper.{paper}
 use Rattle.automaton.specs.Exploring.{Construction, Block, Made, refused, made, explored, construction}

@@ -8,7 +8,7 @@ use native.Mathlib.Omega.{arith}
 use native.Mathlib.Decide.{decLt}
 use lib.ListN.{length}
 use Rattle.kinds.proofs.Bools.{test, false-true}
-use Rattle.folio.specs.Again.{shapesGood}
+use Rattle.lent.specs.Again.{shapesGood}
 use Rattle.folio.specs.Folio.{shapeTerms}
 use Rattle.folio.proofs.GoodTables.{shapes-good-shaped, shaped-good}
 use Rattle.automaton.specs.PlanWords.{Plan, halted, too-long, plan-of}

@@ -5,10 +5,10 @@ use mathlib.Core.Path.{_≡_, refl, ap, sym, _∙_}
 use denote.Ref.{now}
 use Rattle.folio.specs.Opening.{Out}
 use Rattle.report.specs.Lines.{Out as Line}
-use Rattle.folio.proofs.checking.score_good.Reads as score-good
-use Rattle.folio.proofs.checking.shapes_good.Reads as shapes-good
+use Rattle.lent.proofs.checking.score_good.Reads as score-good
+use Rattle.lent.proofs.checking.shapes_good.Reads as shapes-good
 use Rattle.folio.proofs.opening.open.Reads as open-folio
-use Rattle.folio.proofs.showing.subtree.Reads as subtree
+use Rattle.lent.proofs.showing.subtree.Reads as subtree
 use Rattle.kinds.proofs.Position.before.Reads as before
 use Rattle.kinds.proofs.Position.child.Reads as child
 use Rattle.kinds.proofs.Position.is_good.Reads as is-good

@@ -13,11 +13,11 @@ use Rattle.kinds.proofs.Places.{on-in}
 use Rattle.term.specs.Terms.{Term, flatten}
 use Rattle.term.proofs.Sizes.{length-flatten, span-pos}
 use Rattle.contents.specs.Tables.{blankWord, shapeLimits, shapeLevels, scoreLimits, scoreLevels}
-use Rattle.folio.specs.Again.{symbolsGood, pieceAt, subtreeAt}
+use Rattle.lent.specs.Again.{symbolsGood, pieceAt, subtreeAt}
 use Rattle.folio.specs.Folio.{GoodSymbols, IsScore}
-use Rattle.folio.specs.declared.Asked.{Asked}
-use Rattle.folio.specs.declared.Asked.the-variants as asked
-use Rattle.folio.proofs.LawsAgain.{symbols-good-is}
+use Rattle.lent.specs.declared.Asked.{Asked}
+use Rattle.lent.specs.declared.Asked.the-variants as asked
+use Rattle.lent.proofs.LawsAgain.{symbols-good-is}
 use Rattle.folio.proofs.ScoreWhole.{whole-of}
 use Rattle.folio.proofs.Subtrees.{Piece, piece-term, piece-or-none, subtree-shape, subtree-score}
 use Rattle.folio.proofs.Symbols.{symbols-is}

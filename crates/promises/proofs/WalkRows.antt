@@ -14,7 +14,7 @@ use Rattle.kinds.specs.declared.Reason.the-variants.{BadScore, ShortBuffers}
 use Rattle.kinds.proofs.Bools.{test, both, and-l, and-r, false-true}
 use Rattle.kinds.proofs.Members.{_∈_}
 use Rattle.kinds.proofs.Places.{on-in}
-use Rattle.folio.specs.Again.{scoreGood}
+use Rattle.lent.specs.Again.{scoreGood}
 use Rattle.folio.proofs.GoodTables.{score-good-scored, scored-good}
 use Rattle.walk.specs.Starting.{Walk, goOn, begun, roomFor, started}
 use Rattle.walk.specs.Starting.{Out as Walking, refuse as refuseWalk}

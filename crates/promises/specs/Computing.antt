@@ -8,7 +8,7 @@ use Rattle.sections.specs.Bytes.{wordsOf}
 use Rattle.sections.specs.Sections.{distancesOf, trailerOf, overAt, symbolsOf, sectionsOf}
 use Rattle.contents.specs.Tables.{shapesFrom, shapesOf, scoreOf}
 use Rattle.folio.specs.Opening.{stored, held, opened}
-use Rattle.folio.specs.Again.{symbolsGood, shapesGood, scoreGood, pieceAt, subtreeAt}
+use Rattle.lent.specs.Again.{symbolsGood, shapesGood, scoreGood, pieceAt, subtreeAt}
 use Rattle.plan.specs.Building.{cleared, buildOf}
 use Rattle.readers.specs.PlanParts.{pairs, counted, blockAt, labelWord, blockOf, pairAt, labelOf, lengthsOf, announcementOf, successorOf}
 use Rattle.walk.specs.Starting.{started}

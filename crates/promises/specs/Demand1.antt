@@ -22,8 +22,8 @@ use Rattle.term.specs.Terms.{Term, span, flatten}
 use Rattle.folio.specs.Opening.{Lent, Room, refuse, opened}
 use Rattle.folio.specs.Opening.{Out as Opening}
 use Rattle.folio.specs.Folio.{Folio, GoodSymbols, Shaped, GoodScore, shapeTerms, answered}
-use Rattle.folio.specs.Again.{subtreeAt}
-use Rattle.folio.specs.declared.Asked.{Asked}
+use Rattle.lent.specs.Again.{subtreeAt}
+use Rattle.lent.specs.declared.Asked.{Asked}
 use Rattle.sections.specs.declared.Places.{Places}
 use Rattle.automaton.specs.PlanWords.{halted, too-long, plan-of}
 use Rattle.plan.specs.Building.{scratchWords, cleared, size, stateNumber, planOf, buildOf}

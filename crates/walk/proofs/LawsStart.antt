@@ -19,9 +19,9 @@ use Rattle.kinds.specs.declared.Reason.the-variants.{ShortBuffers, BadScore}
 use Rattle.kinds.proofs.ListLaws.{onto-sets}
 use Rattle.term.proofs.LawsReading.{head-out, reading-bad}
 use Rattle.contents.specs.Tables.{scoreLimits, scoreLevels}
-use Rattle.folio.specs.Again.{scoreGood}
+use Rattle.lent.specs.Again.{scoreGood}
 use Rattle.contents.proofs.LawsTables.{score-refused}
-use Rattle.folio.proofs.LawsAgain.{score-good-is}
+use Rattle.lent.proofs.LawsAgain.{score-good-is}
 use Rattle.walk.specs.declared.Walked.{Walked}
 use Rattle.walk.specs.declared.Walked.the-variants.{On, Refused}
 use Rattle.walk.specs.Starting.{Walk, Out, walkOf, counting, refuse, goOn, begun, started}

@@ -14,7 +14,7 @@ use Rattle.kinds.specs.Lists.{unless, onto}
 use Rattle.kinds.specs.Reasons.{Says, gives, refuses}
 use Rattle.kinds.specs.declared.Reason.{Reason}
 use Rattle.kinds.specs.declared.Reason.the-variants.{ShortBuffers, BadScore}
-use Rattle.folio.specs.Again.{scoreGood}
+use Rattle.lent.specs.Again.{scoreGood}
 use Rattle.walk.specs.declared.Record.{Record}
 use Rattle.walk.specs.declared.Walked.{Walked}
 use Rattle.walk.specs.declared.Walked.the-variants.{On, Refused}

@@ -5,8 +5,8 @@ ghost use lib.Seq.{sets};
 ghost use Rattle.walk.specs.Starting.{started, walkOf, counting};
 use crate::Record;
 use crate::Walked;
-use folio::checking::score_good;
 use kinds::Reason;
+use lent::checking::score_good;
 
 // State 0 at node 0 waits, and no mark is set.
 pub fn start(

@@ -20,7 +20,7 @@ use Rattle.kinds.specs.declared.Reason.the-variants.{ShortBuffers, BadScore, No
 use Rattle.kinds.proofs.Bools.{and-l, and-r, leb-is, ltb-not}
 use Rattle.kinds.proofs.Options.{on-bind, on-need}
 use Rattle.kinds.proofs.ListLaws.{length-onto, drop-onto}
-use Rattle.folio.specs.Again.{scoreGood}
+use Rattle.lent.specs.Again.{scoreGood}
 use Rattle.walk.specs.declared.Record.{Record}
 use Rattle.walk.specs.declared.Walked.the-variants.{On, Refused}
 use Rattle.readers.specs.PlanParts.{pairs, pairWords}

@@ -1,6 +1,6 @@
 use Rattle.counting.proofs.CountLaws.{count-bad, count-short, count-is, few-nodes}
 use Rattle.counting.specs.Clashes.{clashNumber, clash}
-use Rattle.folio.proofs.LawsAgain.{score-good-is}
+use Rattle.lent.proofs.LawsAgain.{score-good-is}
 use Rattle.term.proofs.LawsSpans.{length-spans}
 use mathlib.Core.Path.{_≡_, refl, ap, sym, _∙_}
 use native.Mathlib.Omega.{arith}

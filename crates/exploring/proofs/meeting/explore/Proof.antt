@@ -1,4 +1,4 @@
-use Rattle.exploring.proofs.ExploreLaws.{Running, running-begin, running-on, running-stop, running-end, fresh-room}
+use Rattle.states.proofs.ExploreLaws.{Running, running-begin, running-on, running-stop, running-end, fresh-room}
 use lib.ListN.{length, getD}
 use Prim.Native.Nat.{ℕ, _≤_, _<_, _+_, _-_, _*_, _/_, _%_}
 use mathlib.Core.Path.{_≡_, refl, ap, ap₂, sym, _∙_}
@@ -10,7 +10,7 @@ use Rattle.exploring.proofs.meeting.explore.Reads as reads
 use Rattle.exploring.proofs.meeting.explore.Lts as lts
 use Rattle.deriving.proofs.derivative.put_fresh.Reads as put-fresh-reads
 use Rattle.exploring.proofs.meeting.explore_state.Reads as explore-state-reads
-use Rattle.exploring.proofs.states.add_state.Reads as add-state-reads
+use Rattle.states.proofs.keeping.add_state.Reads as add-state-reads
 
 abbrev Inv-loop : tie.InvT-loop
 Inv-loop tab arity shapes scratch₀ m₀ words₀ i₀ scratch m words i = Running arity tab shapes scratch₀ scratch m words i

@@ -1,4 +1,4 @@
-use Rattle.exploring.proofs.ExploreLaws.{state-in, Rowing, rowing-begin, rowing-on, rowing-stop, rowing-end}
+use Rattle.states.proofs.ExploreLaws.{state-in, Rowing, rowing-begin, rowing-on, rowing-stop, rowing-end}
 use Rattle.decoding.proofs.GoodLaws.{good-low, good-label}
 use Rattle.decoding.specs.GoodStates.{GoodState}
 use Rattle.goals.specs.GoalWords.{labelCode}

@@ -1,8 +1,8 @@
-use Rattle.exploring.proofs.ExploreLaws.{state-in, Derived, derived, derive-small, derive-room, met-same, part-count, part-is, part-few, part-low, outs-many, outputs-few}
+use Rattle.states.proofs.ExploreLaws.{state-in, Derived, derived, derive-small, derive-room, met-same, part-count, part-is, part-few, part-low, outs-many, outputs-few}
 use Rattle.decoding.proofs.GoodLaws.{good-low, good-label}
-use Rattle.exploring.proofs.WordArrays.{low-at}
+use Rattle.states.proofs.WordArrays.{low-at}
 use Rattle.classes.proofs.ClosureLaws.{empty-square}
-use Rattle.exploring.proofs.InOrder.{classes-in-order}
+use Rattle.states.proofs.InOrder.{classes-in-order}
 use Rattle.decoding.specs.GoodStates.{GoodState}
 use Rattle.goals.specs.GoalWords.{goalsFrom, labelCode}
 use Rattle.goals.specs.WordStages.{classKey, classesW, outputsW}

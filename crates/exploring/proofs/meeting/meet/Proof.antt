@@ -1,7 +1,7 @@
 use mathlib.Core.List.{List, [], _∷_, _++_}
-use Rattle.exploring.proofs.ExploreLaws.{class-few, class-room, Lifting, lifting, met-known, met-full, met-new}
-use Rattle.exploring.proofs.MeetLaws.{meet-big}
-use Rattle.exploring.proofs.WordArrays.{flat-thirds}
+use Rattle.states.proofs.ExploreLaws.{class-few, class-room, Lifting, lifting, met-known, met-full, met-new}
+use Rattle.states.proofs.MeetLaws.{meet-big}
+use Rattle.states.proofs.WordArrays.{flat-thirds}
 use Rattle.decoding.specs.WordMachine.{words, statesIn}
 use Rattle.deriving.specs.Orders.{classAt}
 use lib.ListN.{length, replicate}
@@ -17,8 +17,8 @@ use Rattle.exploring.proofs.meeting.meet.Lts as lts
 use Rattle.classes.proofs.members.put_class.Reads as put-class-reads
 use Rattle.deriving.proofs.lift.least.Reads as least-reads
 use Rattle.deriving.proofs.lift.put_lifted.Reads as put-lifted-reads
-use Rattle.exploring.proofs.states.add_state.Reads as add-state-reads
-use Rattle.exploring.proofs.states.find_state.Reads as find-state-reads
+use Rattle.states.proofs.keeping.add_state.Reads as add-state-reads
+use Rattle.states.proofs.keeping.find_state.Reads as find-state-reads
 
 -- src/meeting.rt:132:41
 -- src/meeting.rt:185:41

@@ -1,4 +1,4 @@
-use Rattle.exploring.proofs.ExploreLaws.{Meeting, meeting-begin, meeting-on, meeting-stop, meeting-end}
+use Rattle.states.proofs.ExploreLaws.{Meeting, meeting-begin, meeting-on, meeting-stop, meeting-end}
 use lib.ListN.{length}
 use Prim.Native.Nat.{ℕ, _≤_, _<_, _+_, _-_, _*_}
 use mathlib.Core.Path.{_≡_, refl, ap, sym, _∙_}

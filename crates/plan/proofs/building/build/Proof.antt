@@ -12,7 +12,7 @@ use Rattle.plan.proofs.building.build.Statement.{statement}
 use Rattle.plan.proofs.building.build.Tie as tie
 use Rattle.plan.proofs.building.build.Reads as reads
 use Rattle.plan.proofs.building.build.Lts as lts
-use Rattle.folio.proofs.checking.shapes_good.Reads as shapes-good-reads
+use Rattle.lent.proofs.checking.shapes_good.Reads as shapes-good-reads
 use Rattle.plan.proofs.building.clear.Reads as clear-reads
 use Rattle.plan.proofs.building.make.Reads as make-reads
 use Rattle.tables.proofs.filling.fill_tables.Reads as fill-tables-reads

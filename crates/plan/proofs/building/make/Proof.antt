@@ -10,7 +10,7 @@ use Rattle.plan.proofs.building.make.Tie as tie
 use Rattle.plan.proofs.building.make.Reads as reads
 use Rattle.plan.proofs.building.make.Lts as lts
 use Rattle.exploring.proofs.meeting.explore.Reads as explore-reads
-use Rattle.plan.proofs.writing.write_plan.Reads as write-plan-reads
+use Rattle.writing.proofs.blocks.write_plan.Reads as write-plan-reads
 
 -- src/building.rt:43:11
 explore-requires : tie.Need-explore-requires

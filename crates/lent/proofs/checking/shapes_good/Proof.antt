@@ -1,0 +1,71 @@
+use Rattle.contents.specs.Tables.{blankWord}
+use Prim.Native.Nat.{ℕ}
+use mathlib.Core.Path.{sym, _∙_}
+use native.Mathlib.Omega.{arith}
+use lib.ListN.{replicate, length-replicate}
+use Rattle.contents.proofs.LawsTables.{found-count}
+use Rattle.lent.proofs.LawsAgain.{again-symbols, again-refused, again-found}
+use borrow.Author.Needs.{needs}
+use Rattle.lent.proofs.checking.shapes_good.Statement.{statement}
+use Rattle.lent.proofs.checking.shapes_good.Tie as tie
+
+test-symbols-requires : tie.Need-test-symbols-requires
+test-symbols-requires c κs = search needs
+
+enum-known-why : tie.Need-enum-known-why
+enum-known-why c = search needs
+
+returns : tie.Need-returns
+returns c = sym (again-symbols _ _ _ (sym (c .before .before .before .test-symbols .ensures) ∙ c .before .why .given .1))
+
+enum-told : tie.Need-enum-told
+enum-told c = search needs
+
+slice-aggregate-read-shapes : tie.Need-slice-aggregate-read-shapes
+slice-aggregate-read-shapes c = search needs
+
+read-shapes-requires : tie.Need-read-shapes-requires
+read-shapes-requires c κs = search needs
+
+enum-known-why-2 : tie.Need-enum-known-why-2
+enum-known-why-2 c = search needs
+
+returns-2 : tie.Need-returns-2
+returns-2 c = sym (again-refused _ _ _ (sym (c .before .before .before .before .before .before .before .before .test-symbols .ensures) ∙ c .before .before .before .before .before .before .enum-told .given .1) (sym (c .before .before .before .before .read-shapes .ensures .0) ∙ c .before .why2 .given .1))
+
+enum-known-n : tie.Need-enum-known-n
+enum-known-n c = search needs
+
+sub-equal : tie.Need-sub-equal
+sub-equal c = search needs
+
+part-equal-start : tie.Need-part-equal-start
+part-equal-start c = search needs
+
+part-equal-end : tie.Need-part-equal-end
+part-equal-end c = omega (arith, found-count (c .before .before .before .before .before .before .before .before .before .before .before .before .before .args .arity .now) blankWord (c .before .before .before .before .before .before .before .before .before .before .before .before .before .args .words .now) _ (sym (c .before .before .before .before .before .read-shapes .ensures .0) ∙ c .before .before .n .given .1))
+
+equal-requires : tie.Need-equal-requires
+equal-requires c κs = search needs
+
+returns-3 : tie.Need-returns-3
+returns-3 c = c .equal .ensures ∙ sym (again-found (c .before .before .before .before .before .before .before .before .before .before .before .before .before .before .before .args .arity .now) (c .before .before .before .before .before .before .before .before .before .before .before .before .before .before .before .args .words .now) (c .before .before .before .before .before .before .before .before .before .before .before .before .before .before .before .args .starts .now) _ (replicate {A = ℕ} 16 0) _ (sym (c .before .before .before .before .before .before .before .before .before .before .before .test-symbols .ensures) ∙ c .before .before .before .before .before .before .before .before .before .enum-told .given .1) (sym (c .before .before .before .before .before .before .before .read-shapes .ensures .0) ∙ c .before .before .before .before .n .given .1) (length-replicate {A = ℕ} 16 0) (c .before .before .before .before .before .before .before .read-shapes .ensures .1))
+
+pub shapes-good-spec : {M : Type 1} → statement M
+shapes-good-spec =
+    tie.close
+    (tie.spec
+    test-symbols-requires
+    enum-known-why
+    returns
+    enum-told
+    slice-aggregate-read-shapes
+    read-shapes-requires
+    enum-known-why-2
+    returns-2
+    enum-known-n
+    sub-equal
+    part-equal-start
+    part-equal-end
+    equal-requires
+    returns-3)

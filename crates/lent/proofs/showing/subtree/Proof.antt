@@ -1,0 +1,66 @@
+use mathlib.Core.Path.{sym, _∙_}
+use Rattle.lent.proofs.LawsAgain.{subtree-none, subtree-some}
+use borrow.Author.Needs.{needs}
+use Rattle.lent.proofs.showing.subtree.Statement.{statement}
+use Rattle.lent.proofs.showing.subtree.Tie as tie
+
+test-symbols-requires : tie.Need-test-symbols-requires
+test-symbols-requires c κs = search needs
+
+enum-known-why : tie.Need-enum-known-why
+enum-known-why c = search needs
+
+sub-result : tie.Need-sub-result
+sub-result c = search needs
+
+part-result-start : tie.Need-part-result-start
+part-result-start c = search needs
+
+part-result-end : tie.Need-part-result-end
+part-result-end c = search needs
+
+returns : tie.Need-returns
+returns c = sym (subtree-none _ _ _ (c .before .before .before .before .before .before .before .before .args .score .now) (sym (c .before .before .before .before .test-symbols .ensures) ∙ c .before .before .why .given .1))
+
+enum-told : tie.Need-enum-told
+enum-told c = search needs
+
+enum-known-asked : tie.Need-enum-known-asked
+enum-known-asked c = search needs
+
+piece-requires : tie.Need-piece-requires
+piece-requires c κs = search needs
+
+enum-known-asked-2 : tie.Need-enum-known-asked-2
+enum-known-asked-2 c = search needs
+
+cast-piece : tie.Need-cast-piece
+cast-piece c = search needs
+
+piece-requires-2 : tie.Need-piece-requires-2
+piece-requires-2 c κs = search needs
+
+returns-2 : tie.Need-returns-2
+returns-2 c = c .piece .ensures ∙ sym (subtree-some (c .before .before .before .before .before .before .before .before .before .before .args .asked) (c .before .before .before .before .before .before .before .before .before .before .args .arity .now) (c .before .before .before .before .before .before .before .before .before .before .args .shapes .now) (c .before .before .before .before .before .before .before .before .before .before .args .score .now) (sym (c .before .before .before .before .before .before .test-symbols .ensures) ∙ c .before .before .before .before .enum-told .given .1) (c .before .before .asked .given .1))
+
+returns-3 : tie.Need-returns-3
+returns-3 c = c .piece2 .ensures ∙ sym (subtree-some (c .before .before .before .before .before .before .before .before .before .before .before .args .asked) (c .before .before .before .before .before .before .before .before .before .before .before .args .arity .now) (c .before .before .before .before .before .before .before .before .before .before .before .args .shapes .now) (c .before .before .before .before .before .before .before .before .before .before .before .args .score .now) (sym (c .before .before .before .before .before .before .before .test-symbols .ensures) ∙ c .before .before .before .before .before .enum-told .given .1) (c .before .before .before .asked2 .given .1))
+
+pub subtree-spec : {M : Type 1} → statement M
+subtree-spec =
+    tie.close
+    (tie.spec
+    test-symbols-requires
+    enum-known-why
+    sub-result
+    part-result-start
+    part-result-end
+    returns
+    enum-told
+    enum-known-asked
+    piece-requires
+    enum-known-asked-2
+    cast-piece
+    piece-requires-2
+    returns-2
+    returns-3)

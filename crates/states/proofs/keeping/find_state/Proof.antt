@@ -1,0 +1,85 @@
+use Rattle.states.proofs.StateLaws.{placeFrom, place-all, place-here, place-next, place-end}
+use Rattle.goals.specs.GoalWords.{goalsFrom}
+use Prim.Native.Nat.{ℕ, _≤_, _<_, _+_, _-_, _*_}
+use lib.ListN.{length, getD}
+use mathlib.Core.Path.{_≡_, refl, ap, sym, _∙_}
+use native.Mathlib.Omega.{arith}
+use borrow.Author.Needs.{needs}
+use Rattle.states.proofs.keeping.find_state.Statement.{statement}
+use Rattle.states.proofs.keeping.find_state.Tie as tie
+use Rattle.states.proofs.keeping.find_state.Reads as reads
+use Rattle.states.proofs.keeping.find_state.Lts as lts
+use Rattle.classes.proofs.same.same_state.Reads as same-state-reads
+
+abbrev Inv-loop : tie.InvT-loop
+Inv-loop scratch m ws n i₀ i = (i ≤ m) × (placeFrom (goalsFrom ws 0 n) scratch m 0 ≡ placeFrom (goalsFrom ws 0 n) scratch m i)
+
+abbrev μ-loop : tie.MeasureT-loop
+μ-loop scratch m ws n i₀ i = m - i
+
+-- src/keeping.rt:16:5
+loop-holds : tie.Need-loop-holds Inv-loop μ-loop
+loop-holds c = (omega arith, refl)
+
+-- src/keeping.rt:17:48
+mul-same-state : tie.Need-mul-same-state Inv-loop μ-loop
+mul-same-state c = omega (arith, c .before .before .before .before .pre .0 .long, c .before .before .before .before .pre .0 .few)
+
+-- src/keeping.rt:17:42
+add-same-state : tie.Need-add-same-state Inv-loop μ-loop
+add-same-state c = omega (arith, c .before .before .before .before .pre .0 .long, c .before .before .before .before .pre .0 .few)
+
+-- src/keeping.rt:17:56
+mul-same-state-2 : tie.Need-mul-same-state-2 Inv-loop μ-loop
+mul-same-state-2 c = omega (arith, c .before .before .before .before .pre .0 .long, c .before .before .before .before .pre .0 .few)
+
+-- src/keeping.rt:17:56
+shared-slice-read-same-state : tie.Need-shared-slice-read-same-state Inv-loop μ-loop
+shared-slice-read-same-state c = omega (arith, c .before .before .before .before .before .pre .0 .long, c .before .before .before .before .before .pre .0 .few)
+
+-- src/keeping.rt:17:56
+cast-same-state : tie.Need-cast-same-state Inv-loop μ-loop
+cast-same-state c = omega (arith, c .before .before .before .before .before .pre .0 .counts (c .before .before .loop .i) (c .before .loop-test .taken))
+
+-- src/keeping.rt:17:12
+same-state-requires : tie.Need-same-state-requires Inv-loop μ-loop
+same-state-requires c κs = let k = c .before .before .before .before .before .pre .0 .counts (c .before .before .loop .i) (c .before .loop-test .taken) in let l = c .before .before .before .before .before .pre .0 .long in let f = c .before .before .before .before .before .pre .0 .few in omega (arith, k, l, f)
+
+-- src/keeping.rt:18:13
+returns : tie.Need-returns Inv-loop μ-loop
+returns c = sym (place-all (goalsFrom (c .before .before .before .before .before .before .before .args .ws .now) 0 (c .before .before .before .before .before .before .before .args .n)) (c .before .before .before .before .before .before .before .args .scratch .now) (c .before .before .before .before .before .before .before .args .m) ∙ c .before .before .before .before .loop .inv .1 ∙ place-here (goalsFrom (c .before .before .before .before .before .before .before .args .ws .now) 0 (c .before .before .before .before .before .before .before .args .n)) (c .before .before .before .before .before .before .before .args .scratch .now) (c .before .before .before .before .before .before .before .args .m) (c .before .before .before .before .loop .i) (c .before .before .before .loop-test .taken) (sym (c .before .same-state .ensures) ∙ c .if1 .taken))
+
+-- src/keeping.rt:20:9
+add-i : tie.Need-add-i Inv-loop μ-loop
+add-i c = omega (arith, c .before .before .before .before .before .before .before .pre .0 .few)
+
+-- src/keeping.rt:16:5
+loop-less : tie.Need-loop-less Inv-loop μ-loop
+loop-less c = search needs
+
+-- src/keeping.rt:16:5
+loop-again : tie.Need-loop-again Inv-loop μ-loop
+loop-again c = (omega arith, c .before .before .before .before .loop .inv .1 ∙ place-next (goalsFrom (c .before .before .before .before .before .before .before .args .ws .now) 0 (c .before .before .before .before .before .before .before .args .n)) (c .before .before .before .before .before .before .before .args .scratch .now) (c .before .before .before .before .before .before .before .args .m) (c .before .before .before .before .loop .i) (c .before .before .before .loop-test .taken) (sym (c .before .same-state .ensures) ∙ c .if1 .left))
+
+-- src/keeping.rt:11:1
+returns-2 : tie.Need-returns-2 Inv-loop μ-loop
+returns-2 c = sym (place-all (goalsFrom (c .before .before .before .before .args .ws .now) 0 (c .before .before .before .before .args .n)) (c .before .before .before .before .args .scratch .now) (c .before .before .before .before .args .m) ∙ c .before .loop .inv .1 ∙ place-end (goalsFrom (c .before .before .before .before .args .ws .now) 0 (c .before .before .before .before .args .n)) (c .before .before .before .before .args .scratch .now) (c .before .before .before .before .args .m) (c .before .loop .i) (c .loop-test .left))
+
+pub find-state-spec : {M : Type 1} → statement M
+find-state-spec =
+    tie.close
+    (tie.spec
+    Inv-loop
+    μ-loop
+    loop-holds
+    mul-same-state
+    add-same-state
+    mul-same-state-2
+    shared-slice-read-same-state
+    cast-same-state
+    same-state-requires
+    returns
+    add-i
+    loop-less
+    loop-again
+    returns-2)

@@ -1,0 +1,154 @@
+use Rattle.writing.proofs.WriteLaws.{two-stores, Paired, paired-begin, paired-on, paired-end}
+use Rattle.deriving.specs.Orders.{goalOn}
+use lib.ListN.{length, getD, set, length-set}
+use Prim.Native.Nat.{ℕ, _≤_, _<_, _+_, _-_, _*_, _%_}
+use mathlib.Core.Path.{_≡_, refl, ap, ap₂, sym, _∙_}
+use native.Mathlib.Omega.{arith}
+use borrow.Author.Needs.{needs}
+use Rattle.writing.proofs.blocks.write_outputs.Statement.{statement}
+use Rattle.writing.proofs.blocks.write_outputs.Tie as tie
+use Rattle.writing.proofs.blocks.write_outputs.Reads as reads
+use Rattle.writing.proofs.blocks.write_outputs.Lts as lts
+
+abbrev Inv-loop : tie.InvT-loop
+Inv-loop scratch from out at plan₀ here₀ j₀ plan here j = Paired (λ x. goalOn scratch from (x % 128) .sh) (λ x. goalOn scratch from (x % 128) .an) out plan₀ plan at here j
+
+abbrev μ-loop : tie.MeasureT-loop
+μ-loop scratch from out at plan₀ here₀ j₀ plan here j = length out - j
+
+-- src/blocks.rt:89:16
+cast-plan : tie.Need-cast-plan Inv-loop μ-loop
+cast-plan c = search needs
+
+-- src/blocks.rt:89:5
+mul-plan : tie.Need-mul-plan Inv-loop μ-loop
+mul-plan c = search needs
+
+-- src/blocks.rt:89:5
+slice-write-plan : tie.Need-slice-write-plan Inv-loop μ-loop
+slice-write-plan c = search needs
+
+-- src/blocks.rt:90:20
+add-here : tie.Need-add-here Inv-loop μ-loop
+add-here c = search needs
+
+-- src/blocks.rt:92:5
+loop-holds : tie.Need-loop-holds Inv-loop μ-loop
+loop-holds c = paired-begin (λ x. goalOn (c .args .scratch .now) (c .args .from) (x % 128) .sh) (λ x. goalOn (c .args .scratch .now) (c .args .from) (x % 128) .an) (c .args .out .now) (set (c .args .plan .now) (c .args .at) (length (c .args .out .now))) (c .args .at)
+
+-- src/blocks.rt:93:29
+mul-g : tie.Need-mul-g Inv-loop μ-loop
+mul-g c = search needs
+
+-- src/blocks.rt:93:29
+shared-slice-read-g : tie.Need-shared-slice-read-g Inv-loop μ-loop
+shared-slice-read-g c = search needs
+
+-- src/blocks.rt:93:28
+cast-g : tie.Need-cast-g Inv-loop μ-loop
+cast-g c = omega (arith, c .before .before .before .pre .1 (c .before .before .loop .j) (c .before .loop-test .taken))
+
+-- src/blocks.rt:93:24
+mul-g-2 : tie.Need-mul-g-2 Inv-loop μ-loop
+mul-g-2 c = omega (arith, c .before .before .before .pre .1 (c .before .before .loop .j) (c .before .loop-test .taken))
+
+-- src/blocks.rt:93:17
+add-g : tie.Need-add-g Inv-loop μ-loop
+add-g c = omega (arith, c .before .before .before .pre .1 (c .before .before .loop .j) (c .before .loop-test .taken), c .before .before .before .pre .2)
+
+-- src/blocks.rt:94:22
+mul-plan-2 : tie.Need-mul-plan-2 Inv-loop μ-loop
+mul-plan-2 c = omega (arith, c .before .before .before .pre .1 (c .before .before .loop .j) (c .before .loop-test .taken), c .before .before .before .pre .2)
+
+-- src/blocks.rt:94:22
+shared-slice-read-plan : tie.Need-shared-slice-read-plan Inv-loop μ-loop
+shared-slice-read-plan c = omega (arith, c .before .before .before .before .pre .1 (c .before .before .before .loop .j) (c .before .before .loop-test .taken), c .before .before .before .before .pre .2)
+
+-- src/blocks.rt:94:9
+mul-plan-3 : tie.Need-mul-plan-3 Inv-loop μ-loop
+mul-plan-3 c = let s = c .before .before .before .loop .inv in omega (arith, s .stands, s .long, s .below, length-set (c .before .before .before .before .args .plan .now) (c .before .before .before .before .args .at) (length (c .before .before .before .before .args .out .now)), c .before .before .before .before .pre .1 (c .before .before .before .loop .j) (c .before .before .loop-test .taken), c .before .before .loop-test .taken, c .before .before .before .before .pre .0, c .before .before .before .before .pre .2, c .before .before .before .before .pre .3)
+
+-- src/blocks.rt:94:9
+slice-write-plan-2 : tie.Need-slice-write-plan-2 Inv-loop μ-loop
+slice-write-plan-2 c = let s = c .before .before .before .loop .inv in omega (arith, s .stands, s .long, s .below, length-set (c .before .before .before .before .args .plan .now) (c .before .before .before .before .args .at) (length (c .before .before .before .before .args .out .now)), c .before .before .before .before .pre .1 (c .before .before .before .loop .j) (c .before .before .loop-test .taken), c .before .before .loop-test .taken, c .before .before .before .before .pre .0, c .before .before .before .before .pre .2, c .before .before .before .before .pre .3)
+
+-- src/blocks.rt:95:34
+add-plan : tie.Need-add-plan Inv-loop μ-loop
+add-plan c = omega (arith, c .before .before .before .before .pre .1 (c .before .before .before .loop .j) (c .before .before .loop-test .taken), c .before .before .before .before .pre .2)
+
+-- src/blocks.rt:95:26
+mul-plan-4 : tie.Need-mul-plan-4 Inv-loop μ-loop
+mul-plan-4 c = omega (arith, c .before .before .before .before .pre .1 (c .before .before .before .loop .j) (c .before .before .loop-test .taken), c .before .before .before .before .pre .2)
+
+-- src/blocks.rt:95:26
+shared-slice-read-plan-2 : tie.Need-shared-slice-read-plan-2 Inv-loop μ-loop
+shared-slice-read-plan-2 c = omega (arith, c .before .before .before .before .before .pre .1 (c .before .before .before .before .loop .j) (c .before .before .before .loop-test .taken), c .before .before .before .before .before .pre .2)
+
+-- src/blocks.rt:95:14
+add-plan-2 : tie.Need-add-plan-2 Inv-loop μ-loop
+add-plan-2 c = let s = c .before .before .before .before .loop .inv in omega (arith, s .stands, s .long, s .below, length-set (c .before .before .before .before .before .args .plan .now) (c .before .before .before .before .before .args .at) (length (c .before .before .before .before .before .args .out .now)), c .before .before .before .before .before .pre .1 (c .before .before .before .before .loop .j) (c .before .before .before .loop-test .taken), c .before .before .before .loop-test .taken, c .before .before .before .before .before .pre .0, c .before .before .before .before .before .pre .2, c .before .before .before .before .before .pre .3)
+
+-- src/blocks.rt:95:9
+mul-plan-5 : tie.Need-mul-plan-5 Inv-loop μ-loop
+mul-plan-5 c = let s = c .before .before .before .before .loop .inv in omega (arith, s .stands, s .long, s .below, length-set (c .before .before .before .before .before .args .plan .now) (c .before .before .before .before .before .args .at) (length (c .before .before .before .before .before .args .out .now)), c .before .before .before .before .before .pre .1 (c .before .before .before .before .loop .j) (c .before .before .before .loop-test .taken), c .before .before .before .loop-test .taken, c .before .before .before .before .before .pre .0, c .before .before .before .before .before .pre .2, c .before .before .before .before .before .pre .3, length-set (c .before .before .before .before .loop .plan) (c .before .before .before .before .loop .here) (getD (c .before .before .before .before .before .args .scratch .now) (c .before .before .before .before .before .args .from + 3 * (getD (c .before .before .before .before .before .args .out .now) (c .before .before .before .before .loop .j) 0 % 128)) 0))
+
+-- src/blocks.rt:95:9
+slice-write-plan-3 : tie.Need-slice-write-plan-3 Inv-loop μ-loop
+slice-write-plan-3 c = let s = c .before .before .before .before .loop .inv in omega (arith, s .stands, s .long, s .below, length-set (c .before .before .before .before .before .args .plan .now) (c .before .before .before .before .before .args .at) (length (c .before .before .before .before .before .args .out .now)), c .before .before .before .before .before .pre .1 (c .before .before .before .before .loop .j) (c .before .before .before .loop-test .taken), c .before .before .before .loop-test .taken, c .before .before .before .before .before .pre .0, c .before .before .before .before .before .pre .2, c .before .before .before .before .before .pre .3, length-set (c .before .before .before .before .loop .plan) (c .before .before .before .before .loop .here) (getD (c .before .before .before .before .before .args .scratch .now) (c .before .before .before .before .before .args .from + 3 * (getD (c .before .before .before .before .before .args .out .now) (c .before .before .before .before .loop .j) 0 % 128)) 0))
+
+-- src/blocks.rt:96:9
+add-here-2 : tie.Need-add-here-2 Inv-loop μ-loop
+add-here-2 c = let s = c .before .before .before .before .loop .inv in omega (arith, s .stands, s .long, s .below, length-set (c .before .before .before .before .before .args .plan .now) (c .before .before .before .before .before .args .at) (length (c .before .before .before .before .before .args .out .now)), c .before .before .before .before .before .pre .1 (c .before .before .before .before .loop .j) (c .before .before .before .loop-test .taken), c .before .before .before .loop-test .taken, c .before .before .before .before .before .pre .0, c .before .before .before .before .before .pre .2, c .before .before .before .before .before .pre .3)
+
+-- src/blocks.rt:97:9
+add-j : tie.Need-add-j Inv-loop μ-loop
+add-j c = search needs
+
+-- src/blocks.rt:92:5
+loop-less : tie.Need-loop-less Inv-loop μ-loop
+loop-less c = search needs
+
+-- src/blocks.rt:92:5
+loop-again : tie.Need-loop-again Inv-loop μ-loop
+loop-again c = paired-on (λ x. goalOn (c .before .before .before .before .before .args .scratch .now) (c .before .before .before .before .before .args .from) (x % 128) .sh) (λ x. goalOn (c .before .before .before .before .before .args .scratch .now) (c .before .before .before .before .before .args .from) (x % 128) .an) (c .before .before .before .before .before .args .out .now) (set (c .before .before .before .before .before .args .plan .now) (c .before .before .before .before .before .args .at) (length (c .before .before .before .before .before .args .out .now))) (c .before .before .before .before .before .args .at) (c .before .before .before .before .loop .inv) (c .before .before .before .loop-test .taken) _ (two-stores (c .before .before .before .before .loop .plan) (c .before .before .before .before .loop .here) _ _)
+
+-- src/blocks.rt:84:1
+same-length : tie.Need-same-length Inv-loop μ-loop
+same-length c = c .before .loop .inv .long ∙ length-set (c .before .before .args .plan .now) (c .before .before .args .at) (length (c .before .before .args .out .now))
+
+-- src/blocks.rt:84:1
+returns : tie.Need-returns Inv-loop μ-loop
+returns c = paired-end (λ x. goalOn (c .before .before .args .scratch .now) (c .before .before .args .from) (x % 128) .sh) (λ x. goalOn (c .before .before .args .scratch .now) (c .before .before .args .from) (x % 128) .an) (c .before .before .args .out .now) (set (c .before .before .args .plan .now) (c .before .before .args .at) (length (c .before .before .args .out .now))) (c .before .before .args .at) (c .before .loop .inv) (c .loop-test .left) (c .before .before .args .plan .now) refl
+
+pub write-outputs-spec : {M : Type 1} → statement M
+write-outputs-spec =
+    tie.close
+    (tie.spec
+    Inv-loop
+    μ-loop
+    cast-plan
+    mul-plan
+    slice-write-plan
+    add-here
+    loop-holds
+    mul-g
+    shared-slice-read-g
+    cast-g
+    mul-g-2
+    add-g
+    mul-plan-2
+    shared-slice-read-plan
+    mul-plan-3
+    slice-write-plan-2
+    add-plan
+    mul-plan-4
+    shared-slice-read-plan-2
+    add-plan-2
+    mul-plan-5
+    slice-write-plan-3
+    add-here-2
+    add-j
+    loop-less
+    loop-again
+    same-length
+    returns)

@@ -1,0 +1,174 @@
+use Rattle.writing.proofs.WriteLaws.{Planned, planned-begin, planned-room, planned-below, planned-on, planned-end, plan-total, head-length}
+use Rattle.states.proofs.ExploreLaws.{state-in}
+use Rattle.decoding.proofs.GoodLaws.{good-low, good-label}
+use Rattle.decoding.specs.WordMachine.{stateIn, statesIn}
+use Rattle.decoding.specs.GoodStates.{GoodState}
+use lib.ListN.{length, getD, set, length-set}
+use Prim.Native.Nat.{ℕ, _≤_, _<_, _+_, _-_, _*_, _/_, _%_}
+use mathlib.Core.Path.{_≡_, refl, ap, ap₂, sym, _∙_}
+use native.Mathlib.Omega.{arith}
+use borrow.Author.Needs.{needs}
+use Rattle.writing.proofs.blocks.write_plan.Statement.{statement}
+use Rattle.writing.proofs.blocks.write_plan.Tie as tie
+use Rattle.writing.proofs.blocks.write_plan.Reads as reads
+use Rattle.writing.proofs.blocks.write_plan.Lts as lts
+use Rattle.goals.proofs.obligations.label.Reads as label-reads
+use Rattle.writing.proofs.blocks.write_row.Reads as write-row-reads
+
+abbrev Inv-loop : tie.InvT-loop
+Inv-loop tab arity shapes scratch m total plan₀ k at₀ i₀ plan at i = Planned arity tab shapes scratch m plan₀ plan at i
+
+abbrev μ-loop : tie.MeasureT-loop
+μ-loop tab arity shapes scratch m total plan₀ k at₀ i₀ plan at i = m - i
+
+-- src/blocks.rt:33:15
+cast-plan : tie.Need-cast-plan Inv-loop μ-loop
+cast-plan c = omega (arith, c .before .before .before .before .pre .0 .few)
+
+-- src/blocks.rt:33:5
+slice-write-plan : tie.Need-slice-write-plan Inv-loop μ-loop
+slice-write-plan c = omega (arith, plan-total (c .before .before .before .before .args .arity .now) (c .before .before .before .before .args .tab .now) (c .before .before .before .before .args .shapes) (c .before .before .before .before .args .scratch .now) (c .before .before .before .before .args .m) (c .before .before .before .before .args .total) (c .before .before .before .before .pre .4), c .before .before .before .before .pre .5)
+
+-- src/blocks.rt:34:15
+cast-plan-2 : tie.Need-cast-plan-2 Inv-loop μ-loop
+cast-plan-2 c = omega (arith, c .before .before .before .before .pre .3 .few-symbols)
+
+-- src/blocks.rt:34:5
+slice-write-plan-2 : tie.Need-slice-write-plan-2 Inv-loop μ-loop
+slice-write-plan-2 c = omega (arith, plan-total (c .before .before .before .before .args .arity .now) (c .before .before .before .before .args .tab .now) (c .before .before .before .before .args .shapes) (c .before .before .before .before .args .scratch .now) (c .before .before .before .before .args .m) (c .before .before .before .before .args .total) (c .before .before .before .before .pre .4), c .before .before .before .before .pre .5, length-set (c .before .before .before .before .args .plan .now) 0 (c .before .before .before .before .args .m))
+
+-- src/blocks.rt:35:15
+cast-plan-3 : tie.Need-cast-plan-3 Inv-loop μ-loop
+cast-plan-3 c = omega (arith, c .before .before .before .before .pre .3 .few-shapes)
+
+-- src/blocks.rt:35:5
+slice-write-plan-3 : tie.Need-slice-write-plan-3 Inv-loop μ-loop
+slice-write-plan-3 c = omega (arith, plan-total (c .before .before .before .before .args .arity .now) (c .before .before .before .before .args .tab .now) (c .before .before .before .before .args .shapes) (c .before .before .before .before .args .scratch .now) (c .before .before .before .before .args .m) (c .before .before .before .before .args .total) (c .before .before .before .before .pre .4), c .before .before .before .before .pre .5, length-set (c .before .before .before .before .args .plan .now) 0 (c .before .before .before .before .args .m), length-set (set (c .before .before .before .before .args .plan .now) 0 (c .before .before .before .before .args .m)) 1 (length (c .before .before .before .before .args .arity .now)))
+
+-- src/blocks.rt:36:15
+cast-plan-4 : tie.Need-cast-plan-4 Inv-loop μ-loop
+cast-plan-4 c = omega (arith, c .before .before .before .before .pre .6)
+
+-- src/blocks.rt:36:5
+slice-write-plan-4 : tie.Need-slice-write-plan-4 Inv-loop μ-loop
+slice-write-plan-4 c = omega (arith, plan-total (c .before .before .before .before .args .arity .now) (c .before .before .before .before .args .tab .now) (c .before .before .before .before .args .shapes) (c .before .before .before .before .args .scratch .now) (c .before .before .before .before .args .m) (c .before .before .before .before .args .total) (c .before .before .before .before .pre .4), c .before .before .before .before .pre .5, head-length (c .before .before .before .before .args .plan .now) (c .before .before .before .before .args .m) (length (c .before .before .before .before .args .arity .now)) (c .before .before .before .before .args .shapes) (c .before .before .before .before .args .total), length-set (set (set (set (c .before .before .before .before .args .plan .now) 0 (c .before .before .before .before .args .m)) 1 (length (c .before .before .before .before .args .arity .now))) 2 (c .before .before .before .before .args .shapes)) 3 (c .before .before .before .before .args .total))
+
+-- src/blocks.rt:37:18
+add-at : tie.Need-add-at Inv-loop μ-loop
+add-at c = omega (arith, c .before .before .before .before .pre .0 .few)
+
+-- src/blocks.rt:37:26
+mul-at : tie.Need-mul-at Inv-loop μ-loop
+mul-at c = omega (arith, plan-total (c .before .before .before .before .args .arity .now) (c .before .before .before .before .args .tab .now) (c .before .before .before .before .args .shapes) (c .before .before .before .before .args .scratch .now) (c .before .before .before .before .args .m) (c .before .before .before .before .args .total) (c .before .before .before .before .pre .4), c .before .before .before .before .pre .6)
+
+-- src/blocks.rt:37:18
+add-at-2 : tie.Need-add-at-2 Inv-loop μ-loop
+add-at-2 c = omega (arith, plan-total (c .before .before .before .before .args .arity .now) (c .before .before .before .before .args .tab .now) (c .before .before .before .before .args .shapes) (c .before .before .before .before .args .scratch .now) (c .before .before .before .before .args .m) (c .before .before .before .before .args .total) (c .before .before .before .before .pre .4), c .before .before .before .before .pre .6)
+
+-- src/blocks.rt:39:5
+loop-holds : tie.Need-loop-holds Inv-loop μ-loop
+loop-holds c = planned-begin (c .before .before .before .before .args .arity .now) (c .before .before .before .before .args .tab .now) (c .before .before .before .before .args .shapes) (c .before .before .before .before .args .scratch .now) (c .before .before .before .before .args .m) (set (set (set (set (c .before .before .before .before .args .plan .now) 0 (c .before .before .before .before .args .m)) 1 (length (c .before .before .before .before .args .arity .now))) 2 (c .before .before .before .before .args .shapes)) 3 (c .before .before .before .before .args .total))
+
+-- src/blocks.rt:40:43
+mul-label : tie.Need-mul-label Inv-loop μ-loop
+mul-label c = omega (arith, c .before .before .before .before .before .before .pre .0 .few, c .loop-test .taken)
+
+-- src/blocks.rt:40:37
+add-label : tie.Need-add-label Inv-loop μ-loop
+add-label c = omega (arith, c .before .before .before .before .before .before .pre .0 .few, c .loop-test .taken)
+
+-- src/blocks.rt:40:51
+mul-label-2 : tie.Need-mul-label-2 Inv-loop μ-loop
+mul-label-2 c = omega (arith, c .before .before .before .before .before .before .pre .0 .few, c .loop-test .taken)
+
+-- src/blocks.rt:40:51
+shared-slice-read-label : tie.Need-shared-slice-read-label Inv-loop μ-loop
+shared-slice-read-label c = omega (arith, c .before .before .before .before .before .before .before .pre .0 .few, c .before .before .before .before .before .before .before .pre .0 .long, c .before .loop-test .taken)
+
+-- src/blocks.rt:40:51
+cast-label : tie.Need-cast-label Inv-loop μ-loop
+cast-label c = omega (arith, c .before .before .before .before .before .before .before .pre .0 .counts (c .before .before .loop .i) (c .before .loop-test .taken))
+
+-- src/blocks.rt:40:17
+label-requires : tie.Need-label-requires Inv-loop μ-loop
+label-requires c κs = ((c .before .before .before .before .before .before .before .pre .1 (stateIn (c .before .before .before .before .before .before .before .args .scratch .now) (c .before .before .loop .i)) (state-in (c .before .before .before .before .before .before .before .args .scratch .now) (c .before .before .before .before .before .before .before .args .m) (c .before .before .loop .i) (c .before .loop-test .taken))) .ready .tabled, omega (arith, c .before .before .before .before .before .before .before .pre .0 .counts (c .before .before .loop .i) (c .before .loop-test .taken)), omega (arith, c .before .before .before .before .before .before .before .pre .0 .counts (c .before .before .loop .i) (c .before .loop-test .taken), c .before .before .before .before .before .before .before .pre .0 .long, c .before .before .before .before .before .before .before .pre .0 .few, c .before .loop-test .taken), good-low (c .before .before .before .before .before .before .before .pre .1 (stateIn (c .before .before .before .before .before .before .before .args .scratch .now) (c .before .before .loop .i)) (state-in (c .before .before .before .before .before .before .before .args .scratch .now) (c .before .before .before .before .before .before .before .args .m) (c .before .before .loop .i) (c .before .loop-test .taken))))
+
+-- src/blocks.rt:40:17
+cast-c : tie.Need-cast-c Inv-loop μ-loop
+cast-c c = omega (arith, c .label .ensures, good-label (c .before .before .before .before .before .before .before .before .pre .1 (stateIn (c .before .before .before .before .before .before .before .before .args .scratch .now) (c .before .before .before .loop .i)) (state-in (c .before .before .before .before .before .before .before .before .args .scratch .now) (c .before .before .before .before .before .before .before .before .args .m) (c .before .before .before .loop .i) (c .before .before .loop-test .taken))))
+
+-- src/blocks.rt:41:14
+add-plan : tie.Need-add-plan Inv-loop μ-loop
+add-plan c = omega (arith, c .before .before .before .before .before .before .before .before .pre .0 .few, c .before .before .loop-test .taken)
+
+-- src/blocks.rt:41:9
+mul-plan : tie.Need-mul-plan Inv-loop μ-loop
+mul-plan c = omega (arith, c .before .before .before .before .before .before .before .before .pre .0 .few, c .before .before .loop-test .taken)
+
+-- src/blocks.rt:41:9
+slice-write-plan-5 : tie.Need-slice-write-plan-5 Inv-loop μ-loop
+slice-write-plan-5 c = omega (arith, c .before .before .loop-test .taken, c .before .before .before .loop .inv .long, head-length (c .before .before .before .before .before .before .before .before .args .plan .now) (c .before .before .before .before .before .before .before .before .args .m) (length (c .before .before .before .before .before .before .before .before .args .arity .now)) (c .before .before .before .before .before .before .before .before .args .shapes) (c .before .before .before .before .before .before .before .before .args .total), plan-total (c .before .before .before .before .before .before .before .before .args .arity .now) (c .before .before .before .before .before .before .before .before .args .tab .now) (c .before .before .before .before .before .before .before .before .args .shapes) (c .before .before .before .before .before .before .before .before .args .scratch .now) (c .before .before .before .before .before .before .before .before .args .m) (c .before .before .before .before .before .before .before .before .args .total) (c .before .before .before .before .before .before .before .before .pre .4), c .before .before .before .before .before .before .before .before .pre .5)
+
+-- src/blocks.rt:42:9
+write-row-requires : tie.Need-write-row-requires Inv-loop μ-loop
+write-row-requires c κs = let r = planned-room (c .before .before .before .before .before .before .before .before .before .args .arity .now) (c .before .before .before .before .before .before .before .before .before .args .tab .now) (c .before .before .before .before .before .before .before .before .before .args .shapes) (c .before .before .before .before .before .before .before .before .before .args .scratch .now) (c .before .before .before .before .before .before .before .before .before .args .m) (c .before .before .before .before .loop .inv) (c .before .before .before .loop-test .taken) in let l = length-set (c .before .before .before .before .loop .plan) (4 + (c .before .before .before .before .loop .i)) (c .before .label .result) in
+    (c .before .before .before .before .before .before .before .before .before .pre .0, c .before .before .before .loop-test .taken, c .before .before .before .before .before .before .before .before .before .pre .1, c .before .before .before .before .before .before .before .before .before .pre .2 (stateIn (c .before .before .before .before .before .before .before .before .before .args .scratch .now) (c .before .before .before .before .loop .i)) (state-in (c .before .before .before .before .before .before .before .before .before .args .scratch .now) (c .before .before .before .before .before .before .before .before .before .args .m) (c .before .before .before .before .loop .i) (c .before .before .before .loop-test .taken)), c .before .label .ensures, (planned-below (c .before .before .before .before .before .before .before .before .before .args .arity .now) (c .before .before .before .before .before .before .before .before .before .args .tab .now) (c .before .before .before .before .before .before .before .before .before .args .shapes) (c .before .before .before .before .before .before .before .before .before .args .scratch .now) (c .before .before .before .before .before .before .before .before .before .args .m) (c .before .before .before .before .loop .inv) (c .before .before .before .loop-test .taken)), omega (arith, r, l, c .before .before .before .before .loop .inv .long, head-length (c .before .before .before .before .before .before .before .before .before .args .plan .now) (c .before .before .before .before .before .before .before .before .before .args .m) (length (c .before .before .before .before .before .before .before .before .before .args .arity .now)) (c .before .before .before .before .before .before .before .before .before .args .shapes) (c .before .before .before .before .before .before .before .before .before .args .total), plan-total (c .before .before .before .before .before .before .before .before .before .args .arity .now) (c .before .before .before .before .before .before .before .before .before .args .tab .now) (c .before .before .before .before .before .before .before .before .before .args .shapes) (c .before .before .before .before .before .before .before .before .before .args .scratch .now) (c .before .before .before .before .before .before .before .before .before .args .m) (c .before .before .before .before .before .before .before .before .before .args .total) (c .before .before .before .before .before .before .before .before .before .pre .4), c .before .before .before .before .before .before .before .before .before .pre .5), omega (arith, r, plan-total (c .before .before .before .before .before .before .before .before .before .args .arity .now) (c .before .before .before .before .before .before .before .before .before .args .tab .now) (c .before .before .before .before .before .before .before .before .before .args .shapes) (c .before .before .before .before .before .before .before .before .before .args .scratch .now) (c .before .before .before .before .before .before .before .before .before .args .m) (c .before .before .before .before .before .before .before .before .before .args .total) (c .before .before .before .before .before .before .before .before .before .pre .4), c .before .before .before .before .before .before .before .before .before .pre .6))
+
+-- src/blocks.rt:43:9
+add-i : tie.Need-add-i Inv-loop μ-loop
+add-i c = search needs
+
+-- src/blocks.rt:39:5
+loop-less : tie.Need-loop-less Inv-loop μ-loop
+loop-less c = search needs
+
+-- src/blocks.rt:39:5
+loop-again : tie.Need-loop-again Inv-loop μ-loop
+loop-again c = planned-on (c .before .before .before .before .before .before .before .before .before .before .before .before .args .arity .now) (c .before .before .before .before .before .before .before .before .before .before .before .before .args .tab .now) (c .before .before .before .before .before .before .before .before .before .before .before .before .args .shapes) (c .before .before .before .before .before .before .before .before .before .before .before .before .args .scratch .now) (c .before .before .before .before .before .before .before .before .before .before .before .before .args .m) (c .before .before .before .before .before .before .before .loop .inv) (c .before .before .before .before .before .before .loop-test .taken) (c .before .before .before .before .before .before .before .before .before .before .before .before .pre .1 (stateIn (c .before .before .before .before .before .before .before .before .before .before .before .before .args .scratch .now) (c .before .before .before .before .before .before .before .loop .i)) (state-in (c .before .before .before .before .before .before .before .before .before .before .before .before .args .scratch .now) (c .before .before .before .before .before .before .before .before .before .before .before .before .args .m) (c .before .before .before .before .before .before .before .loop .i) (c .before .before .before .before .before .before .loop-test .taken))) (c .before .before .before .before .label .result) (c .before .before .before .before .label .ensures) _ (c .before .before .write-row .result) (c .before .before .write-row .ensures .1) (c .before .before .write-row .ensures .0)
+
+-- src/blocks.rt:28:1
+same-length : tie.Need-same-length Inv-loop μ-loop
+same-length c = c .before .loop .inv .long ∙ head-length (c .before .before .before .before .before .before .args .plan .now) (c .before .before .before .before .before .before .args .m) (length (c .before .before .before .before .before .before .args .arity .now)) (c .before .before .before .before .before .before .args .shapes) (c .before .before .before .before .before .before .args .total)
+
+-- src/blocks.rt:28:1
+returns : tie.Need-returns Inv-loop μ-loop
+returns c = planned-end (c .before .before .before .before .before .before .args .arity .now) (c .before .before .before .before .before .before .args .tab .now) (c .before .before .before .before .before .before .args .shapes) (c .before .before .before .before .before .before .args .scratch .now) (c .before .before .before .before .before .before .args .m) (c .before .loop .inv) (c .loop-test .left) (c .before .before .before .before .before .before .args .plan .now) (c .before .before .before .before .before .before .args .total) (c .before .before .before .before .before .before .pre .4) refl
+
+cast-t25 : tie.Need-cast-t25 Inv-loop μ-loop
+cast-t25 c = omega (arith, c .before .before .loop-test .taken, c .before .before .before .before .before .before .before .before .pre .0 .few)
+
+pub write-plan-spec : {M : Type 1} → statement M
+write-plan-spec =
+    tie.close
+    (tie.spec
+    Inv-loop
+    μ-loop
+    cast-plan
+    slice-write-plan
+    cast-plan-2
+    slice-write-plan-2
+    cast-plan-3
+    slice-write-plan-3
+    cast-plan-4
+    slice-write-plan-4
+    add-at
+    mul-at
+    add-at-2
+    loop-holds
+    mul-label
+    add-label
+    mul-label-2
+    shared-slice-read-label
+    cast-label
+    label-requires
+    cast-c
+    add-plan
+    mul-plan
+    slice-write-plan-5
+    cast-t25
+    write-row-requires
+    add-i
+    loop-less
+    loop-again
+    same-length
+    returns)

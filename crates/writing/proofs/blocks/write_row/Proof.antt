@@ -1,0 +1,104 @@
+use Rattle.states.proofs.ExploreLaws.{state-in}
+use Rattle.decoding.specs.WordMachine.{stateIn}
+use Rattle.writing.proofs.WriteLaws.{Rowed, rowed-begin, rowed-room, rowed-on, rowed-end}
+use lib.ListN.{length, getD, set, length-set}
+use Prim.Native.Nat.{ℕ, _≤_, _<_, _+_, _-_, _*_, _/_, _%_}
+use mathlib.Core.Path.{_≡_, refl, ap, ap₂, sym, _∙_}
+use native.Mathlib.Omega.{arith}
+use borrow.Author.Needs.{needs}
+use Rattle.writing.proofs.blocks.write_row.Statement.{statement}
+use Rattle.writing.proofs.blocks.write_row.Tie as tie
+use Rattle.writing.proofs.blocks.write_row.Reads as reads
+use Rattle.writing.proofs.blocks.write_row.Lts as lts
+use Rattle.writing.proofs.blocks.write_block.Reads as write-block-reads
+
+abbrev Inv-loop : tie.InvT-loop
+Inv-loop tab arity shapes scratch m state root at plan₀ starts here₀ f₀ plan here f = Rowed tab shapes scratch m (state .0) arity starts at plan₀ plan here f
+
+abbrev μ-loop : tie.MeasureT-loop
+μ-loop tab arity shapes scratch m state root at plan₀ starts here₀ f₀ plan here f = length arity - f
+
+-- src/blocks.rt:53:18
+add-starts : tie.Need-add-starts Inv-loop μ-loop
+add-starts c = omega (arith, c .before .before .before .before .pre .0 .few)
+
+-- src/blocks.rt:53:26
+mul-starts : tie.Need-mul-starts Inv-loop μ-loop
+mul-starts c = omega (arith, c .before .before .before .before .before .pre .5, c .before .before .before .before .before .pre .7)
+
+-- src/blocks.rt:53:18
+add-starts-2 : tie.Need-add-starts-2 Inv-loop μ-loop
+add-starts-2 c = omega (arith, c .before .before .before .before .before .pre .5, c .before .before .before .before .before .pre .7)
+
+-- src/blocks.rt:56:5
+loop-holds : tie.Need-loop-holds Inv-loop μ-loop
+loop-holds c = rowed-begin (c .before .before .before .before .before .args .tab .now) (c .before .before .before .before .before .args .shapes) (c .before .before .before .before .before .args .scratch .now) (c .before .before .before .before .before .args .m) (c .before .before .before .before .before .args .state .0) (c .before .before .before .before .before .args .arity .now) (4 + c .before .before .before .before .before .args .m + c .before .before .before .before .before .args .state .0 * length (c .before .before .before .before .before .args .arity .now)) (c .before .before .before .before .before .args .at) (c .before .before .before .before .before .args .plan .now)
+
+-- src/blocks.rt:57:28
+cast-plan : tie.Need-cast-plan Inv-loop μ-loop
+cast-plan c = let r = rowed-room (c .before .before .before .before .before .before .before .args .tab .now) (c .before .before .before .before .before .before .before .args .shapes) (c .before .before .before .before .before .before .before .args .scratch .now) (c .before .before .before .before .before .before .before .args .m) (c .before .before .before .before .before .before .before .args .state .0) (c .before .before .before .before .before .before .before .args .arity .now) (4 + c .before .before .before .before .before .before .before .args .m + c .before .before .before .before .before .before .before .args .state .0 * length (c .before .before .before .before .before .before .before .args .arity .now)) (c .before .before .before .before .before .before .before .args .at) (c .before .before .before .before .before .before .before .args .plan .now) (c .before .loop .inv) (c .loop-test .taken) in omega (arith, r, c .before .before .before .before .before .before .before .pre .7)
+
+-- src/blocks.rt:57:14
+add-plan : tie.Need-add-plan Inv-loop μ-loop
+add-plan c = omega (arith, c .loop-test .taken, c .before .before .before .before .before .before .before .pre .5, c .before .before .before .before .before .before .before .pre .7)
+
+-- src/blocks.rt:57:9
+mul-plan : tie.Need-mul-plan Inv-loop μ-loop
+mul-plan c = omega (arith, c .loop-test .taken, c .before .before .before .before .before .before .before .pre .5, c .before .before .before .before .before .before .before .pre .7)
+
+-- src/blocks.rt:57:9
+slice-write-plan : tie.Need-slice-write-plan Inv-loop μ-loop
+slice-write-plan c = let r = rowed-room (c .before .before .before .before .before .before .before .args .tab .now) (c .before .before .before .before .before .before .before .args .shapes) (c .before .before .before .before .before .before .before .args .scratch .now) (c .before .before .before .before .before .before .before .args .m) (c .before .before .before .before .before .before .before .args .state .0) (c .before .before .before .before .before .before .before .args .arity .now) (4 + c .before .before .before .before .before .before .before .args .m + c .before .before .before .before .before .before .before .args .state .0 * length (c .before .before .before .before .before .before .before .args .arity .now)) (c .before .before .before .before .before .before .before .args .at) (c .before .before .before .before .before .before .before .args .plan .now) (c .before .loop .inv) (c .loop-test .taken) in omega (arith, r, c .before .loop .inv .past, c .before .loop .inv .long, c .loop-test .taken, c .before .before .before .before .before .before .before .pre .5, c .before .before .before .before .before .before .before .pre .6)
+
+-- src/blocks.rt:58:9
+write-block-requires : tie.Need-write-block-requires Inv-loop μ-loop
+write-block-requires c κs = (c .before .before .before .before .before .before .before .before .pre .0, c .before .before .before .before .before .before .before .before .pre .1, c .before .before .before .before .before .before .before .before .pre .2, c .before .before .before .before .before .before .before .before .pre .3, c .before .before .before .before .before .before .before .before .pre .4, c .before .loop-test .taken, (let r = rowed-room (c .before .before .before .before .before .before .before .before .args .tab .now) (c .before .before .before .before .before .before .before .before .args .shapes) (c .before .before .before .before .before .before .before .before .args .scratch .now) (c .before .before .before .before .before .before .before .before .args .m) (c .before .before .before .before .before .before .before .before .args .state .0) (c .before .before .before .before .before .before .before .before .args .arity .now) (4 + c .before .before .before .before .before .before .before .before .args .m + c .before .before .before .before .before .before .before .before .args .state .0 * length (c .before .before .before .before .before .before .before .before .args .arity .now)) (c .before .before .before .before .before .before .before .before .args .at) (c .before .before .before .before .before .before .before .before .args .plan .now) (c .before .before .loop .inv) (c .before .loop-test .taken) in omega (arith, r, c .before .before .before .before .before .before .before .before .pre .6, c .before .before .loop .inv .long, length-set (c .before .before .loop .plan) ((4 + c .before .before .before .before .before .before .before .before .args .m + c .before .before .before .before .before .before .before .before .args .state .0 * length (c .before .before .before .before .before .before .before .before .args .arity .now)) + c .before .before .loop .f) (c .before .before .loop .here))))
+
+-- src/blocks.rt:59:9
+add-f : tie.Need-add-f Inv-loop μ-loop
+add-f c = search needs
+
+-- src/blocks.rt:56:5
+loop-less : tie.Need-loop-less Inv-loop μ-loop
+loop-less c = search needs
+
+-- src/blocks.rt:56:5
+loop-again : tie.Need-loop-again Inv-loop μ-loop
+loop-again c = rowed-on (c .before .before .before .before .before .before .before .before .before .before .before .args .tab .now) (c .before .before .before .before .before .before .before .before .before .before .before .args .shapes) (c .before .before .before .before .before .before .before .before .before .before .before .args .scratch .now) (c .before .before .before .before .before .before .before .before .before .before .before .args .m) (c .before .before .before .before .before .before .before .before .before .before .before .args .state .0) (c .before .before .before .before .before .before .before .before .before .before .before .args .arity .now) (4 + c .before .before .before .before .before .before .before .before .before .before .before .args .m + c .before .before .before .before .before .before .before .before .before .before .before .args .state .0 * length (c .before .before .before .before .before .before .before .before .before .before .before .args .arity .now)) (c .before .before .before .before .before .before .before .before .before .before .before .args .at) (c .before .before .before .before .before .before .before .before .before .before .before .args .plan .now) (c .before .before .before .before .before .loop .inv) (c .before .before .before .before .loop-test .taken) (c .before .before .before .before .before .before .before .before .before .before .before .pre .5) _ (c .before .before .write-block .result) (c .before .before .write-block .ensures .1) (c .before .before .write-block .ensures .0)
+
+-- src/blocks.rt:48:1
+same-length : tie.Need-same-length Inv-loop μ-loop
+same-length c = c .before .loop .inv .long
+
+-- src/blocks.rt:48:1
+returns : tie.Need-returns Inv-loop μ-loop
+returns c = rowed-end (c .before .before .before .before .before .before .before .args .tab .now) (c .before .before .before .before .before .before .before .args .shapes) (c .before .before .before .before .before .before .before .args .scratch .now) (c .before .before .before .before .before .before .before .args .m) (c .before .before .before .before .before .before .before .args .state .0) (c .before .before .before .before .before .before .before .args .arity .now) (4 + c .before .before .before .before .before .before .before .args .m + c .before .before .before .before .before .before .before .args .state .0 * length (c .before .before .before .before .before .before .before .args .arity .now)) (c .before .before .before .before .before .before .before .args .at) (c .before .before .before .before .before .before .before .args .plan .now) (c .before .loop .inv) (c .loop-test .left)
+
+cast-starts : tie.Need-cast-starts Inv-loop μ-loop
+cast-starts c = search needs
+
+cast-t19 : tie.Need-cast-t19 Inv-loop μ-loop
+cast-t19 c = omega (arith, c .loop-test .taken, (c .before .before .before .before .before .before .before .pre .2 (stateIn (c .before .before .before .before .before .before .before .args .scratch .now) (c .before .before .before .before .before .before .before .args .state .0)) (state-in (c .before .before .before .before .before .before .before .args .scratch .now) (c .before .before .before .before .before .before .before .args .m) (c .before .before .before .before .before .before .before .args .state .0) (c .before .before .before .before .before .before .before .pre .1))) .ready .few-symbols)
+
+pub write-row-spec : {M : Type 1} → statement M
+write-row-spec =
+    tie.close
+    (tie.spec
+    Inv-loop
+    μ-loop
+    add-starts
+    cast-starts
+    mul-starts
+    add-starts-2
+    loop-holds
+    cast-plan
+    add-plan
+    mul-plan
+    slice-write-plan
+    cast-t19
+    write-block-requires
+    add-f
+    loop-less
+    loop-again
+    same-length
+    returns)

@@ -1,0 +1,1 @@
+pub mod blocks; // the plan's words from the states met
