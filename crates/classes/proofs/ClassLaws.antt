@@ -1,17 +1,17 @@
 -- A row along the columns.
-use Prim.Native.Nat.{ℕ, zero, suc, _+_, _-_, _*_, _<_, _≤_}
-use mathlib.Core.Path.{_≡_, refl, ap, ap₂, sym, _∙_}
+use Prim.Native.Nat.{ℕ, zero, suc, _+_, _-_, _<_, _≤_}
+use mathlib.Core.Path.{_≡_, refl, ap, ap₂, _∙_}
 use mathlib.Core.List.{List, [], _∷_}
-use mathlib.Core.Bool.{Bool, true, false, not, _&&_}
+use mathlib.Core.Bool.{Bool, true, false}
 use native.Mathlib.Omega.{arith}
 use native.Mathlib.Nat.{sub-zero}
 use native.Mathlib.Numerals.{add-one}
 use lib.ListN.{length, getD, drop}
 use lib.Seq.{drop-cons}
 use Rattle.automaton.specs.Classes.{leads}
-use Rattle.goals.specs.GoalWords.{goalAt, goalsFrom, flat}
+use Rattle.goals.specs.GoalWords.{goalsFrom, flat}
 use Rattle.goals.specs.WordStages.{pickedW}
-use Rattle.goals.proofs.GoalLaws.{goals-next, goals-end, sub-one}
+use Rattle.goals.proofs.GoalLaws.{goals-next, goals-end}
 use Rattle.deriving.proofs.OrderLaws.{picked-none}
 
 -- the row from j on, with its own place i - j further

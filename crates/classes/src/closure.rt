@@ -1,9 +1,7 @@
 ghost use mathlib.Core.Path.{_≡_};
-ghost use mathlib.Core.Bool.{Bool, true, false};
-ghost use mathlib.Core.List.{List, []};
-ghost use Prim.Native.Nat.{ℕ, _+_, _-_, _<_, _≤_};
-ghost use lib.ListN.{length, getD, set};
-ghost use Rattle.classes.specs.Squares.{cell, Square, Reach, Grown, Chain};
+ghost use mathlib.Core.Bool.{true};
+ghost use Prim.Native.Nat.{ℕ, _+_, _<_, _≤_};
+ghost use Rattle.classes.specs.Squares.{cell, Square, Reach, Grown};
 
 // Row i with row k's dependencies added where i depends on k.
 fn join_row(dep: &mut [[bool; 96]; 96], n: usize, k: usize, i: usize)

@@ -1,15 +1,15 @@
 use goals::words::goal_at;
 use goals::words::put_goal;
 ghost use mathlib.Core.Path.{_≡_};
-ghost use mathlib.Core.Bool.{Bool, true, false};
-ghost use mathlib.Core.List.{List, []};
+ghost use mathlib.Core.Bool.{false};
+ghost use mathlib.Core.List.{[]};
 ghost use Prim.Native.Nat.{ℕ, _+_, _*_, _<_, _≤_};
 ghost use lib.ListN.{length, getD};
 ghost use lib.Seq.{sets};
 ghost use Rattle.automaton.specs.Classes.{leads};
 ghost use Rattle.goals.specs.GoalWords.{goalsFrom, flat};
 ghost use Rattle.goals.specs.WordStages.{pickedW};
-ghost use Rattle.classes.specs.Squares.{cell, Square};
+ghost use Rattle.classes.specs.Squares.{Square};
 
 // Is the first yes of row i at its own place?
 pub fn leader(dep: &[[bool; 96]; 96], i: usize) -> bool

@@ -4,14 +4,14 @@ use goals::Shared;
 use goals::obligations::share;
 use goals::words::goal_at;
 ghost use mathlib.Core.Path.{_≡_};
-ghost use mathlib.Core.Bool.{Bool, true, false};
+ghost use mathlib.Core.Bool.{true, false};
 ghost use Prim.Native.Nat.{ℕ, _+_, _*_, _<_, _≤_};
 ghost use lib.ListN.{length};
 ghost use Rattle.goals.specs.GoalWords.{Tabled, goalAt};
 ghost use Rattle.goals.specs.GoalKinds.{wordsOf};
 ghost use Rattle.goals.specs.WordStages.{depW};
 ghost use Rattle.classes.specs.Links.{Linked};
-ghost use Rattle.classes.specs.Squares.{cell, Square, Reach};
+ghost use Rattle.classes.specs.Squares.{cell, Square};
 
 // Do two goals share an obligation position?
 fn depends(tab: &[u16], g: Goal, h: Goal) -> bool

@@ -1,8 +1,8 @@
 ghost use mathlib.Core.Path.{_≡_};
-ghost use Prim.Native.Nat.{ℕ, _+_, _*_, _-_, _<_, _≤_};
+ghost use Prim.Native.Nat.{ℕ, _+_, _-_, _<_, _≤_};
 ghost use lib.ListN.{length};
 ghost use Rattle.counting.specs.Counting.{total, matchesOf};
-ghost use mathlib.Core.Bool.{Bool, cond};
+ghost use mathlib.Core.Bool.{cond};
 ghost use Rattle.counting.specs.Clashes.{clashesOf, clashNumber, clash};
 ghost use Rattle.counting.specs.Passing.{markedIn, hits, further};
 use crate::Counted;

@@ -1,25 +1,21 @@
 -- The closed square of the words is the closed square of the construction.
-use Prim.Native.Nat.{ℕ, zero, suc, _+_, _*_, _<_, _≤_}
+use Prim.Native.Nat.{ℕ, zero, suc, _+_, _*_, _<_}
 use mathlib.Core.Path.{_≡_, refl, ap, ap₂, sym, _∙_}
 use mathlib.Core.List.{List, [], _∷_, map}
-use mathlib.Core.Bool.{Bool, true, false}
+use mathlib.Core.Bool.{Bool, false}
 use native.Mathlib.Omega.{arith}
-use native.Mathlib.Nat.{add-zero, add-assoc}
 use lib.ListN.{length, getD, length-map}
-use Rattle.kinds.specs.Lists.{range}
 use Rattle.term.specs.Terms.{Term}
 use Rattle.kinds.specs.Positions.{Pos}
 use Rattle.automaton.specs.Bare.{bare}
-use Rattle.automaton.specs.Goals.{Goal, State}
-use Rattle.automaton.specs.Classes.{entry, dep, square, close, closed}
+use Rattle.automaton.specs.Goals.{State}
+use Rattle.automaton.specs.Classes.{entry, dep, square}
 use Rattle.goals.specs.GoalWords.{GoalWords, goalW, goalAt, goalsFrom}
 use Rattle.goals.specs.WordStages.{depW}
 use Rattle.decoding.specs.Decoding.{goalOf, stateOf, shapeAt, TableOf}
 use Rattle.decoding.proofs.GoalDecoded.{Fine}
 use Rattle.decoding.proofs.DepDecoded.{dep-is}
-use Rattle.automaton.proofs.Closure.{Chain, link, step, chain-join, close-chain}
-use Rattle.kinds.proofs.Bools.{bool-ext}
-use Rattle.classes.specs.Squares.{cell}
+use Rattle.automaton.proofs.Closure.{Chain, link, step, chain-join}
 use Rattle.classes.specs.Links.{Linked, near, over}
 
 pub map-at {ℓ κ} : {A : Type ℓ} {B : Type κ} (f : A → B) (xs : List A) (i : ℕ) (d : B) (e : A) → i < length xs → getD (map f xs) i d ≡ f (getD xs i e)

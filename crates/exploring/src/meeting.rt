@@ -89,9 +89,7 @@ fn explore_state(
                 states = all;
                 words += more;
             }
-            Met::Stopped(reason) => {
-                return Met::Stopped(reason);
-            }
+            Met::Stopped(reason) => return Met::Stopped(reason),
         }
         f += 1;
     }
@@ -159,9 +157,7 @@ fn meet_all(
                 states = all;
                 words += more;
             }
-            Met::Stopped(reason) => {
-                return Met::Stopped(reason);
-            }
+            Met::Stopped(reason) => return Met::Stopped(reason),
         }
         j += 1;
     }

@@ -1,5 +1,4 @@
 ghost use mathlib.Core.Path.{_≡_};
-ghost use mathlib.Core.Bool.{Bool};
 ghost use Prim.Native.Nat.{ℕ};
 ghost use Rattle.lent.specs.Again.{shapesGood, scoreGood};
 use contents::BLANK;

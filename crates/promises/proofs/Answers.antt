@@ -25,7 +25,6 @@ use Rattle.automaton.specs.Exploring.{Construction, Block, Made, refused, made,
 use Rattle.automaton.specs.PlanWords.{Plan, halted, too-long, plan-of, planWords, toPlan, planned}
 use Rattle.plan.specs.Building.{Out, size, planOf, written, buildOf}
 use Rattle.plan.specs.declared.Size.{Size}
-use Rattle.plan.specs.declared.Built.{Built}
 use Rattle.plan.specs.declared.Built.the-variants as building
 use Rattle.plan.proofs.BuildLaws.{built-bad, built-short, built-on}
 use Rattle.walk.specs.Starting.{Walk, begun, roomFor, started}

@@ -13,14 +13,16 @@ use Rattle.sections.proofs.LawsSections.{sections-in}
 use Rattle.counting.specs.Counting.{total}
 use Rattle.counting.specs.Clashes.{clash, clashNumber}
 use Rattle.promises.specs.Demand1 as rows
-use Rattle.promises.specs.Demand1.{By, Below, Means, OpenRow, Demand1}
+use Rattle.promises.specs.Refusals.{Below}
+use Rattle.promises.specs.Demand1.{By, Means, OpenRow, Demand1}
 use Rattle.promises.proofs.TrailerRows.{trailer-framed, framed-trailer}
 use Rattle.promises.proofs.OpenExactly.{refused-given, given-refused}
 use Rattle.promises.proofs.SubtreeRows.{by-subtree}
 use Rattle.promises.proofs.ReaderRows.{by-label, by-lengths, by-announcement, by-successor}
 use Rattle.promises.proofs.LineRows.{by-first-line, by-match-line, by-refusal-line}
 use Rattle.promises.proofs.BuildRows.{by-build}
-use Rattle.promises.proofs.WalkRows.{by-start, by-count, by-step}
+use Rattle.promises.proofs.WalkRows.{by-start, by-count}
+use Rattle.promises.proofs.StepRows.{by-step}
 
 -- ---- opening
 module _ (file : List ℕ) (l : Lent) (small : Below 256 file) where

@@ -2,15 +2,13 @@
 use mathlib.Core.Path.{_≡_, ap, sym, _∙_, subst}
 use mathlib.Core.List.{List}
 use mathlib.Core.Logic.{_↔_}
-use mathlib.Core.Option.{some}
 use Prim.Native.Nat.{ℕ}
-use lib.ListN.{getD, getElem?}
+use lib.ListN.{getD}
 use Rattle.kinds.specs.Bits.{bit}
-use Rattle.term.specs.Terms.{Term}
 use Rattle.term.specs.Places.{Matches}
 use Rattle.walk.specs.Starting.{Walk}
 use Rattle.walking.proofs.AnyWalk.{marks-right, marks-shapes}
-use Rattle.promises.specs.OneFile.{OneFile, shapesIn, scoreIn}
+use Rattle.promises.specs.OneFile.{OneFile, scoreIn}
 use Rattle.promises.specs.Demand2.{Demand2}
 use Rattle.promises.proofs.Setting.{is-folio, shape-words, score-words, score-spans, plan-is, told}
 

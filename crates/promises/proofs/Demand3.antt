@@ -1,8 +1,7 @@
 -- Demand 3 holds of every file that opens and whose build is accepted.
 --   bits-alike     the marks of two finished walks, node by node
 use mathlib.Core.Path.{_≡_, ap, ap₂, sym, _∙_, subst}
-use mathlib.Core.List.{List, [], _++_}
-use mathlib.Core.Option.{some}
+use mathlib.Core.List.{List, _++_}
 use mathlib.Core.Logic.{_↔_}
 use Prim.Native.Nat.{ℕ, suc, _+_, _<_, _≤_}
 use native.Mathlib.Omega.{arith}
@@ -11,9 +10,9 @@ use lib.Seq.{ext-getD, length-take-le, getD-take}
 use Rattle.kinds.specs.Bits.{bit}
 use Rattle.kinds.specs.declared.Reason.the-variants.{NoSuchItem, OutOfRange}
 use Rattle.kinds.proofs.BitLaws.{bits-same}
-use Rattle.kinds.proofs.Members.{_∈_, here, there, Distinct}
-use Rattle.kinds.proofs.Places.{on-in, at-below, at-getD, getD-at, getD-in, distinct-at}
-use Rattle.term.specs.Terms.{Term, span, sizes}
+use Rattle.kinds.proofs.Members.{_∈_, Distinct}
+use Rattle.kinds.proofs.Places.{on-in, at-below, getD-at, getD-in, distinct-at}
+use Rattle.term.specs.Terms.{span}
 use Rattle.term.specs.Places.{Matches, number}
 use Rattle.term.proofs.Numbers.{node-at}
 use Rattle.term.proofs.Sizes.{length-sizes}
@@ -24,8 +23,7 @@ use Rattle.walk.specs.Starting.{Walk, Out, refuse}
 use Rattle.walk.specs.declared.Walked.the-variants.{On, Refused}
 use Rattle.walking.specs.OneFolio.{walkIn}
 use Rattle.walking.proofs.AnyWalk as any-walk
-use Rattle.promises.specs.OneFile.{OneFile, shapesIn, scoreIn, spansIn, after, stepAfter, acceptedIn, reported}
-use Rattle.promises.specs.Demand2.{Demand2}
+use Rattle.promises.specs.OneFile.{OneFile, scoreIn, spansIn, after, stepAfter, acceptedIn, reported}
 use Rattle.promises.specs.Demand3.{Demand3}
 use Rattle.promises.proofs.Setting.{score-spans, told, same-shapes, same-score, same-spans, same-states}
 use Rattle.promises.proofs.Demand2.{demand-2}

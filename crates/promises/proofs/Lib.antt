@@ -8,6 +8,8 @@ pub mod BuildRows
 pub mod WalkRows
 pub mod FoundRows
 pub mod ReaderRows
+pub mod LeadRows
+pub mod StepRows
 pub mod LineRows
 pub mod SubtreeRows
 pub mod Setting

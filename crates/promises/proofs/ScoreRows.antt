@@ -1,8 +1,8 @@
 -- Rows 13 to 17: the score's tests give them, and give nothing else.
-use mathlib.Core.Path.{_≡_, refl, ap, sym, _∙_}
+use mathlib.Core.Path.{_≡_, refl, ap, _∙_}
 use mathlib.Core.Bool.{Bool, true, false, cond}
-use mathlib.Core.List.{List, _++_}
-use Prim.Native.Nat.{ℕ, _+_, _<_, _≤_}
+use mathlib.Core.List.{List}
+use Prim.Native.Nat.{ℕ, _<_}
 use native.Mathlib.Omega.{arith}
 use native.Mathlib.Nat.{zero-add}
 use borrow.Author.Tests.{ltb-true, lt-ltb}
@@ -10,7 +10,7 @@ use lib.Dec.{ltb}
 use lib.ListN.{length, drop}
 use Rattle.kinds.specs.declared.Reason.{Reason}
 use Rattle.kinds.specs.declared.Reason.the-variants as reason
-use Rattle.term.specs.Terms.{Term, span, depth, flatten, Fits}
+use Rattle.term.specs.Terms.{span}
 use Rattle.term.specs.Reading.{met, reading}
 use Rattle.term.specs.declared.Fault.{Fault}
 use Rattle.term.specs.declared.Fault.the-variants.{Ends, NoSymbol, Many, Deep}
@@ -18,11 +18,10 @@ use Rattle.term.specs.declared.Met.{Met}
 use Rattle.term.specs.declared.Reading.{Reading}
 use Rattle.term.specs.declared.Reading.the-variants as read
 use Rattle.term.proofs.LawsReading.{whole-in}
-use Rattle.term.proofs.WholeTerm.{TermAt, whole-term}
+use Rattle.term.proofs.WholeTerm.{whole-term}
 use Rattle.term.proofs.TermWhole.{read-back}
 use Rattle.term.proofs.FirstFault.{fault-of, of-fault}
-use Rattle.contents.specs.Tables.{noBlank, scoreLevels, scoreLimits, scoreReason, alone, scoreOf}
-use Rattle.contents.specs.declared.Score.{Score}
+use Rattle.contents.specs.Tables.{scoreLevels, scoreLimits, scoreReason, alone, scoreOf}
 use Rattle.contents.specs.declared.Score.the-variants as score
 use Rattle.promises.specs.Refusals.{ScoreFault, ScoreRow, row-13, row-14, row-15, row-16, row-17}
 

@@ -5,7 +5,7 @@
 --   same-…            two settings of one file have the same symbols, shapes, score, spans and number of states
 use mathlib.Core.Path.{_≡_, ap, ap₂, sym, _∙_, subst}
 use mathlib.Core.Bool.{true}
-use mathlib.Core.List.{List, []}
+use mathlib.Core.List.{List}
 use Prim.Native.Nat.{ℕ, _-_}
 use lib.ListN.{length, take, drop}
 use Rattle.kinds.specs.Lists.{gather}
@@ -14,12 +14,11 @@ use Rattle.kinds.proofs.Places.{on-in}
 use Rattle.term.specs.Terms.{Term, span, flatten, sizes}
 use Rattle.term.proofs.Sizes.{length-flatten, length-sizes}
 use Rattle.sections.specs.Bytes as file-words
-use Rattle.sections.specs.Sections.{sectionsOf}
 use Rattle.folio.specs.declared.Counts.{Counts}
 use Rattle.sections.specs.declared.Sections.the-variants as sections
 use Rattle.folio.specs.declared.Opened.the-variants as opening
 use Rattle.sections.specs.declared.Places.{Places}
-use Rattle.folio.specs.Opening.{opened, counts}
+use Rattle.folio.specs.Opening.{counts}
 use Rattle.folio.specs.Opening.{Out as Opening}
 use Rattle.folio.specs.Folio.{Folio, startsAt, answered, shapeTerms, scoreTerm}
 use Rattle.folio.proofs.ScoreWhole.{Below}
@@ -29,11 +28,11 @@ use Rattle.automaton.specs.Paper.{paper}
 use Rattle.automaton.specs.Exploring.{construction}
 use Rattle.automaton.specs.PlanWords.{plan-of}
 use Rattle.plan.specs.Building.{planOf}
-use Rattle.walk.specs.Starting.{Walk, Out, begun, roomFor}
+use Rattle.walk.specs.Starting.{Walk, begun, roomFor}
 use Rattle.walk.specs.Stepping.{stepped, run}
 use Rattle.walk.specs.Stepping.{accepted as acceptedOf}
 use Rattle.walking.specs.OneFolio.{OneFolio, Lent, stepIn, walkIn}
-use Rattle.walking.specs.OneFolio.{planIn as planOn, acceptedIn as acceptedOn}
+use Rattle.walking.specs.OneFolio.{acceptedIn as acceptedOn}
 use Rattle.walking.proofs.FolioWalk.{scoredOf, on-plan}
 use Rattle.promises.specs.OneFile.{OneFile, symbolsIn, wordsIn, startsIn, nodesIn, spansIn, shapesIn, scoreIn, planIn, begunIn, after, stepAfter, acceptedIn}
 use Rattle.promises.proofs.Answers.{BuiltAs, built-as, started-as, same-planned}

@@ -22,7 +22,8 @@ use Rattle.folio.proofs.ScoreWhole.{whole-of}
 use Rattle.folio.proofs.Subtrees.{Piece, piece-term, piece-or-none, subtree-shape, subtree-score}
 use Rattle.folio.proofs.Symbols.{symbols-is}
 use Rattle.promises.specs.Found.{FoundRow, InShape, Standing, in-shapes, in-score}
-use Rattle.promises.specs.Demand1.{By, Below}
+use Rattle.promises.specs.Refusals.{Below}
+use Rattle.promises.specs.Demand1.{By}
 use Rattle.promises.proofs.FoundRows.{by-found}
 
 module _ (ar shapes score : List ℕ) (small : Below 65536 score) where

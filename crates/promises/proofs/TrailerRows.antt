@@ -3,7 +3,6 @@
 --   trailer-framed framed-trailer  and where none of them is given
 --   symbol-row row-symbol          5, 6
 use mathlib.Core.Path.{_≡_, refl, ap, sym, _∙_}
-use mathlib.Core.Logic.{_↔_}
 use mathlib.Core.Bool.{Bool, true, false}
 use mathlib.Core.List.{List, [], _∷_}
 use Prim.Native.Nat.{ℕ, zero, suc, _+_, _-_, _%_, _<_, _≤_}
@@ -15,25 +14,21 @@ use lib.ListN.{length, getD}
 use Rattle.kinds.specs.Lists.{unless}
 use Rattle.kinds.specs.declared.Reason.{Reason}
 use Rattle.kinds.specs.declared.Reason.the-variants.{Short, Long, EndBytes, Trailer, Symbols, Children}
-use Rattle.sections.specs.Bytes.{wordAt}
 use Rattle.sections.specs.Sections.{places, distancesOf, trailerOf, overAt, symbolsOf}
 use Rattle.sections.specs.declared.Places.{Places}
 use Rattle.sections.specs.declared.Sections.{Sections}
 use Rattle.sections.specs.declared.Sections.the-variants.{At, Refused}
 use Rattle.sections.specs.declared.Verdict.{Verdict}
-use Rattle.sections.specs.declared.Verdict.the-variants.{Good, Bad}
-use Rattle.sections.proofs.LawsSections.{trailer-short, trailer-long, trailer-first, trailer-second, trailer-to, distances-at, symbols-none, symbols-many, symbols-each}
-use Rattle.promises.specs.Refusals.{Sized, Signed, Distanced, trailerAt, toSymbols, toShapes, toScore, TrailerRow, row-1, row-2, row-3, row-4, Framed, SymbolRow, row-5, row-6}
+use Rattle.sections.specs.declared.Verdict.the-variants.{Bad}
+use Rattle.sections.proofs.LawsSections.{never, trailer-short, trailer-long, trailer-first, trailer-second, trailer-to, distances-at, symbols-none, symbols-many, symbols-each}
+use Rattle.promises.specs.Refusals.{Sized, Signed, trailerAt, toSymbols, toShapes, toScore, TrailerRow, row-1, row-2, row-3, row-4, Framed, SymbolRow, row-5, row-6}
 
 on-test {κ} : {C : Type κ} (t : Bool) (x y z : Sections) → unless t x y ≡ z → (t ≡ false → x ≡ z → C) → (t ≡ true → y ≡ z → C) → C
 on-test true x y z e no-case yes-case = yes-case refl e
 on-test false x y z e no-case yes-case = no-case refl e
 
-not-at {κ} : {C : Type κ} {r : Reason} {p : ℕ} {q : Places} → Refused r p ≡ At q → C
-not-at e = let z : _≡_ {A = ℕ} 0 1 = cc in absurd (omega arith)
-
 not-refused {κ} : {C : Type κ} {r : Reason} {p : ℕ} {q : Places} → At q ≡ Refused r p → C
-not-refused e = not-at (sym e)
+not-refused e = never (sym e)
 
 -- ---- 4
 
@@ -54,11 +49,11 @@ module _ (e a b c : ℕ) where
   distances-placed : (q : Places) → distancesOf e a b c ≡ At q → ((a ≡ e) × (b ≤ a) × (c ≤ b) × (b % 2 ≡ 0) × (c % 2 ≡ 0)) × (q ≡ places (e - b) (e - c) e)
   unfolding distancesOf
   distances-placed q h =
-      on-test (eqb a e) _ _ _ h (λ t x. not-at x) λ t₁ h₁.
-      on-test (leb b a) _ _ _ h₁ (λ t x. not-at x) λ t₂ h₂.
-      on-test (leb c b) _ _ _ h₂ (λ t x. not-at x) λ t₃ h₃.
-      on-test (eqb (b % 2) 0) _ _ _ h₃ (λ t x. not-at x) λ t₄ h₄.
-      on-test (eqb (c % 2) 0) _ _ _ h₄ (λ t x. not-at x) λ t₅ h₅.
+      on-test (eqb a e) _ _ _ h (λ t x. never x) λ t₁ h₁.
+      on-test (leb b a) _ _ _ h₁ (λ t x. never x) λ t₂ h₂.
+      on-test (leb c b) _ _ _ h₂ (λ t x. never x) λ t₃ h₃.
+      on-test (eqb (b % 2) 0) _ _ _ h₃ (λ t x. never x) λ t₄ h₄.
+      on-test (eqb (c % 2) 0) _ _ _ h₄ (λ t x. never x) λ t₅ h₅.
       let z : q ≡ places (e - b) (e - c) e = cc in
       ((eqb-true a e t₁, leb-true b a t₂, leb-true c b t₃, eqb-true (b % 2) 0 t₄, eqb-true (c % 2) 0 t₅), z)
 
@@ -87,10 +82,10 @@ module _ (file : List ℕ) where
   pub trailer-framed : (q : Places) → trailerOf file ≡ At q → Framed file q
   unfolding trailerOf
   trailer-framed q h =
-      on-test (leb 8 (length file)) _ _ _ h (λ t x. not-at x) λ t₁ h₁.
-      on-test (leb (length file) 8744) _ _ _ h₁ (λ t x. not-at x) λ t₂ h₂.
-      on-test (eqb (getD file (length file - 2) 0) 83) _ _ _ h₂ (λ t x. not-at x) λ t₃ h₃.
-      on-test (eqb (getD file (length file - 1) 0) 67) _ _ _ h₃ (λ t x. not-at x) λ t₄ h₄.
+      on-test (leb 8 (length file)) _ _ _ h (λ t x. never x) λ t₁ h₁.
+      on-test (leb (length file) 8744) _ _ _ h₁ (λ t x. never x) λ t₂ h₂.
+      on-test (eqb (getD file (length file - 2) 0) 83) _ _ _ h₂ (λ t x. never x) λ t₃ h₃.
+      on-test (eqb (getD file (length file - 1) 0) 67) _ _ _ h₃ (λ t x. never x) λ t₄ h₄.
       let d = distances-placed (trailerAt file) (toSymbols file) (toShapes file) (toScore file) q h₄ in
       record {
         sized = (leb-true 8 (length file) t₁, leb-true (length file) 8744 t₂);

@@ -1,13 +1,12 @@
--- Rows 30 to 34: the outcomes of starting, counting and stepping are those that they give.
+-- Rows 30 and 31: the outcomes of starting and counting are those that they give.
 use mathlib.Core.Path.{_≡_, refl, sym, _∙_}
 use mathlib.Core.Bool.{true, false, _&&_}
 use mathlib.Core.Logic.{_⊎_, inl, inr}
 use mathlib.Core.List.{List}
-use mathlib.Core.Option.{Option, none, some}
 use Prim.Native.Nat.{ℕ, _*_, _<_, _≤_}
 use native.Mathlib.Omega.{arith}
 use native.Mathlib.Decide.{decLt}
-use borrow.Author.Tests.{lt-ltb, le-ltb, le-leb, lt-leb, leb-true}
+use borrow.Author.Tests.{le-leb, lt-leb, leb-true}
 use lib.Dec.{leb}
 use lib.ListN.{length, take}
 use Rattle.kinds.specs.declared.Reason.the-variants.{BadScore, ShortBuffers}
@@ -18,14 +17,13 @@ use Rattle.lent.specs.Again.{scoreGood}
 use Rattle.folio.proofs.GoodTables.{score-good-scored, scored-good}
 use Rattle.walk.specs.Starting.{Walk, goOn, begun, roomFor, started}
 use Rattle.walk.specs.Starting.{Out as Walking, refuse as refuseWalk}
-use Rattle.walk.specs.Stepping.{tried, stepped}
 use Rattle.counting.specs.Counting.{counted}
 use Rattle.counting.specs.declared.Counted.{Counted}
 use Rattle.counting.specs.declared.Counted.the-variants as count
 use Rattle.promises.specs.Demand1 as rows
-use Rattle.promises.specs.Demand1.{By, Below, Good, Roomy, StartRow, CountRow, StepRow}
+use Rattle.promises.specs.Refusals.{Below}
+use Rattle.promises.specs.Demand1.{By, Good, Roomy, StartRow, CountRow}
 
--- ---- starting and counting
 module _ (ar score spans : List ℕ) (small : Below 65536 score) where
   words : (w : ℕ) → w ∈ score → w < 65536
   words w m = on-in m (λ i e. small i w e)
@@ -117,23 +115,3 @@ module _ (ar score spans : List ℕ) (small : Below 65536 score) where
 
     pub by-count : By (CountRow ar score spans f marks) (counted f ar score spans marks)
     by-count = (count-row, count-only)
-
--- ---- stepping
-module _ (plan score spans : List ℕ) (i : ℕ) (w : Walk) where
-  step-row : StepRow plan score spans i w (stepped plan score spans i w)
-  unfolding stepped
-  step-row = go (decLt i (w .count .waiting)) (tried plan score spans i w) refl
-    where
-      go : Dec (i < w .count .waiting) → (o : Option Walk) → tried plan score spans i w ≡ o → StepRow plan score spans i w (stepped plan score spans i w)
-      go (no h) o e = let k : w .count .waiting ≤ i = omega arith in rw (le-ltb i (w .count .waiting) k) (rows.step-32 k)
-      go (yes h) none e = rw (lt-ltb i (w .count .waiting) h, e) (rows.step-34 h e)
-      go (yes h) (some v) e = rw (lt-ltb i (w .count .waiting) h, e) (rows.takes h v e)
-
-  step-only : (o : Walking) → StepRow plan score spans i w o → stepped plan score spans i w ≡ o
-  unfolding stepped
-  step-only _ (rows.step-32 h) = rw (le-ltb i (w .count .waiting) h) refl
-  step-only _ (rows.step-34 h e) = rw (lt-ltb i (w .count .waiting) h, e) refl
-  step-only _ (rows.takes h v e) = rw (lt-ltb i (w .count .waiting) h, e) refl
-
-  pub by-step : By (StepRow plan score spans i w) (stepped plan score spans i w)
-  by-step = (step-row, step-only)

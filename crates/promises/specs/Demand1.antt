@@ -3,16 +3,15 @@
 --   OpenRow     1 to 18, by `Refusals`; or a folio
 --   BuildRow    19, 23; 20 or 21; 22; or a plan
 --   StartRow    31, 30; or a walk that is begun
---   StepRow     32, 34; or a step
+--   StepRow     32, 34; or a step, by `StepFound`
 --   CountRow    31, 30; or a number, for matches and for clashes
 --   LineRow     30 for a buffer under 1,400 bytes (docs/DECISIONS.md); or the line at its start, the bytes behind it as they were
 --   FoundRow    34; or what is found: in `Found`, for subtree and the plan readers
 --   By          an outcome has a row, and every row that applies gives this outcome
 use mathlib.Core.Path.{_≡_}
 use mathlib.Core.List.{List, [], _++_}
-use mathlib.Core.Option.{none, some}
 use Prim.Native.Nat.{ℕ, _*_, _<_, _≤_}
-use lib.ListN.{length, getD, getElem?, take, drop}
+use lib.ListN.{length, getD, take, drop}
 use lib.Seq.{sets}
 use Rattle.kinds.specs.Lists.{gather}
 use Rattle.kinds.specs.Kinds.{position}
@@ -31,7 +30,7 @@ use Rattle.plan.specs.Building.{Out as Building, refuse as refuseBuild}
 use Rattle.plan.specs.declared.Built.the-variants as built
 use Rattle.walk.specs.Starting.{Walk, goOn, begun, started}
 use Rattle.walk.specs.Starting.{Out as Walking, refuse as refuseWalk}
-use Rattle.walk.specs.Stepping.{tried, stepped}
+use Rattle.walk.specs.Stepping.{stepped}
 use Rattle.counting.specs.Counting.{counted, total, matchAt}
 use Rattle.counting.specs.Clashes.{clashNumber, clash}
 use Rattle.counting.specs.declared.Counted.{Counted}
@@ -47,14 +46,11 @@ use Rattle.report.specs.Lines.{lineRoom, outOf, lineOut, firstOut, refusalOut}
 use Rattle.report.specs.Lines.{Out as Line}
 use Rattle.report.specs.declared.Written.the-variants as written
 use Rattle.promises.specs.Found.{FoundRow, Standing, LabelFound, BlockFound, AnnouncementFound, SuccessorFound}
-use Rattle.promises.specs.Refusals.{Given, Framed, symbolsAt, shapesAt, scoreAt}
+use Rattle.promises.specs.StepFound.{StepFound}
+use Rattle.promises.specs.Refusals.{Below, Given, Framed, symbolsAt, shapesAt, scoreAt}
 
 abbrev pub By : {A : Type 0} → (A → Type 0) → A → Type 0
 By {A} Row outcome = Row outcome × ((o : A) → Row o → outcome ≡ o)
-
--- numbers as a slice of bytes, or of words, holds them
-abbrev pub Below : ℕ → List ℕ → Type 0
-Below n l = (i w : ℕ) → getElem? l i ≡ some w → w < n
 
 -- ---- opening
 -- the folio that a file means
@@ -110,8 +106,8 @@ module _ (ar score spans : List ℕ) where
 -- ---- stepping
 pub data StepRow (plan score spans : List ℕ) (i : ℕ) (w : Walk) : Walking → Type 0 where
   step-32 : w .count .waiting ≤ i → StepRow plan score spans i w (refuseWalk NoSuchItem w)
-  step-34 : i < w .count .waiting → tried plan score spans i w ≡ none → StepRow plan score spans i w (refuseWalk OutOfRange w)
-  takes : i < w .count .waiting → (v : Walk) → tried plan score spans i w ≡ some v → StepRow plan score spans i w (goOn v)
+  step-34 : i < w .count .waiting → ((v : Walk) → StepFound plan score spans i w v → ⊥) → StepRow plan score spans i w (refuseWalk OutOfRange w)
+  takes : i < w .count .waiting → (v : Walk) → StepFound plan score spans i w v → StepRow plan score spans i w (goOn v)
 
 -- ---- a line of the report
 pub data LineRow (text buffer : List ℕ) : Line → Type 0 where

@@ -14,7 +14,7 @@ use Prim.Native.Nat.{ℕ, suc, _+_, _<_, _≤_}
 use lib.ListN.{getD, take}
 use Rattle.kinds.specs.declared.Reason.the-variants.{NoSuchItem, OutOfRange}
 use Rattle.term.specs.Terms.{span}
-use Rattle.walk.specs.Starting.{Walk, refuse}
+use Rattle.walk.specs.Starting.{refuse}
 use Rattle.walk.specs.declared.Walked.the-variants.{On, Refused}
 use Rattle.promises.specs.OneFile.{OneFile, scoreIn, after, stepAfter, acceptedIn, reported}
 

@@ -3,6 +3,7 @@ pub mod Computing
 pub mod Sample
 pub mod Refusals
 pub mod Found
+pub mod StepFound
 pub mod Demand1
 pub mod OneFile
 pub mod Demand2

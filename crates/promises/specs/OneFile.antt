@@ -9,9 +9,8 @@
 --   reported        the text that find prints
 use mathlib.Core.Path.{_≡_}
 use mathlib.Core.List.{List}
-use mathlib.Core.Option.{some}
-use Prim.Native.Nat.{ℕ, _<_}
-use lib.ListN.{getElem?, take}
+use Prim.Native.Nat.{ℕ}
+use lib.ListN.{take}
 use Rattle.term.specs.Terms.{Term}
 use Rattle.folio.specs.Opening.{Lent, opened}
 use Rattle.folio.specs.Folio.{shapeTerms, scoreTerm}
@@ -25,6 +24,7 @@ use Rattle.walk.specs.Stepping.{stepped, run, accepted}
 use Rattle.walk.specs.declared.Record.{Record}
 use Rattle.walk.specs.declared.Walked.the-variants as walking
 use Rattle.report.specs.Text.{report}
+use Rattle.promises.specs.Refusals.{Below}
 
 module _ (file : List ℕ) (tables : Lent) (counts : Counts) where
   abbrev pub symbolsOf : List ℕ
@@ -43,7 +43,7 @@ module _ (file : List ℕ) (tables : Lent) (counts : Counts) where
   spansOf = take (counts .nodes) (opened file tables .tables .spans)
 
 pub record OneFile (file : List ℕ) : Type 0 where
-  pub bytes : (i b : ℕ) → getElem? file i ≡ some b → b < 256
+  pub bytes : Below 256 file
   pub tables : Lent
   pub counts : Counts
   pub opens : opened file tables .answer ≡ opening.Folio counts

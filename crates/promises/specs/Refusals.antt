@@ -1,4 +1,5 @@
 -- The table of refusals for opening, row by row: "Given exactly when", and the place. Places in a section are word numbers here; `Given` makes them bytes.
+--   Below         numbers as a slice of bytes, or of words, holds them
 --   TrailerRow    1 to 4
 --   SymbolRow     5, 6
 --   ShapeRow      7 to 12: "12 where a shape begins; else at each node 8, 7, 10, 11; then 9 when the shape is complete"
@@ -23,6 +24,9 @@ use Rattle.contents.specs.Tables.{blankWord, noBlank, shapeLevels, scoreLevels,
 use Rattle.folio.specs.Opening.{Lent, Room}
 use Rattle.folio.specs.Folio.{IsShape, GoodSymbols, Shaped, Scored}
 use Rattle.sections.specs.declared.Places.{Places}
+
+abbrev pub Below : ℕ → List ℕ → Type 0
+Below n l = (i w : ℕ) → getElem? l i ≡ some w → w < n
 
 -- ---- 1 to 4
 module _ (file : List ℕ) where

@@ -13,11 +13,10 @@ use native.Mathlib.Omega.{arith}
 use native.Mathlib.Decide.{decLt}
 use borrow.Author.Tests.{lt-leb}
 use lib.Dec.{leb}
-use lib.ListN.{length, getD, getElem?, take, drop, length-append, length-drop, drop-of-length-le}
-use lib.Seq.{sets, sets-eq, drop-cons, length-take-le}
-use Rattle.kinds.specs.Lists.{bind, onto}
+use lib.ListN.{length, getD, getElem?, take, drop, length-drop, drop-of-length-le}
+use lib.Seq.{drop-cons}
+use Rattle.kinds.specs.Lists.{bind}
 use Rattle.kinds.proofs.Bools.{leb-is, leb-not}
-use Rattle.kinds.proofs.ListLaws.{sets-append}
 use Rattle.readers.specs.PlanParts.{pairs, pairWords, counted, blockAt}
 use Rattle.readers.specs.BlockWords.{pairList, middle, outsAt, nextsAt, blockFits}
 

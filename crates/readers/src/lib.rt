@@ -5,7 +5,6 @@ use kinds::State;
 
 pub mod parts; // header, labels and block starts of a plan
 pub mod reading; // labels, announcements and successors for other callers
-pub mod viewing; // the same over a view of the plan
 
 // A state's label.
 pub enum Label {
@@ -44,11 +43,4 @@ pub enum Start {
 pub enum Pair {
     Of(u16, Position),
     Nothing,
-}
-
-// A built plan as it is held for reading: the words lent, with their counts of states and symbols.
-pub struct PlanView<'a> {
-    pub words: &'a [u16],
-    pub states: u16,
-    pub symbols: u16,
 }

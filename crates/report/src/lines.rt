@@ -1,5 +1,4 @@
 ghost use mathlib.Core.Path.{_≡_};
-ghost use lib.ListN.{length};
 ghost use Rattle.report.specs.Lines.{outOf, lineOut, firstOut, refusalOut};
 use crate::Written;
 use crate::text::put_digits;

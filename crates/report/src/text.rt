@@ -1,11 +1,9 @@
 ghost use mathlib.Core.Path.{_≡_};
 ghost use Prim.Native.Nat.{ℕ, _+_, _*_, _-_, _<_, _≤_};
-ghost use mathlib.Core.List.{List};
 ghost use lib.ListN.{length};
 ghost use lib.Seq.{sets};
-ghost use Rattle.kinds.specs.Lists.{gather};
 ghost use Rattle.report.specs.Paths.{childOn, pathTo};
-ghost use Rattle.report.specs.Text.{digitsTo, digits, dotted, pathText, dottedOn, stepOf};
+ghost use Rattle.report.specs.Text.{digitsTo, digits, pathText, stepOf};
 use crate::Step;
 
 // The child number and the node of the first of at most four children, from `from` on, in whose subtree x stands.

@@ -95,7 +95,8 @@ pub record Placed (s : List ℕ) (p : Places) : Type 0 where
   pub words : p .end ≡ p .shapes + 2 * all
   pub score-words : p .end ≡ p .score + 2 * nodes
 
-never {κ} : {C : Type κ} {r : Reason} {q : ℕ} {p : Places} → Refused r q ≡ At p → C
+-- a refusal is no place
+pub never {κ} : {C : Type κ} {r : Reason} {q : ℕ} {p : Places} → Refused r q ≡ At p → C
 never e = let z : _≡_ {A = ℕ} 0 1 = cc in absurd (omega arith)
 
 on-unless {κ} : {C : Type κ} (t : Bool) (r : Reason) (q : ℕ) (x : Sections) (p : Places) → unless t (Refused r q) x ≡ At p → (t ≡ true → x ≡ At p → C) → C

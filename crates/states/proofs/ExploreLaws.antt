@@ -9,31 +9,31 @@
 use mathlib.Core.Path.{_≡_, refl, ap, ap₂, sym, _∙_}
 use mathlib.Core.List.{List, [], _∷_, _++_, map, append-assoc, append-nil}
 use mathlib.Core.Bool.{Bool, true, false, cond}
-use mathlib.Core.Option.{Option, none, some}
-use mathlib.Core.Logic.{_⊎_, inl, inr, ⊎-elim}
+use mathlib.Core.Option.{none, some}
+use mathlib.Core.Logic.{_⊎_, ⊎-elim}
 use Prim.Native.Nat.{ℕ, zero, suc, _+_, _-_, _*_, _/_, _%_, _<_, _≤_}
 use native.Mathlib.Omega.{arith}
-use native.Mathlib.Nat.{sub-zero, zero-add, add-zero}
+use native.Mathlib.Nat.{zero-add}
 use native.Mathlib.Numerals.{add-one}
 use lib.Dec.{eqb, ltb}
-use lib.ListN.{length, getD, getElem?, take, drop, set, replicate, length-append, length-map, length-replicate}
-use lib.Seq.{sets, length-sets, drop-cons}
+use lib.ListN.{length, getD, getElem?, take, drop, replicate, length-append, length-map}
+use lib.Seq.{sets, length-sets}
 use Rattle.kinds.specs.Lists.{gather, concat, range, sort}
 use Rattle.kinds.specs.declared.Reason.{Reason}
-use Rattle.kinds.specs.declared.Reason.the-variants.{ManyGoals, ManyStates}
+use Rattle.kinds.specs.declared.Reason.the-variants.{ManyStates}
 use Rattle.kinds.specs.Positions.{code}
-use Rattle.kinds.proofs.Members.{_∈_, here, there, in-one, length-range, perm-length, sort-perm}
+use Rattle.kinds.proofs.Members.{_∈_, in-one, length-range, perm-length, sort-perm}
 use Rattle.kinds.proofs.ListLaws.{map-append, concat-append, from, from-end, run-whole}
 use Rattle.kinds.proofs.Places.{getElem-some, getD-in, getD-ext, ext-length}
-use Rattle.automaton.specs.Exploring.{Succ, Block, Met, stopped, met, Made, refused, made, meet, meets, row, run, explored}
+use Rattle.automaton.specs.Exploring.{Succ, Block, Met, met, Made, refused, meet, meets, row, run, explored}
 use Rattle.automaton.specs.PlanWords.{blockWords}
 use Rattle.automaton.specs.FinalBlocks.{succOf}
 use Rattle.automaton.proofs.BlocksAgain.{meet-found, meets-found}
-use Rattle.goals.specs.GoalWords.{GoalWords, goalAt, goalsFrom, flat, Low, labelCode}
-use Rattle.goals.specs.WordStages.{freshesW, freshW, derivW, leastCode, liftW, sameStateW, pickedW, classesW, reduct, annKey, announces, outputsW}
+use Rattle.goals.specs.GoalWords.{GoalWords, goalAt, goalsFrom, flat, labelCode}
+use Rattle.goals.specs.WordStages.{freshesW, freshW, derivW, leastCode, liftW, reduct, annKey, announces, outputsW}
 use Rattle.decoding.specs.WordMachine.{words, stateIn, statesIn, Kept}
 use Rattle.decoding.specs.GoodStates.{Ready, GoodState}
-use Rattle.deriving.specs.Orders.{keyed, classAt, outItems, leadItems, goalOn}
+use Rattle.deriving.specs.Orders.{keyed, classAt, outItems, goalOn}
 use Rattle.states.specs.Meeting.{placeOf, liftedW, AllGood, wordsOf, MetIs, RowIs, ExploredIs}
 use Rattle.states.specs.declared.Met.{Met as Going}
 use Rattle.states.specs.declared.Met.the-variants as going
@@ -45,8 +45,8 @@ use Rattle.states.proofs.StateLaws.{states-length, states-at, added, st
 use Rattle.deriving.proofs.SortLaws.{sort-length}
 use Rattle.deriving.proofs.OrderLaws.{keyed-count}
 use Rattle.states.proofs.InOrder.{outputs-in-order, items-low}
-use Rattle.states.proofs.MeetLaws.{meet-big, meet-known, meet-full, meet-new, onto, meets-begin, meets-stop, meets-on, meets-end, row-stop, row-on, run-stop, run-on, run-end}
-use Rattle.decoding.proofs.GoodLaws.{good-start, good-low, good-label, good-next, deriv-low, deriv-room}
+use Rattle.states.proofs.MeetLaws.{meet-known, meet-full, meet-new, onto, meets-begin, meets-stop, meets-on, meets-end, row-stop, row-on, run-stop, run-on, run-end}
+use Rattle.decoding.proofs.GoodLaws.{good-start, good-label, good-next, deriv-low, deriv-room}
 
 -- ---- one class
 pub class-few : (d : List (List Bool)) (ws : List ℕ) (n r : ℕ) → n ≤ 96 → length (classAt d ws n r) ≤ 96

@@ -5,8 +5,7 @@
 --   added states-added kept-added                 one more state
 use mathlib.Core.Path.{_≡_, refl, ap, ap₂, sym, _∙_}
 use mathlib.Core.List.{List, [], _∷_, _++_, map}
-use mathlib.Core.Bool.{Bool, true, false, cond}
-use mathlib.Core.Option.{Option, none, some}
+use mathlib.Core.Bool.{true, false}
 use Prim.Native.Nat.{ℕ, zero, suc, _+_, _-_, _*_, _<_, _≤_}
 use native.Mathlib.Omega.{arith}
 use native.Mathlib.Nat.{sub-zero, zero-add, add-zero}
@@ -15,7 +14,7 @@ use native.Mathlib.Decide.{ℕ-discrete}
 use lib.ListN.{length, getD, take, drop, set, length-set, length-map}
 use lib.Seq.{sets, length-sets, length-take-le, drop-cons, drop-set-lt, getD-set-same, getD-set-other, getD-take}
 use Rattle.kinds.specs.Lists.{find, range, orElse}
-use Rattle.kinds.proofs.Members.{_∈_, length-range, in-range}
+use Rattle.kinds.proofs.Members.{length-range, in-range}
 use Rattle.kinds.proofs.ListLaws.{map-append, map-same, range-next, sets-at, sets-behind}
 use Rattle.goals.specs.GoalWords.{GoalWords, goalsFrom}
 use Rattle.goals.specs.WordStages.{sameStateW}

@@ -4,13 +4,12 @@
 --   roomLeft     the log has room for one more, the waiting words for all items after the step
 --   sighted      what a step that is not refused 34 sees: the item's node, the node read, where the block begins
 --   headOf sightOf   answers of the code's parts
-use mathlib.Core.List.{List, map}
-use mathlib.Core.Bool.{Bool, false, _&&_}
+use mathlib.Core.List.{List}
+use mathlib.Core.Bool.{Bool, _&&_}
 use mathlib.Core.Option.{Option, none, some}
 use Prim.Native.Nat.{ℕ, _+_, _*_, _-_}
 use lib.Dec.{ltb, leb}
-use lib.ListN.{length, getD, getElem?, take, drop}
-use lib.Seq.{sets}
+use lib.ListN.{length, getD, getElem?}
 use Rattle.kinds.specs.Lists.{bind, need, all}
 use Rattle.following.specs.Following.{target}
 use Rattle.queue.specs.Targets.{fine}

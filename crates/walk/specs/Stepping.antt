@@ -16,7 +16,6 @@ use mathlib.Core.Option.{Option, none, some}
 use lib.Dec.{eqb, ltb, leb}
 use lib.ListN.{length, getD, getElem?, take, drop, set}
 use Rattle.kinds.specs.Lists.{bind, need, all, onto}
-use Rattle.kinds.specs.Bits.{withBit}
 use Rattle.kinds.specs.declared.Reason.the-variants.{NoSuchItem, OutOfRange}
 use Rattle.following.specs.Following.{target}
 use Rattle.walk.specs.declared.Walked.{Walked}

@@ -48,21 +48,21 @@ use Rattle.kinds.proofs.State as state
 use Rattle.kinds.proofs.State.Laws as state′
 use Rattle.kinds.proofs.Symbol as symbol
 use Rattle.kinds.proofs.Symbol.Laws as symbol′
 use Rattle.readers.specs.PlanParts.{lengthsOf}
-use Rattle.readers.specs.declared.PlanView.{PlanView}
+use Rattle.views.specs.declared.PlanView.{PlanView}
 use Rattle.readers.specs.declared.Block.{Block}
-use Rattle.readers.proofs.PlanView as T
-use Rattle.readers.proofs.PlanView.Laws as T′
+use Rattle.views.proofs.PlanView as T
+use Rattle.views.proofs.PlanView.Laws as T′
 use Rattle.readers.proofs.Block as S
 use Rattle.readers.proofs.Block.Laws as S′
 use Rattle.readers.proofs.reading.lengths_of as callee
 use Rattle.readers.proofs.reading.lengths_of.Symbol as callee-def
 use Rattle.readers.proofs.reading.lengths_of.Symbol.{name as #lengths-of}
 use Rattle.readers.proofs.reading.lengths_of.Met as callee-thm
-use Rattle.readers.proofs.viewing.lengths_in.Key.{name as #lengths-in}
-use Rattle.readers.proofs.viewing.lengths_in as reader
-use Rattle.readers.proofs.viewing.lengths_in.Statement as stated
-use Rattle.readers.proofs.viewing.lengths_in.Code as code
+use Rattle.views.proofs.viewing.lengths_in.Key.{name as #lengths-in}
+use Rattle.views.proofs.viewing.lengths_in as reader
+use Rattle.views.proofs.viewing.lengths_in.Statement as stated
+use Rattle.views.proofs.viewing.lengths_in.Code as code
 
 -- the view's type, over the signature's lifetimes
 abbrev B : Lfts 1 → RattleType

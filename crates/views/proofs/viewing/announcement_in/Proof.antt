@@ -1,4 +1,4 @@
--- `successor_in` meets its contract: a walk of its code, by hand. The view is taken apart, and `successor_of` is called on the slice and the numbers; all that is known of `successor_of` is its contract.
+-- `announcement_in` meets its contract: a walk of its code, by hand. The view is taken apart, and `announcement_of` is called on the slice and the numbers; all that is known of `announcement_of` is its contract.
 -- The view is Copy: what it owns is had twice, one copy is kept whole for the exit, and of the other what the words own goes to the callee, beside the lifetime's token, which comes back.
 use mathlib.Core.Path.{_≡_, refl}
 use Prim.Native.Nat.{ℕ, _<_, _^_}
@@ -48,21 +48,21 @@ use Rattle.kinds.proofs.State as state
 use Rattle.kinds.proofs.State.Laws as state′
 use Rattle.kinds.proofs.Symbol as symbol
 use Rattle.kinds.proofs.Symbol.Laws as symbol′
-use Rattle.readers.specs.PlanParts.{successorOf}
-use Rattle.readers.specs.declared.PlanView.{PlanView}
-use Rattle.readers.specs.declared.Successor.{Successor}
-use Rattle.readers.proofs.PlanView as T
-use Rattle.readers.proofs.PlanView.Laws as T′
-use Rattle.readers.proofs.Successor as S
-use Rattle.readers.proofs.Successor.Laws as S′
-use Rattle.readers.proofs.reading.successor_of as callee
-use Rattle.readers.proofs.reading.successor_of.Symbol as callee-def
-use Rattle.readers.proofs.reading.successor_of.Symbol.{name as #successor-of}
-use Rattle.readers.proofs.reading.successor_of.Met as callee-thm
-use Rattle.readers.proofs.viewing.successor_in.Key.{name as #successor-in}
-use Rattle.readers.proofs.viewing.successor_in as reader
-use Rattle.readers.proofs.viewing.successor_in.Statement as stated
-use Rattle.readers.proofs.viewing.successor_in.Code as code
+use Rattle.readers.specs.PlanParts.{announcementOf}
+use Rattle.views.specs.declared.PlanView.{PlanView}
+use Rattle.readers.specs.declared.Announcement.{Announcement}
+use Rattle.views.proofs.PlanView as T
+use Rattle.views.proofs.PlanView.Laws as T′
+use Rattle.readers.proofs.Announcement as S
+use Rattle.readers.proofs.Announcement.Laws as S′
+use Rattle.readers.proofs.reading.announcement_of as callee
+use Rattle.readers.proofs.reading.announcement_of.Symbol as callee-def
+use Rattle.readers.proofs.reading.announcement_of.Symbol.{name as #announcement-of}
+use Rattle.readers.proofs.reading.announcement_of.Met as callee-thm
+use Rattle.views.proofs.viewing.announcement_in.Key.{name as #announcement-in}
+use Rattle.views.proofs.viewing.announcement_in as reader
+use Rattle.views.proofs.viewing.announcement_in.Statement as stated
+use Rattle.views.proofs.viewing.announcement_in.Code as code
 
 -- the view's type, over the signature's lifetimes
 abbrev B : Lfts 1 → RattleType
@@ -84,8 +84,8 @@ module _ {M : Type 1} (𝓤 : URA M) (H : Heap 𝓤) (A : Atoms 𝓤) (W : Given
   abbrev v : Val
   v = sliceVal (d .words .ptr) (length (d .words .now))
 
-  abbrev found : Successor
-  found = successorOf (now (d .words)) (d .states) (d .symbols) (s .0) (f .0) i
+  abbrev found : Announcement
+  found = announcementOf (now (d .words)) (d .states) (d .symbols) (s .0) (f .0) i
 
   abbrev Post : Val → SProp 𝓤
   Post = walkOf 𝓤 H A reader.ended stayed (reader.clauses 𝓤 H A mem run) .post (((κ, tt), (q, tt), tt, (d, (s, (f, (i, tt)))), (mach ∷ [], (state′.lowered s ∷ [], (symbol′.lowered f ∷ [], (vint w64 i ∷ [], tt))))), tt)
@@ -124,16 +124,16 @@ module _ {M : Type 1} (𝓤 : URA M) (H : Heap 𝓤) (A : Atoms 𝓤) (W : Given
       move ! (2 ∷ 0 ∷ []) $ use2 W (raw (Cited 𝓤 H A mem run .pre to)) asked $ frame ! $ done !)
 
   -- of what the callee ensures, the clause alone: it has no `&mut`, so what is said of last values is dropped
-  said : (r : Successor) → ent 𝓤 (ensured 𝓤 H A callee.ended (callee.clauses 𝓤 H A mem run) (κ, tt) (d .words, (d .states, (d .symbols, (s, (f, (i, tt)))))) tt r) (fact 𝓤 (r ≡ found))
+  said : (r : Announcement) → ent 𝓤 (ensured 𝓤 H A callee.ended (callee.clauses 𝓤 H A mem run) (κ, tt) (d .words, (d .states, (d .symbols, (s, (f, (i, tt)))))) tt r) (fact 𝓤 (r ≡ found))
   said r = exE 𝓤 _ (λ ws. snd∗ 𝓤 (sem 𝓤 H A (lasts callee.ended (κ, tt) (d .words, (d .states, (d .symbols, (s, (f, (i, tt)))))) ws)) (fact 𝓤 (r ≡ found)))
 
-  exits : (r : Successor) (u : Val) → r ≡ found → ent 𝓤 (⋆ 𝓤 H A (‵ (S.the-row .own r (u ∷ [])) ∷ (‵ (flft κ q) ⊛ ‵ ftrue) ∷ ‵ Own ∷ [])) (Post u)
+  exits : (r : Announcement) (u : Val) → r ≡ found → ent 𝓤 (⋆ 𝓤 H A (‵ (S.the-row .own r (u ∷ [])) ∷ (‵ (flft κ q) ⊛ ‵ ftrue) ∷ ‵ Own ∷ [])) (Post u)
   exits r u e =
       qed W (‵ (S.the-row .own r (u ∷ [])) ∷ (‵ (flft κ q) ⊛ ‵ ftrue) ∷ ‵ Own ∷ []) ∵
       suffices ! _ (ends-at 𝓤 H A reader.ended stayed (reader.clauses 𝓤 H A mem run) W (((κ, tt), (q, tt), tt, (d, (s, (f, (i, tt)))), (mach ∷ [], (state′.lowered s ∷ [], (symbol′.lowered f ∷ [], (vint w64 i ∷ [], tt))))), tt) u r (tt, (tt, (tt, (tt, tt)))) (tt, (tt, (tt, (tt, tt))))) $ says ! e $
       move ! (1 ∷ []) $ frame ! $ nothing ! $ owned ! usize (Is usize) (uint-makes 𝓤 H A W w64) i _ (refl, ok-i) $ fjoin ! $ owned ! symbol.the-row (Is symbol.the-row) (LL.makes symbol.the-type symbol′.the-plain 𝓤 H A) f _ is-f $ fjoin ! $ owned ! state.the-row (Is state.the-row) (LL.makes state.the-type state′.the-plain 𝓤 H A) s _ is-s $ fjoin ! $ move ! (2 ∷ 0 ∷ []) $ fjoin ! $ frame ! $ done !
 
-  module _ (C : Calls 𝓤 H) (Λ : Loops 𝓤 H) (fm : FmC 𝓤 H (W .laws) C) (known : Triple 𝓤 (C #successor-of) (Cited 𝓤 H A mem run)) where
+  module _ (C : Calls 𝓤 H) (Λ : Loops 𝓤 H) (fm : FmC 𝓤 H (W .laws) C) (known : Triple 𝓤 (C #announcement-of) (Cited 𝓤 H A mem run)) where
     walk : Holds (hasTy (T′.mir (named 0)) mach) × WT mach → ent 𝓤 (onEntry 𝓤 H A reader.signature (κ, tt) (q, tt) (d, (s, (f, (i, tt)))) (mach ∷ [], (state′.lowered s ∷ [], (symbol′.lowered f ∷ [], (vint w64 i ∷ [], tt))))) (WpFn 𝓤 H C Λ code.function (mach ∷ state′.lowered s ∷ symbol′.lowered f ∷ vint w64 i ∷ []) Post)
     walk wt =
         qed W (raw (onEntry 𝓤 H A reader.signature (κ, tt) (q, tt) (d, (s, (f, (i, tt)))) (mach ∷ [], (state′.lowered s ∷ [], (symbol′.lowered f ∷ [], (vint w64 i ∷ [], tt))))) ∷ []) ∵ enter ! C Λ code.function (mach ∷ state′.lowered s ∷ symbol′.lowered f ∷ vint w64 i ∷ []) _ $
@@ -143,7 +143,7 @@ module _ {M : Type 1} (𝓤 : URA M) (H : Heap 𝓤) (A : Atoms 𝓤) (W : Given
         assigns ! (of-opd ! (load ! (from ! (fld ! refl (stop !))) (look-in ! 12 (sub ! 2 refl (whole !))))) (from ! (stop !)) (init ! 0 refl (tt, wt .1 .1 .1 .0)) $
         move ! (16 ∷ []) $ use1 W (raw (Cited 𝓤 H A mem run .pre to) ⊛ ‵ Own) (apart (wt .1 .1 .0 .fits) (wt .1 .1 .1 .0 .fits)) $ split ! $
         calls-at ! fm (Cited 𝓤 H A mem run) known to (and-then ! (load ! (from ! (stop !)) (look ! 6 refl)) (and-then ! (load ! (from ! (stop !)) (look ! 4 refl)) (and-then ! (load ! (from ! (stop !)) (look ! 2 refl)) (and-then ! (load ! (from ! (stop !)) (look ! 12 refl)) (and-then ! (load ! (from ! (stop !)) (look ! 10 refl)) (and-then ! (load ! (from ! (stop !)) (look ! 8 refl)) (no-more !))))))) (λ u.
-        use1 W (later (some (λ (r : Successor). ((‵ (flft κ q) ⊛ ‵ ftrue) ⊛ ‵ (S.the-row .own r (u ∷ []))) ⊛ raw (ensured 𝓤 H A callee.ended (callee.clauses 𝓤 H A mem run) (κ, tt) (d .words, (d .states, (d .symbols, (s, (f, (i, tt)))))) tt r)))) (id⊢ 𝓤 _) $ await ! tt $ pick ! (λ r.
+        use1 W (later (some (λ (r : Announcement). ((‵ (flft κ q) ⊛ ‵ ftrue) ⊛ ‵ (S.the-row .own r (u ∷ []))) ⊛ raw (ensured 𝓤 H A callee.ended (callee.clauses 𝓤 H A mem run) (κ, tt) (d .words, (d .states, (d .symbols, (s, (f, (i, tt)))))) tt r)))) (id⊢ 𝓤 _) $ await ! tt $ pick ! (λ r.
         split ! $ move ! (1 ∷ []) $ use1 W (raw (fact 𝓤 (r ≡ found))) (said r) $ heard ! (r ≡ found) (λ e. split ! $ move ! (1 ∷ []) $
         -- [the result; the token; what the view owns; the locals, the last one first; room for the result]
         peeks ! S.the-row (Is S.the-row) (shows 𝓤 H A S.the-row) r (u ∷ []) (λ is.
@@ -152,24 +152,24 @@ module _ {M : Type 1} (𝓤 : URA M) (H : Heap 𝓤) (A : Atoms 𝓤) (W : Given
         move ! (17 ∷ 18 ∷ []) $ free1 ! $ move ! (15 ∷ 16 ∷ []) $ free1 ! $ move ! (13 ∷ 14 ∷ []) $ free1 ! $ move ! (11 ∷ 12 ∷ []) $ free1 ! $ move ! (9 ∷ 10 ∷ []) $ free1 ! $ move ! (7 ∷ 8 ∷ []) $ free1 ! $ move ! (5 ∷ 6 ∷ []) $ free1 ! $ move ! (3 ∷ 4 ∷ []) $ free1 ! $ free0 ! $ by ! (exits r u e)))))))))))))
 
 module _ {M : Type 1} (𝓤 : URA M) (H : Heap 𝓤) (A : Atoms 𝓤) (W : Given 𝓤 H A) (mem : Memory → SProp 𝓤) (run : Routine → Fun 𝓤) where
-  successor-in-walks : (C : Calls 𝓤 H) (Λ : Loops 𝓤 H) → FmC 𝓤 H (W .laws) C → Triple 𝓤 (C #successor-of) (Cited 𝓤 H A mem run)
+  announcement-in-walks : (C : Calls 𝓤 H) (Λ : Loops 𝓤 H) → FmC 𝓤 H (W .laws) C → Triple 𝓤 (C #announcement-of) (Cited 𝓤 H A mem run)
       → Walks 𝓤 H A reader.ended stayed (WpFn 𝓤 H C Λ code.function) (reader.clauses 𝓤 H A mem run)
-  successor-in-walks C Λ fm known =
+  announcement-in-walks C Λ fm known =
       walked 𝓤 H A reader.ended stayed (reader.clauses 𝓤 H A mem run) (WpFn 𝓤 H C Λ code.function)
       (λ κs. (LL.vals (T.the-type (namedLft 1 0 tt κs)) (T′.the-laws (namedLft 1 0 tt κs)), (LL.vals state.the-type state′.the-laws, (LL.vals symbol.the-type symbol′.the-laws, (uint-vals w64, tt)))))
       (λ κs. (LL.tells (T.the-type (namedLft 1 0 tt κs)) (T′.the-laws (namedLft 1 0 tt κs)), (LL.tells state.the-type state′.the-laws, (LL.tells symbol.the-type symbol′.the-laws, (uint-tells w64, tt)))))
       (λ κs qs bounds a g are. via 𝓤 _ (fst∗ 𝓤 _ (emp 𝓤)) (walk 𝓤 H A W mem run (κs .0) (qs .0) (a .0) (a .1 .0) (a .1 .1 .0) (a .1 .1 .1 .0) (are .1 .0) (are .1 .1 .0) (are .1 .1 .1 .0 .1) C Λ fm known (LL.lawful (T.the-type (namedLft 1 0 tt κs)) (T′.the-laws (namedLft 1 0 tt κs)) 𝓤 H A W .typed (a .0) _ (are .0) .0)))
 
-successor-in-meets : {M : Type 1} (𝓤 : URA M) (H : Heap 𝓤) (A : Atoms 𝓤) (W : Given 𝓤 H A) (mem : Memory → SProp 𝓤) (run : Routine → Fun 𝓤) (𝓣 : Tables 𝓤 H)
-    → Triple 𝓤 (𝓣 .C #successor-of) (Cited 𝓤 H A mem run) → Meets 𝓤 H A reader.signature (WpFn 𝓤 H (𝓣 .C) (𝓣 .Λ) code.function) (reader.spec 𝓤 H A mem run)
-successor-in-meets 𝓤 H A W mem run 𝓣 known =
+announcement-in-meets : {M : Type 1} (𝓤 : URA M) (H : Heap 𝓤) (A : Atoms 𝓤) (W : Given 𝓤 H A) (mem : Memory → SProp 𝓤) (run : Routine → Fun 𝓤) (𝓣 : Tables 𝓤 H)
+    → Triple 𝓤 (𝓣 .C #announcement-of) (Cited 𝓤 H A mem run) → Meets 𝓤 H A reader.signature (WpFn 𝓤 H (𝓣 .C) (𝓣 .Λ) code.function) (reader.spec 𝓤 H A mem run)
+announcement-in-meets 𝓤 H A W mem run 𝓣 known =
     walk-meets 𝓤 H A reader.ended stayed W (goes-none 𝓤 H A W 1 B yes (λ κs x f. refl), (goes-none 𝓤 H A W 1 (λ _. state.the-row) yes (λ κs x f. refl), (goes-none 𝓤 H A W 1 (λ _. symbol.the-row) yes (λ κs x f. refl), (goes-none 𝓤 H A W 1 (λ _. usize) yes (λ κs x f. refl), tt))))
-    (reader.clauses 𝓤 H A mem run) (WpFn 𝓤 H (𝓣 .C) (𝓣 .Λ) code.function) (WpFn-mono 𝓤 H (W .laws) 𝓣 code.function) (successor-in-walks 𝓤 H A W mem run (𝓣 .C) (𝓣 .Λ) (fmOf 𝓤 H (W .laws) 𝓣) known)
+    (reader.clauses 𝓤 H A mem run) (WpFn 𝓤 H (𝓣 .C) (𝓣 .Λ) code.function) (WpFn-mono 𝓤 H (W .laws) 𝓣 code.function) (announcement-in-walks 𝓤 H A W mem run (𝓣 .C) (𝓣 .Λ) (fmOf 𝓤 H (W .laws) 𝓣) known)
 
-pub successor-in-spec : {M : Type 1} → stated.statement M
+pub announcement-in-spec : {M : Type 1} → stated.statement M
 unfolding code.routine tablesOf
-successor-in-spec 𝓤 H 𝓜 𝓖 𝓡 =
+announcement-in-spec 𝓤 H 𝓜 𝓖 𝓡 =
     entered 𝓤 H (tripleOf 𝓤 H (𝓖 .A) reader.signature (reader.spec 𝓤 H (𝓖 .A) (𝓜 .mem) (𝓡 .run)))
-    (tables 𝓤 H 𝓜 𝓡 code.env .C) (tables 𝓤 H 𝓜 𝓡 code.env .Λ) #successor-in code.function (code.unfolded 𝓤 H 𝓜 𝓡)
-    (successor-in-meets 𝓤 H (𝓖 .A) (givenOf 𝓤 H 𝓜 𝓖) (𝓜 .mem) (𝓡 .run) (tablesOf 𝓤 H 𝓜 (tables 𝓤 H 𝓜 𝓡 code.env))
-    (cited 𝓤 H (Cited 𝓤 H (𝓖 .A) (𝓜 .mem) (𝓡 .run)) 𝓜 𝓡 code.env #successor-of callee-def.routine code.calls-readers·reading·successor-of (callee-thm.met 𝓤 H 𝓜 𝓖 𝓡)))
+    (tables 𝓤 H 𝓜 𝓡 code.env .C) (tables 𝓤 H 𝓜 𝓡 code.env .Λ) #announcement-in code.function (code.unfolded 𝓤 H 𝓜 𝓡)
+    (announcement-in-meets 𝓤 H (𝓖 .A) (givenOf 𝓤 H 𝓜 𝓖) (𝓜 .mem) (𝓡 .run) (tablesOf 𝓤 H 𝓜 (tables 𝓤 H 𝓜 𝓡 code.env))
+    (cited 𝓤 H (Cited 𝓤 H (𝓖 .A) (𝓜 .mem) (𝓡 .run)) 𝓜 𝓡 code.env #announcement-of callee-def.routine code.calls-readers·reading·announcement-of (callee-thm.met 𝓤 H 𝓜 𝓖 𝓡)))

@@ -40,25 +40,25 @@ use denote.Triple.Clauses.{ensured, lasts}
 use Rattle.kinds.specs.declared.State.{State}
 use Rattle.kinds.proofs.State as state
 use Rattle.kinds.proofs.State.Laws as state′
 use Rattle.readers.specs.PlanParts.{labelOf}
-use Rattle.readers.specs.declared.PlanView.{PlanView}
+use Rattle.views.specs.declared.PlanView.{PlanView}
 use Rattle.readers.specs.declared.Label.{Label}
-use Rattle.readers.proofs.PlanView as T
-use Rattle.readers.proofs.PlanView.Laws as T′
+use Rattle.views.proofs.PlanView as T
+use Rattle.views.proofs.PlanView.Laws as T′
 use Rattle.readers.proofs.Label as S
 use Rattle.readers.proofs.Label.Laws as S′
-use Rattle.readers.proofs.viewing.view as new
-use Rattle.readers.proofs.viewing.view.Symbol as new-def
-use Rattle.readers.proofs.viewing.view.Symbol.{name as #view}
-use Rattle.readers.proofs.viewing.view.Met as new-thm
-use Rattle.readers.proofs.viewing.label_in as next
-use Rattle.readers.proofs.viewing.label_in.Symbol as next-def
-use Rattle.readers.proofs.viewing.label_in.Symbol.{name as #label-in}
-use Rattle.readers.proofs.viewing.label_in.Met as next-thm
-use Rattle.readers.proofs.viewing.label_at.Key.{name as #label-at}
-use Rattle.readers.proofs.viewing.label_at as top
-use Rattle.readers.proofs.viewing.label_at.Statement as stated
-use Rattle.readers.proofs.viewing.label_at.Code as code
+use Rattle.views.proofs.viewing.view as new
+use Rattle.views.proofs.viewing.view.Symbol as new-def
+use Rattle.views.proofs.viewing.view.Symbol.{name as #view}
+use Rattle.views.proofs.viewing.view.Met as new-thm
+use Rattle.views.proofs.viewing.label_in as next
+use Rattle.views.proofs.viewing.label_in.Symbol as next-def
+use Rattle.views.proofs.viewing.label_in.Symbol.{name as #label-in}
+use Rattle.views.proofs.viewing.label_in.Met as next-thm
+use Rattle.views.proofs.viewing.label_at.Key.{name as #label-at}
+use Rattle.views.proofs.viewing.label_at as top
+use Rattle.views.proofs.viewing.label_at.Statement as stated
+use Rattle.views.proofs.viewing.label_at.Code as code
 
 -- the struct's type, over the signature's lifetimes
 abbrev B : Lfts 1 → RattleType
@@ -173,5 +173,5 @@ label-at-spec 𝓤 H 𝓜 𝓖 𝓡 =
     entered 𝓤 H (tripleOf 𝓤 H (𝓖 .A) top.signature (top.spec 𝓤 H (𝓖 .A) (𝓜 .mem) (𝓡 .run)))
     (tables 𝓤 H 𝓜 𝓡 code.env .C) (tables 𝓤 H 𝓜 𝓡 code.env .Λ) #label-at code.function (code.unfolded 𝓤 H 𝓜 𝓡)
     (label-at-meets 𝓤 H (𝓖 .A) (givenOf 𝓤 H 𝓜 𝓖) (𝓜 .mem) (𝓡 .run) (tablesOf 𝓤 H 𝓜 (tables 𝓤 H 𝓜 𝓡 code.env))
-    (cited 𝓤 H (New 𝓤 H (𝓖 .A) (𝓜 .mem) (𝓡 .run)) 𝓜 𝓡 code.env #view new-def.routine code.calls-readers·viewing·view (new-thm.met 𝓤 H 𝓜 𝓖 𝓡))
-    (cited 𝓤 H (Next 𝓤 H (𝓖 .A) (𝓜 .mem) (𝓡 .run)) 𝓜 𝓡 code.env #label-in next-def.routine code.calls-readers·viewing·label-in (next-thm.met 𝓤 H 𝓜 𝓖 𝓡)))
+    (cited 𝓤 H (New 𝓤 H (𝓖 .A) (𝓜 .mem) (𝓡 .run)) 𝓜 𝓡 code.env #view new-def.routine code.calls-views·viewing·view (new-thm.met 𝓤 H 𝓜 𝓖 𝓡))
+    (cited 𝓤 H (Next 𝓤 H (𝓖 .A) (𝓜 .mem) (𝓡 .run)) 𝓜 𝓡 code.env #label-in next-def.routine code.calls-views·viewing·label-in (next-thm.met 𝓤 H 𝓜 𝓖 𝓡)))

@@ -1,16 +1,16 @@
 ghost use mathlib.Core.Path.{_≡_};
 ghost use Rattle.readers.specs.PlanParts.{labelOf, lengthsOf, announcementOf, successorOf};
-use crate::Announcement;
-use crate::Block;
-use crate::Label;
 use crate::PlanView;
-use crate::Successor;
-use crate::reading::announcement_of;
-use crate::reading::label_of;
-use crate::reading::lengths_of;
-use crate::reading::successor_of;
 use kinds::State;
 use kinds::Symbol;
+use readers::Announcement;
+use readers::Block;
+use readers::Label;
+use readers::Successor;
+use readers::reading::announcement_of;
+use readers::reading::label_of;
+use readers::reading::lengths_of;
+use readers::reading::successor_of;
 
 // From plain parameters: who calls this one holds no view.
 pub fn label_at(words: &[u16], states: u16, symbols: u16, state: State) -> Label

@@ -33,13 +33,13 @@ use denote.Triple.Spec.{Meets, tripleOf}
 use denote.Triple.Table.{entered}
 use denote.Triple.Walked.{says, Stays, stay-none, stay-none-slice, walkOf, goes-none, goes-none-slice, Walks, ends-at, walked, walk-meets}
 use denote.Exit.{yes}
-use Rattle.readers.specs.declared.PlanView.{PlanView}
-use Rattle.readers.proofs.PlanView as T
-use Rattle.readers.proofs.PlanView.Laws as T′
-use Rattle.readers.proofs.viewing.view.Key.{name as #view}
-use Rattle.readers.proofs.viewing.view as view
-use Rattle.readers.proofs.viewing.view.Statement as stated
-use Rattle.readers.proofs.viewing.view.Code as code
+use Rattle.views.specs.declared.PlanView.{PlanView}
+use Rattle.views.proofs.PlanView as T
+use Rattle.views.proofs.PlanView.Laws as T′
+use Rattle.views.proofs.viewing.view.Key.{name as #view}
+use Rattle.views.proofs.viewing.view as view
+use Rattle.views.proofs.viewing.view.Statement as stated
+use Rattle.views.proofs.viewing.view.Code as code
 
 abbrev stayed : Stays (view.ended .signature .params) (view.ended .kept)
 stayed = (stay-none-slice (0 ∷ []) tt (plain (λ _. u16)) yes, (stay-none (λ _. u16) yes, (stay-none (λ _. u16) yes, tt)))

@@ -45,21 +45,21 @@ use denote.Triple.Clauses.{ensured, lasts}
 use Rattle.kinds.specs.declared.State.{State}
 use Rattle.kinds.proofs.State as state
 use Rattle.kinds.proofs.State.Laws as state′
 use Rattle.readers.specs.PlanParts.{labelOf}
-use Rattle.readers.specs.declared.PlanView.{PlanView}
+use Rattle.views.specs.declared.PlanView.{PlanView}
 use Rattle.readers.specs.declared.Label.{Label}
-use Rattle.readers.proofs.PlanView as T
-use Rattle.readers.proofs.PlanView.Laws as T′
+use Rattle.views.proofs.PlanView as T
+use Rattle.views.proofs.PlanView.Laws as T′
 use Rattle.readers.proofs.Label as S
 use Rattle.readers.proofs.Label.Laws as S′
 use Rattle.readers.proofs.reading.label_of as callee
 use Rattle.readers.proofs.reading.label_of.Symbol as callee-def
 use Rattle.readers.proofs.reading.label_of.Symbol.{name as #label-of}
 use Rattle.readers.proofs.reading.label_of.Met as callee-thm
-use Rattle.readers.proofs.viewing.label_in.Key.{name as #label-in}
-use Rattle.readers.proofs.viewing.label_in as reader
-use Rattle.readers.proofs.viewing.label_in.Statement as stated
-use Rattle.readers.proofs.viewing.label_in.Code as code
+use Rattle.views.proofs.viewing.label_in.Key.{name as #label-in}
+use Rattle.views.proofs.viewing.label_in as reader
+use Rattle.views.proofs.viewing.label_in.Statement as stated
+use Rattle.views.proofs.viewing.label_in.Code as code
 
 -- the view's type, over the signature's lifetimes
 abbrev B : Lfts 1 → RattleType
