@@ -19,6 +19,7 @@ use Rattle.promises.proofs.TrailerRows.{trailer-framed, framed-trailer}
 use Rattle.promises.proofs.OpenExactly.{refused-given, given-refused}
 use Rattle.promises.proofs.SubtreeRows.{by-subtree}
 use Rattle.promises.proofs.ReaderRows.{by-label, by-lengths, by-announcement, by-successor}
+use Rattle.promises.proofs.ChildRows.{by-child}
 use Rattle.promises.proofs.LineRows.{by-first-line, by-match-line, by-refusal-line}
 use Rattle.promises.proofs.BuildRows.{by-build}
 use Rattle.promises.proofs.WalkRows.{by-start, by-count}
@@ -74,4 +75,5 @@ demand-1 = record {
   first-line = by-first-line;
   match-line = by-match-line;
   refusal-line = by-refusal-line;
+  child-of = by-child;
 }

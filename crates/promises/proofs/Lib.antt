@@ -18,3 +18,4 @@ pub mod Demand2
 pub mod Demand3
 pub mod SampleFile
 pub mod Determined
+pub mod ChildRows

@@ -6,7 +6,7 @@
 --   StepRow     32, 34; or a step, by `StepFound`
 --   CountRow    31, 30; or a number, for matches and for clashes
 --   LineRow     30 for a buffer under 1,400 bytes (docs/DECISIONS.md); or the line at its start, the bytes behind it as they were
---   FoundRow    34; or what is found: in `Found`, for subtree and the plan readers
+--   FoundRow    34; or what is found: in `Found`, for subtree, the plan readers and a position's child
 --   By          an outcome has a row, and every row that applies gives this outcome
 use mathlib.Core.Path.{_≡_}
 use mathlib.Core.List.{List, [], _++_}
@@ -14,7 +14,9 @@ use Prim.Native.Nat.{ℕ, _*_, _<_, _≤_}
 use lib.ListN.{length, getD, take, drop}
 use lib.Seq.{sets}
 use Rattle.kinds.specs.Lists.{gather}
-use Rattle.kinds.specs.Kinds.{position}
+use Rattle.kinds.specs.Kinds.{position, childOf}
+use Rattle.kinds.specs.declared.Position.{Position}
+use Rattle.kinds.specs.declared.Child.the-variants as child
 use Rattle.kinds.specs.declared.Reason.{Reason}
 use Rattle.kinds.specs.declared.Reason.the-variants.{BadShapes, ShortScratch, LongPlan, ShortBuffers, BadScore, NoSuchItem, OutOfRange}
 use Rattle.term.specs.Terms.{Term, span, flatten}
@@ -45,7 +47,7 @@ use Rattle.report.specs.Text.{line, firstLine, refusalText}
 use Rattle.report.specs.Lines.{lineRoom, outOf, lineOut, firstOut, refusalOut}
 use Rattle.report.specs.Lines.{Out as Line}
 use Rattle.report.specs.declared.Written.the-variants as written
-use Rattle.promises.specs.Found.{FoundRow, Standing, LabelFound, BlockFound, AnnouncementFound, SuccessorFound}
+use Rattle.promises.specs.Found.{FoundRow, Standing, LabelFound, BlockFound, AnnouncementFound, SuccessorFound, ChildFound}
 use Rattle.promises.specs.StepFound.{StepFound}
 use Rattle.promises.specs.Refusals.{Below, Given, Framed, symbolsAt, shapesAt, scoreAt}
 
@@ -132,3 +134,4 @@ pub record Demand1 : Type 0 where
   pub first-line : (n s m c : ℕ) (buffer : List ℕ) → By (LineRow (firstLine n s m c) buffer) (firstOut n s m c buffer)
   pub match-line : (spans : List ℕ) (x j : ℕ) (buffer : List ℕ) → By (LineRow (line spans (matchAt x j)) buffer) (lineOut spans x j buffer)
   pub refusal-line : (r : Reason) (p : ℕ) (buffer : List ℕ) → By (LineRow (refusalText r p) buffer) (refusalOut r p buffer)
+  pub child-of : (p : Position) (i : ℕ) → By (FoundRow (ChildFound p i) child.Beyond (λ c. child.At (position c))) (childOf p i)

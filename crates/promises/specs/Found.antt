@@ -1,4 +1,4 @@
--- Calls that answer what stands in the words lent, or 34 where nothing does: the subtree, whose "empty part stands for 34", and the plan readers.
+-- Calls that answer what stands in the words lent, or 34 where nothing does: the subtree, whose "empty part stands for 34", the plan readers, and a position's child.
 --   FoundRow         34 exactly where there is nothing to find
 --   InShape          "within a shape's limits (blanks are leaves)"; a blank alone counts too
 --   Standing         the words of a term stand at the place asked, within its table's limits, and opening accepts the symbols
@@ -6,6 +6,7 @@
 --   View             the view's counts are the header's: "1 to 128 states, 1 to 32 symbols and 1 to 16 shapes"
 --   LabelFound       the label's code of a state
 --   BlockFound       where the block of a state and symbol begins, all of it "within the plan words lent"
+--   ChildFound       the code of a position's child: "the largest code in use" is not passed
 --   AnnouncementFound SuccessorFound   a pair of a block: shape and position, state and displacement
 use mathlib.Core.Path.{_≡_}
 use mathlib.Core.Bool.{true}
@@ -13,7 +14,8 @@ use mathlib.Core.List.{List, _++_}
 use mathlib.Core.Option.{some}
 use Prim.Native.Nat.{ℕ, _+_, _*_, _<_, _≤_}
 use lib.ListN.{length, getD, getElem?, drop}
-use Rattle.kinds.specs.Positions.{codeGood}
+use Rattle.kinds.specs.Positions.{codeGood, largest}
+use Rattle.kinds.specs.declared.Position.{Position}
 use Rattle.kinds.specs.declared.Node.{Node}
 use Rattle.term.specs.Terms.{Term, span, depth, flatten, Fits}
 use Rattle.contents.specs.Tables.{blankWord}
@@ -79,3 +81,9 @@ module _ (plan : List ℕ) (states symbols : ℕ) where
     pub begin : ℕ
     pub block : BlockFound s f begin
     pub pair : PairFound plan (middle plan begin) states i x
+
+-- ---- a child of a position
+pub record ChildFound (p : Position) (i c : ℕ) : Type 0 where
+  pub number : (1 ≤ i) × (i ≤ 4)
+  pub code : c ≡ 5 * p .0 + i
+  pub in-use : c ≤ largest
