@@ -116,11 +116,11 @@ fn explore_symbol(
     let mut order = [0u32; 96];
     let mut out = [0u32; 96];
     let i = state.0 as usize;
-    let kids = arity[symbol.0 as usize] as u16;
+    let k = arity[symbol.0 as usize] as u16;
     let at = 128 + 96 * i;
     let n = scratch[i] as usize;
     let outs = outputs(tab, scratch, at, n, root, symbol, &mut out);
-    let d = derive(tab, scratch, at, n, shapes, root, symbol, kids, &mut goals) / 3;
+    let d = derive(tab, scratch, at, n, shapes, root, symbol, k, &mut goals) / 3;
     dependency(tab, &goals, d, &mut dep);
     let classes = class_order(tab, &goals, d, &dep, &mut order);
     meet_all(

@@ -4,6 +4,7 @@ use kinds::Shape;
 use kinds::State;
 
 pub mod parts; // header, labels and block starts of a plan
+mod pairs; // the pairs of a block
 pub mod reading; // labels, announcements and successors for other callers
 
 // A state's label.

@@ -1,11 +1,7 @@
 ghost use mathlib.Core.Path.{_≡_};
-ghost use mathlib.Core.Bool.{false};
-ghost use Prim.Native.Nat.{ℕ, _+_, _*_, _≤_};
-ghost use lib.ListN.{length, getD};
-ghost use Rattle.readers.specs.PlanParts.{countsGood, labelWord, toLabel, pairAt};
-ghost use Rattle.readers.specs.BlockWords.{blockStart, blockFits, begins, pairList, pairOf};
+ghost use Rattle.readers.specs.PlanParts.{countsGood, labelWord, toLabel};
+ghost use Rattle.readers.specs.BlockWords.{blockStart, blockFits, begins};
 use crate::Label;
-use crate::Pair;
 use crate::Start;
 use kinds::Position;
 use kinds::Reason;
@@ -85,25 +81,4 @@ fn block_fits(plan: &[u16], b: usize) -> bool
         return false;
     }
     mid + 1 + 2 * plan[mid] as usize <= plan.len()
-}
-
-// Pair i of those counted at a word, its number below a limit and its code in use.
-pub fn pair_at(plan: &[u16], at: usize, limit: u16, i: usize) -> Pair
-    requires { ⌜ at + 1 + 2 * getD (now plan) at 0 ≤ length (now plan) ⌝ }
-    ensures { λ r. ⌜ pairOf r ≡ pairAt limit (pairList (now (plan .entry)) (at + 1) (getD (now (plan .entry)) at 0)) i ⌝ }
-{
-    let n = plan[at] as usize;
-    if n <= i {
-        return Pair::Nothing;
-    }
-    let number = plan[at + 1 + 2 * i];
-    let by = Position(plan[at + 2 + 2 * i]);
-    if limit <= number {
-        return Pair::Nothing;
-    }
-    let good = by.is_good();
-    if !good {
-        return Pair::Nothing;
-    }
-    Pair::Of(number, by)
 }

@@ -125,23 +125,12 @@ fn write_block(
     let mut order = [0u32; 96];
     let mut out = [0u32; 96];
     let i = state.0 as usize;
-    let kids = arity[symbol.0 as usize] as u16;
+    let k = arity[symbol.0 as usize] as u16;
     let from = 128 + 96 * i;
     let n = scratch[i] as usize;
     let outs = outputs(tab, scratch, from, n, root, symbol, &mut out);
     let next = write_outputs(scratch, from, &out[0..outs], at, plan);
-    let d = derive(
-        tab,
-        scratch,
-        from,
-        n,
-        shapes,
-        root,
-        symbol,
-        kids,
-        &mut goals,
-    )
-        / 3;
+    let d = derive(tab, scratch, from, n, shapes, root, symbol, k, &mut goals) / 3;
     dependency(tab, &goals, d, &mut dep);
     let classes = class_order(tab, &goals, d, &dep, &mut order);
     write_successors(scratch, m, &goals, d, &dep, &order[0..classes], next, plan)

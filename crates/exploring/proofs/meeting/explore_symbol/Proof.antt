@@ -30,14 +30,14 @@ use Rattle.classes.proofs.square.dependency.Reads as dependency-reads
 cast-i : tie.Need-cast-i
 cast-i c = search needs
 
-cast-kids : tie.Need-cast-kids
-cast-kids c = search needs
+cast-k : tie.Need-cast-k
+cast-k c = search needs
 
-shared-slice-read-kids : tie.Need-shared-slice-read-kids
-shared-slice-read-kids c = c .before .before .before .before .before .before .pre .4
+shared-slice-read-k : tie.Need-shared-slice-read-k
+shared-slice-read-k c = c .before .before .before .before .before .before .pre .4
 
-cast-kids-2 : tie.Need-cast-kids-2
-cast-kids-2 c = omega (arith, c .shared-slice-known3 .given (c .before .before .before .before .before .before .args .symbol .0))
+cast-k-2 : tie.Need-cast-k-2
+cast-k-2 c = omega (arith, c .shared-slice-known3 .given (c .before .before .before .before .before .before .args .symbol .0))
 
 mul-at : tie.Need-mul-at
 mul-at c = omega (arith, c .before .before .before .before .before .before .pre .0 .few, c .before .before .before .before .before .before .pre .1)
@@ -118,9 +118,9 @@ explore-symbol-spec =
     tie.close
     (tie.spec
     cast-i
-    cast-kids
-    shared-slice-read-kids
-    cast-kids-2
+    cast-k
+    shared-slice-read-k
+    cast-k-2
     mul-at
     add-at
     mul-n

@@ -4,8 +4,8 @@ use borrow.Author.Tests.{not-true, not-false}
 use lib.ListN.{getD}
 use Rattle.readers.proofs.LawsParts as law
 use borrow.Author.Needs.{needs}
-use Rattle.readers.proofs.parts.pair_at.Statement.{statement}
-use Rattle.readers.proofs.parts.pair_at.Tie as tie
+use Rattle.readers.proofs.pairs.pair_at.Statement.{statement}
+use Rattle.readers.proofs.pairs.pair_at.Tie as tie
 
 mul-n : tie.Need-mul-n
 mul-n c = search needs
