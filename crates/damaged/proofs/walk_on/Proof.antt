@@ -44,7 +44,9 @@ returns : tie.Need-returns Inv-loop μ-loop
 returns c = search needs
 
 loop-holds : tie.Need-loop-holds Inv-loop μ-loop
-loop-holds c = (omega arith, c .before .before .before .before .before .before .start .kept .1 .1 .1 .0, c .before .before .before .before .before .before .start .kept .1 .1 .1 .1 .0, c .before .before .before .before .before .before .start .kept .1 .1 .1 .1 .1 .0)
+loop-holds c =
+    let at-start = c .before .before .before .before .before .before .start in
+    (omega arith, at-start .kept .1 .1 .1 .0, at-start .kept .1 .1 .1 .1 .0, at-start .kept .1 .1 .1 .1 .1 .0)
 
 slice-aggregate-step : tie.Need-slice-aggregate-step Inv-loop μ-loop
 slice-aggregate-step c = search needs
@@ -74,10 +76,16 @@ number-requires : tie.Need-number-requires Inv-loop μ-loop
 number-requires c κs = search needs
 
 slice-aggregate-show-end : tie.Need-slice-aggregate-show-end Inv-loop μ-loop
-slice-aggregate-show-end c = sym (c .before .before .before .before .before .before .before .before .step .kept .1 .1 .1 .1 .0 ∙ c .before .before .before .before .before .before .before .before .before .before .before .before .before .before .before .loop .inv .2)
+slice-aggregate-show-end c =
+    let at-loop = c .before .before .before .before .before .before .before .before .before .before .before .before .before .before .before .loop in
+    let at-step = c .before .before .before .before .before .before .before .before .step in
+    sym (at-step .kept .1 .1 .1 .1 .0 ∙ at-loop .inv .2)
 
 slice-aggregate-show-end-2 : tie.Need-slice-aggregate-show-end-2 Inv-loop μ-loop
-slice-aggregate-show-end-2 c = sym (c .before .before .before .before .before .before .before .before .before .step .kept .1 .1 .1 .1 .1 .0 ∙ c .before .before .before .before .before .before .before .before .before .before .before .before .before .before .before .before .loop .inv .3)
+slice-aggregate-show-end-2 c =
+    let at-loop = c .before .before .before .before .before .before .before .before .before .before .before .before .before .before .before .before .loop in
+    let at-step = c .before .before .before .before .before .before .before .before .before .step in
+    sym (at-step .kept .1 .1 .1 .1 .1 .0 ∙ at-loop .inv .3)
 
 show-end-requires : tie.Need-show-end-requires Inv-loop μ-loop
 show-end-requires c κs = search needs
@@ -92,7 +100,10 @@ loop-less : tie.Need-loop-less Inv-loop μ-loop
 loop-less c = search needs
 
 loop-again : tie.Need-loop-again Inv-loop μ-loop
-loop-again c = (omega arith, c .before .before .before .before .before .before .step .kept .1 .1 .1 .0 ∙ c .before .before .before .before .before .before .before .before .before .before .before .before .before .loop .inv .1, c .before .before .before .before .before .before .step .kept .1 .1 .1 .1 .0 ∙ c .before .before .before .before .before .before .before .before .before .before .before .before .before .loop .inv .2, c .before .before .before .before .before .before .step .kept .1 .1 .1 .1 .1 .0 ∙ c .before .before .before .before .before .before .before .before .before .before .before .before .before .loop .inv .3)
+loop-again c =
+    let at-loop = c .before .before .before .before .before .before .before .before .before .before .before .before .before .loop in
+    let at-step = c .before .before .before .before .before .before .step in
+    (omega arith, at-step .kept .1 .1 .1 .0 ∙ at-loop .inv .1, at-step .kept .1 .1 .1 .1 .0 ∙ at-loop .inv .2, at-step .kept .1 .1 .1 .1 .1 .0 ∙ at-loop .inv .3)
 
 slice-aggregate-show-end-3 : tie.Need-slice-aggregate-show-end-3 Inv-loop μ-loop
 slice-aggregate-show-end-3 c = sym (c .before .before .loop .inv .2)

@@ -21,7 +21,9 @@ length-requires : tie.Need-length-requires Inv-loop μ-loop
 length-requires c κs = search needs
 
 loop-holds : tie.Need-loop-holds Inv-loop μ-loop
-loop-holds c = (omega (arith, c .length .ensures, decode-short 7 (c .before .before .args .p .0)), ap (λ (n : ℕ). c .before .before .args .p .0 * 5 ^ (7 - n)) (c .length .ensures) ∙ padded-start (c .before .before .args .p .0) (omega arith))
+loop-holds c =
+    let entry = c .before .before in
+    (omega (arith, c .length .ensures, decode-short 7 (entry .args .p .0)), ap (λ (n : ℕ). entry .args .p .0 * 5 ^ (7 - n)) (c .length .ensures) ∙ padded-start (entry .args .p .0) (omega arith))
 
 mul-code : tie.Need-mul-code Inv-loop μ-loop
 mul-code c = omega (arith, padded-room (c .before .loop .code) (7 - c .before .loop .n) (c .before .before .before .before .args .p .0) (c .before .loop .inv .1))

@@ -9,7 +9,9 @@ returns : tie.Need-returns
 returns c = search needs
 
 slice-aggregate-result : tie.Need-slice-aggregate-result
-slice-aggregate-result c = sym (length-take-le (c .before .before .args .n) (c .before .before .args .words .now) (omega arith))
+slice-aggregate-result c =
+    let entry = c .before .before in
+    sym (length-take-le (entry .args .n) (entry .args .words .now) (omega arith))
 
 returns-2 : tie.Need-returns-2
 returns-2 c = search needs

@@ -43,7 +43,9 @@ shared-slice-read-show : tie.Need-shared-slice-read-show Inv-loop μ-loop
 shared-slice-read-show c = search needs
 
 cast-show : tie.Need-cast-show Inv-loop μ-loop
-cast-show c = omega (arith, c .shared-slice-known3 .given (c .before .before .before .before .before .before .before .before .loop .i))
+cast-show c =
+    let at-loop = c .before .before .before .before .before .before .before .before .loop in
+    omega (arith, c .shared-slice-known3 .given (at-loop .i))
 
 show-requires-2 : tie.Need-show-requires-2 Inv-loop μ-loop
 show-requires-2 c κs = search needs

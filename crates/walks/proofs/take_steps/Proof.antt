@@ -36,13 +36,22 @@ show-end-requires : tie.Need-show-end-requires Inv-loop μ-loop
 show-end-requires c κs = search needs
 
 same-length : tie.Need-same-length Inv-loop μ-loop
-same-length c = c .before .before .before .before .before .before .before .before .before .before .before .before .take .kept .1 .1 .1 .0 ∙ c .before .before .before .before .before .before .before .before .before .before .before .before .before .before .before .before .before .before .before .loop .inv .0
+same-length c =
+    let at-loop = c .before .before .before .before .before .before .before .before .before .before .before .before .before .before .before .before .before .before .before .loop in
+    let at-take = c .before .before .before .before .before .before .before .before .before .before .before .before .take in
+    at-take .kept .1 .1 .1 .0 ∙ at-loop .inv .0
 
 same-length-2 : tie.Need-same-length-2 Inv-loop μ-loop
-same-length-2 c = c .before .before .before .before .before .before .before .before .before .before .before .before .take .kept .1 .1 .1 .1 .0 ∙ c .before .before .before .before .before .before .before .before .before .before .before .before .before .before .before .before .before .before .before .loop .inv .1
+same-length-2 c =
+    let at-loop = c .before .before .before .before .before .before .before .before .before .before .before .before .before .before .before .before .before .before .before .loop in
+    let at-take = c .before .before .before .before .before .before .before .before .before .before .before .before .take in
+    at-take .kept .1 .1 .1 .1 .0 ∙ at-loop .inv .1
 
 same-length-3 : tie.Need-same-length-3 Inv-loop μ-loop
-same-length-3 c = c .before .before .before .before .before .before .before .before .before .before .before .before .take .kept .1 .1 .1 .1 .1 .0 ∙ c .before .before .before .before .before .before .before .before .before .before .before .before .before .before .before .before .before .before .before .loop .inv .2
+same-length-3 c =
+    let at-loop = c .before .before .before .before .before .before .before .before .before .before .before .before .before .before .before .before .before .before .before .loop in
+    let at-take = c .before .before .before .before .before .before .before .before .before .before .before .before .take in
+    at-take .kept .1 .1 .1 .1 .1 .0 ∙ at-loop .inv .2
 
 returns : tie.Need-returns Inv-loop μ-loop
 returns c = search needs
@@ -54,7 +63,10 @@ loop-less : tie.Need-loop-less Inv-loop μ-loop
 loop-less c = search needs
 
 loop-again : tie.Need-loop-again Inv-loop μ-loop
-loop-again c = (c .before .before .before .before .before .before .before .before .before .take .kept .1 .1 .1 .0 ∙ c .before .before .before .before .before .before .before .before .before .before .before .before .before .before .before .before .loop .inv .0, c .before .before .before .before .before .before .before .before .before .take .kept .1 .1 .1 .1 .0 ∙ c .before .before .before .before .before .before .before .before .before .before .before .before .before .before .before .before .loop .inv .1, c .before .before .before .before .before .before .before .before .before .take .kept .1 .1 .1 .1 .1 .0 ∙ c .before .before .before .before .before .before .before .before .before .before .before .before .before .before .before .before .loop .inv .2)
+loop-again c =
+    let at-loop = c .before .before .before .before .before .before .before .before .before .before .before .before .before .before .before .before .loop in
+    let at-take = c .before .before .before .before .before .before .before .before .before .take in
+    (at-take .kept .1 .1 .1 .0 ∙ at-loop .inv .0, at-take .kept .1 .1 .1 .1 .0 ∙ at-loop .inv .1, at-take .kept .1 .1 .1 .1 .1 .0 ∙ at-loop .inv .2)
 
 same-length-4 : tie.Need-same-length-4 Inv-loop μ-loop
 same-length-4 c = c .before .loop .inv .0

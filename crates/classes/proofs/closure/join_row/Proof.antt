@@ -27,7 +27,9 @@ index-2-if1 : tie.Need-index-2-if1 Inv-loop μ-loop
 index-2-if1 c = search needs
 
 loop-holds : tie.Need-loop-holds Inv-loop μ-loop
-loop-holds c = let a = c .before .before .args in let p = c .before .before .pre in row-none (a .n) (a .k) (a .i) (p .0) (p .1) (p .2) (a .dep .now) (p .3)
+loop-holds c =
+    let entry = c .before .before in
+    let a = entry .args in let p = entry .pre in row-none (a .n) (a .k) (a .i) (p .0) (p .1) (p .2) (a .dep .now) (p .3)
 
 mul-if2 : tie.Need-mul-if2 Inv-loop μ-loop
 mul-if2 c = search needs
@@ -54,10 +56,14 @@ loop-less : tie.Need-loop-less Inv-loop μ-loop
 loop-less c = search needs
 
 loop-again : tie.Need-loop-again Inv-loop μ-loop
-loop-again c = let a = c .before .before .before .before .before .before .args in let p = c .before .before .before .before .before .before .pre in
+loop-again c =
+    let entry = c .before .before .before .before .before .before in
+    let at-loop = c .before .before .before .loop in
+    let at-loop-test = c .before .before .loop-test in
+    let a = entry .args in let p = entry .pre in
     ⊎-elim
-    (λ w. rw (w .1) (row-put (a .n) (a .k) (a .i) (p .0) (p .1) (p .2) (a .dep .now) (c .before .before .loop-test .taken) (c .before .before .before .loop .inv) (c .before .before .before .before .if1 .taken) (w .0 .taken)))
-    (λ w. rw (w .1) (row-skip (a .n) (a .k) (a .i) (p .0) (p .1) (p .2) (a .dep .now) (c .before .before .loop-test .taken) (c .before .before .before .loop .inv) (w .0 .left)))
+    (λ w. rw (w .1) (row-put (a .n) (a .k) (a .i) (p .0) (p .1) (p .2) (a .dep .now) (at-loop-test .taken) (at-loop .inv) (c .before .before .before .before .if1 .taken) (w .0 .taken)))
+    (λ w. rw (w .1) (row-skip (a .n) (a .k) (a .i) (p .0) (p .1) (p .2) (a .dep .now) (at-loop-test .taken) (at-loop .inv) (w .0 .left)))
     (c .if2 .came)
 
 returns : tie.Need-returns Inv-loop μ-loop

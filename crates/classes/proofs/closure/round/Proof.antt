@@ -18,7 +18,9 @@ loop-holds : tie.Need-loop-holds Inv-loop μ-loop
 loop-holds c = record { within = omega arith; square = c .pre .2; grown = grown-refl _ _; joined = λ a h. absurd (omega arith) }
 
 join-row-requires : tie.Need-join-row-requires Inv-loop μ-loop
-join-row-requires c κs = (c .before .before .before .pre .0, c .before .before .before .pre .1, c .before .loop-test .taken, c .before .before .loop .inv .square)
+join-row-requires c κs =
+    let entry = c .before .before .before in
+    (entry .pre .0, entry .pre .1, c .before .loop-test .taken, c .before .before .loop .inv .square)
 
 add-i : tie.Need-add-i Inv-loop μ-loop
 add-i c = search needs

@@ -32,7 +32,10 @@ index-2-if1 : tie.Need-index-2-if1 Inv-loop μ-loop
 index-2-if1 c = search needs
 
 returns : tie.Need-returns Inv-loop μ-loop
-returns c = let a = c .before .before .before .before .args in let l = c .before .before .before .loop in sym (l .inv .1 ∙ leads-no (getD (a .dep .now) (a .i) []) (a .i) (l .j) (omega (arith, c .before .before .loop-test .taken, c .before .before .before .before .pre .0, c .before .before .before .before .pre .1 .cols (a .i) (c .before .before .before .before .pre .0))) (c .before .before .loop-test .taken) (c .if1 .taken))
+returns c =
+    let entry = c .before .before .before .before in
+    let at-loop-test = c .before .before .loop-test in
+    let a = entry .args in let l = c .before .before .before .loop in sym (l .inv .1 ∙ leads-no (getD (a .dep .now) (a .i) []) (a .i) (l .j) (omega (arith, at-loop-test .taken, entry .pre .0, entry .pre .1 .cols (a .i) (entry .pre .0))) (at-loop-test .taken) (c .if1 .taken))
 
 add-j : tie.Need-add-j Inv-loop μ-loop
 add-j c = search needs
@@ -41,7 +44,10 @@ loop-less : tie.Need-loop-less Inv-loop μ-loop
 loop-less c = search needs
 
 loop-again : tie.Need-loop-again Inv-loop μ-loop
-loop-again c = let a = c .before .before .before .before .args in let l = c .before .before .before .loop in (omega arith, l .inv .1 ∙ leads-next (getD (a .dep .now) (a .i) []) (a .i) (l .j) (omega (arith, c .before .before .loop-test .taken, c .before .before .before .before .pre .0, c .before .before .before .before .pre .1 .cols (a .i) (c .before .before .before .before .pre .0))) (c .before .before .loop-test .taken) (c .if1 .left))
+loop-again c =
+    let entry = c .before .before .before .before in
+    let at-loop-test = c .before .before .loop-test in
+    let a = entry .args in let l = c .before .before .before .loop in (omega arith, l .inv .1 ∙ leads-next (getD (a .dep .now) (a .i) []) (a .i) (l .j) (omega (arith, at-loop-test .taken, entry .pre .0, entry .pre .1 .cols (a .i) (entry .pre .0))) (at-loop-test .taken) (c .if1 .left))
 
 mul-result : tie.Need-mul-result Inv-loop μ-loop
 mul-result c = search needs
@@ -53,7 +59,9 @@ index-2-result : tie.Need-index-2-result Inv-loop μ-loop
 index-2-result c = search needs
 
 returns-2 : tie.Need-returns-2 Inv-loop μ-loop
-returns-2 c = let a = c .before .before .before .args in let l = c .before .before .loop in sym (l .inv .1 ∙ leads-end (getD (a .dep .now) (a .i) []) (a .i) (l .j) (omega (arith, c .before .before .before .pre .0, c .before .before .before .pre .1 .cols (a .i) (c .before .before .before .pre .0))) (omega (arith, l .inv .0, c .before .loop-test .left)))
+returns-2 c =
+    let entry = c .before .before .before in
+    let a = entry .args in let l = c .before .before .loop in sym (l .inv .1 ∙ leads-end (getD (a .dep .now) (a .i) []) (a .i) (l .j) (omega (arith, entry .pre .0, entry .pre .1 .cols (a .i) (entry .pre .0))) (omega (arith, l .inv .0, c .before .loop-test .left)))
 
 pub leader-spec : {M : Type 1} → statement M
 leader-spec =

@@ -41,13 +41,20 @@ goal-at-requires : tie.Need-goal-at-requires Inv-loop μ-loop
 goal-at-requires c κs = search needs
 
 put-goal-requires : tie.Need-put-goal-requires Inv-loop μ-loop
-put-goal-requires c κs = let a = c .before .before .before .before .before .before .before .before .args in let l = c .before .before .before .before .before .loop in
-    let p = pick-on (getD (a .dep .now) (a .i) []) (a .ws .now) (l .here) (a .n) (l .j) (c .before .before .before .before .loop-test .taken) (omega (arith, c .before .before .before .before .loop-test .taken, c .before .before .before .before .before .before .before .before .pre .0, c .before .before .before .before .before .before .before .before .pre .2 .cols (a .i) (c .before .before .before .before .before .before .before .before .pre .1))) (c .before .before .if1 .taken) in
+put-goal-requires c κs =
+    let entry = c .before .before .before .before .before .before .before .before in
+    let at-loop-test = c .before .before .before .before .loop-test in
+    let a = entry .args in let l = c .before .before .before .before .before .loop in
+    let p = pick-on (getD (a .dep .now) (a .i) []) (a .ws .now) (l .here) (a .n) (l .j) (at-loop-test .taken) (omega (arith, at-loop-test .taken, entry .pre .0, entry .pre .2 .cols (a .i) (entry .pre .1))) (c .before .before .if1 .taken) in
     omega (arith, ap length p)
 
 add-next : tie.Need-add-next Inv-loop μ-loop
-add-next c = let a = c .before .before .before .before .before .before .before .before .before .before .before .args in let l = c .before .before .before .before .before .before .before .before .loop in
-    let p = pick-on (getD (a .dep .now) (a .i) []) (a .ws .now) (l .here) (a .n) (l .j) (c .before .before .before .before .before .before .before .loop-test .taken) (omega (arith, c .before .before .before .before .before .before .before .loop-test .taken, c .before .before .before .before .before .before .before .before .before .before .before .pre .0, c .before .before .before .before .before .before .before .before .before .before .before .pre .2 .cols (a .i) (c .before .before .before .before .before .before .before .before .before .before .before .pre .1))) (c .before .before .before .before .before .if1 .taken) in
+add-next c =
+    let entry = c .before .before .before .before .before .before .before .before .before .before .before in
+    let at-loop = c .before .before .before .before .before .before .before .before .loop in
+    let at-loop-test = c .before .before .before .before .before .before .before .loop-test in
+    let a = entry .args in let l = at-loop in
+    let p = pick-on (getD (a .dep .now) (a .i) []) (a .ws .now) (l .here) (a .n) (l .j) (at-loop-test .taken) (omega (arith, at-loop-test .taken, entry .pre .0, entry .pre .2 .cols (a .i) (entry .pre .1))) (c .before .before .before .before .before .if1 .taken) in
     omega (arith, ap length p)
 
 add-here : tie.Need-add-here Inv-loop μ-loop
@@ -60,19 +67,22 @@ loop-less : tie.Need-loop-less Inv-loop μ-loop
 loop-less c = search needs
 
 loop-again : tie.Need-loop-again Inv-loop μ-loop
-loop-again c = let a = c .before .before .before .before .before .before .args in let l = c .before .before .before .loop in
+loop-again c =
+    let entry = c .before .before .before .before .before .before in
+    let at-loop-test = c .before .before .loop-test in
+    let a = entry .args in let l = c .before .before .before .loop in
     let row = getD (a .dep .now) (a .i) [] in
-    let in-row : l .j < length row = omega (arith, c .before .before .loop-test .taken, c .before .before .before .before .before .before .pre .0, c .before .before .before .before .before .before .pre .2 .cols (a .i) (c .before .before .before .before .before .before .pre .1)) in
+    let in-row : l .j < length row = omega (arith, at-loop-test .taken, entry .pre .0, entry .pre .2 .cols (a .i) (entry .pre .1)) in
     let rest = Left row (a .ws .now) (l .here + 3) (a .n) (l .j + 1) in
     ⊎-elim
-    (λ w. let p = pick-on row (a .ws .now) (l .here) (a .n) (l .j) (c .before .before .loop-test .taken) in-row (w .0 .taken) in (
+    (λ w. let p = pick-on row (a .ws .now) (l .here) (a .n) (l .j) (at-loop-test .taken) in-row (w .0 .taken) in (
       omega arith,
       omega arith,
       ap length (w .6) ∙ w .3 .kept .0 ∙ l .inv .2,
       omega (arith, w .7, ap length p),
       l .inv .4 ∙ ap (sets (l .out) (l .next)) p ∙ run-three (l .out) (l .next) _ _ _ rest ∙ rw (w .7, w .6, w .3 .ensures, w .2 .ensures) refl,
     ))
-    (λ w. let p = pick-off row (a .ws .now) (l .here) (a .n) (l .j) (c .before .before .loop-test .taken) in-row (w .0 .left) in
+    (λ w. let p = pick-off row (a .ws .now) (l .here) (a .n) (l .j) (at-loop-test .taken) in-row (w .0 .left) in
     (omega arith, omega arith, ap length (w .1) ∙ l .inv .2, omega (arith, w .2, ap length p), rw (w .1, w .2) (l .inv .4 ∙ ap (sets (l .out) (l .next)) p)))
     (c .if1 .came)
 

@@ -25,15 +25,21 @@ abbrev μ-loop : tie.MeasureT-loop
 
 -- src/order.rt:31:5
 loop-holds : tie.Need-loop-holds Inv-loop μ-loop
-loop-holds c = listed-begin (begins (c .before .before .before .args .dep .now)) (λ x. classKey (c .before .before .before .args .tab .now) (classAt (c .before .before .before .args .dep .now) (c .before .before .before .args .ws .now) (c .before .before .before .args .n) x)) (c .before .before .before .args .n) (c .before .before .before .args .items .now)
+loop-holds c =
+    let entry = c .before .before .before in
+    listed-begin (begins (entry .args .dep .now)) (λ x. classKey (entry .args .tab .now) (classAt (entry .args .dep .now) (entry .args .ws .now) (entry .args .n) x)) (entry .args .n) (entry .args .items .now)
 
 -- src/order.rt:32:12
 leader-requires : tie.Need-leader-requires Inv-loop μ-loop
-leader-requires c κs = (omega (arith, c .loop-test .taken, c .before .before .before .before .before .pre .1), c .before .before .before .before .before .pre .4)
+leader-requires c κs =
+    let entry = c .before .before .before .before .before in
+    (omega (arith, c .loop-test .taken, entry .pre .1), entry .pre .4)
 
 -- src/order.rt:33:37
 first-in-row-requires : tie.Need-first-in-row-requires Inv-loop μ-loop
-first-in-row-requires c κs = (c .before .before .before .before .before .before .before .pre .0, c .before .before .before .before .before .before .before .pre .1, c .before .before .before .before .before .before .before .pre .2, c .before .before .before .before .before .before .before .pre .3, c .before .before .before .before .before .before .before .pre .4, omega (arith, c .before .before .loop-test .taken, c .before .before .before .before .before .before .before .pre .1))
+first-in-row-requires c κs =
+    let entry = c .before .before .before .before .before .before .before in
+    (entry .pre .0, entry .pre .1, entry .pre .2, entry .pre .3, entry .pre .4, omega (arith, c .before .before .loop-test .taken, entry .pre .1))
 
 -- src/order.rt:33:30
 padded-requires : tie.Need-padded-requires Inv-loop μ-loop
@@ -41,8 +47,11 @@ padded-requires c κs = search needs
 
 -- src/order.rt:33:24
 mul-items : tie.Need-mul-items Inv-loop μ-loop
-mul-items c = let e = c .padded .ensures ∙ ap pad (c .before .first-in-row .ensures) ∙ sym (key-of (c .before .before .before .before .before .before .before .before .before .args .tab .now) (classAt (c .before .before .before .before .before .before .before .before .before .args .dep .now) (c .before .before .before .before .before .before .before .before .before .args .ws .now) (c .before .before .before .before .before .before .before .before .before .args .n) (c .before .before .before .before .before .loop .i))) in
-    omega (arith, e, key-small (c .before .before .before .before .before .before .before .before .before .args .tab .now) (classAt (c .before .before .before .before .before .before .before .before .before .args .dep .now) (c .before .before .before .before .before .before .before .before .before .args .ws .now) (c .before .before .before .before .before .before .before .before .before .args .n) (c .before .before .before .before .before .loop .i)))
+mul-items c =
+    let entry = c .before .before .before .before .before .before .before .before .before in
+    let at-loop = c .before .before .before .before .before .loop in
+    let e = c .padded .ensures ∙ ap pad (c .before .first-in-row .ensures) ∙ sym (key-of (entry .args .tab .now) (classAt (entry .args .dep .now) (entry .args .ws .now) (entry .args .n) (at-loop .i))) in
+    omega (arith, e, key-small (entry .args .tab .now) (classAt (entry .args .dep .now) (entry .args .ws .now) (entry .args .n) (at-loop .i)))
 
 -- src/order.rt:33:73
 cast-items : tie.Need-cast-items Inv-loop μ-loop
@@ -50,20 +59,29 @@ cast-items c = search needs
 
 -- src/order.rt:33:24
 add-items : tie.Need-add-items Inv-loop μ-loop
-add-items c = let e = c .padded .ensures ∙ ap pad (c .before .first-in-row .ensures) ∙ sym (key-of (c .before .before .before .before .before .before .before .before .before .args .tab .now) (classAt (c .before .before .before .before .before .before .before .before .before .args .dep .now) (c .before .before .before .before .before .before .before .before .before .args .ws .now) (c .before .before .before .before .before .before .before .before .before .args .n) (c .before .before .before .before .before .loop .i))) in
-    omega (arith, e, key-small (c .before .before .before .before .before .before .before .before .before .args .tab .now) (classAt (c .before .before .before .before .before .before .before .before .before .args .dep .now) (c .before .before .before .before .before .before .before .before .before .args .ws .now) (c .before .before .before .before .before .before .before .before .before .args .n) (c .before .before .before .before .before .loop .i)))
+add-items c =
+    let entry = c .before .before .before .before .before .before .before .before .before in
+    let at-loop = c .before .before .before .before .before .loop in
+    let e = c .padded .ensures ∙ ap pad (c .before .first-in-row .ensures) ∙ sym (key-of (entry .args .tab .now) (classAt (entry .args .dep .now) (entry .args .ws .now) (entry .args .n) (at-loop .i))) in
+    omega (arith, e, key-small (entry .args .tab .now) (classAt (entry .args .dep .now) (entry .args .ws .now) (entry .args .n) (at-loop .i)))
 
 -- src/order.rt:33:13
 mul-items-2 : tie.Need-mul-items-2 Inv-loop μ-loop
-mul-items-2 c = let s = c .before .before .before .before .before .loop .inv in omega (arith, s .few, s .long, c .before .before .before .before .before .before .before .before .before .pre .5, c .before .before .before .before .before .before .before .before .before .pre .1)
+mul-items-2 c =
+    let entry = c .before .before .before .before .before .before .before .before .before in
+    let s = c .before .before .before .before .before .loop .inv in omega (arith, s .few, s .long, entry .pre .5, entry .pre .1)
 
 -- src/order.rt:33:13
 slice-write-items : tie.Need-slice-write-items Inv-loop μ-loop
-slice-write-items c = let s = c .before .before .before .before .before .loop .inv in omega (arith, s .few, s .long, c .before .before .before .before .before .before .before .before .before .pre .5, c .before .before .before .before .before .before .before .before .before .pre .1)
+slice-write-items c =
+    let entry = c .before .before .before .before .before .before .before .before .before in
+    let s = c .before .before .before .before .before .loop .inv in omega (arith, s .few, s .long, entry .pre .5, entry .pre .1)
 
 -- src/order.rt:34:13
 add-k : tie.Need-add-k Inv-loop μ-loop
-add-k c = let s = c .before .before .before .before .before .loop .inv in omega (arith, s .few, c .before .before .before .before .before .before .before .before .before .pre .1)
+add-k c =
+    let entry = c .before .before .before .before .before .before .before .before .before in
+    let s = c .before .before .before .before .before .loop .inv in omega (arith, s .few, entry .pre .1)
 
 -- src/order.rt:36:9
 add-i : tie.Need-add-i Inv-loop μ-loop
@@ -75,15 +93,20 @@ loop-less c = search needs
 
 -- src/order.rt:31:5
 loop-again : tie.Need-loop-again Inv-loop μ-loop
-loop-again c = let a = c .before .before .before .before .before .before .before .args in let l = c .before .before .before .loop in
+loop-again c =
+    let entry = c .before .before .before .before .before .before .before in
+    let at-loop-test = c .before .before .loop-test in
+    let a = entry .args in let l = c .before .before .before .loop in
     ⊎-elim
-    (λ w. rw (w .3, w .4) (listed-on (l .inv) (c .before .before .loop-test .taken) (sym (c .before .leader .ensures) ∙ w .0 .taken) _ (ap (λ x. 128 * x + l .i) (w .2 .ensures ∙ ap pad (w .1 .ensures) ∙ sym (key-of (a .tab .now) (classAt (a .dep .now) (a .ws .now) (a .n) (l .i)))))))
-    (λ w. rw (w .1, w .2) (listed-off (l .inv) (c .before .before .loop-test .taken) (sym (c .before .leader .ensures) ∙ w .0 .left)))
+    (λ w. rw (w .3, w .4) (listed-on (l .inv) (at-loop-test .taken) (sym (c .before .leader .ensures) ∙ w .0 .taken) _ (ap (λ x. 128 * x + l .i) (w .2 .ensures ∙ ap pad (w .1 .ensures) ∙ sym (key-of (a .tab .now) (classAt (a .dep .now) (a .ws .now) (a .n) (l .i)))))))
+    (λ w. rw (w .1, w .2) (listed-off (l .inv) (at-loop-test .taken) (sym (c .before .leader .ensures) ∙ w .0 .left)))
     (c .if1 .came)
 
 -- src/order.rt:38:5
 arrange-requires : tie.Need-arrange-requires Inv-loop μ-loop
-arrange-requires c κs = let s = c .before .before .loop .inv in omega (arith, s .few, s .long, s .below, c .before .before .before .before .before .before .pre .5)
+arrange-requires c κs =
+    let entry = c .before .before .before .before .before .before in
+    let s = c .before .before .loop .inv in omega (arith, s .few, s .long, s .below, entry .pre .5)
 
 -- src/order.rt:18:1
 same-length : tie.Need-same-length Inv-loop μ-loop
@@ -91,7 +114,9 @@ same-length c = c .before .before .arrange .kept .0 ∙ c .before .before .befor
 
 -- src/order.rt:18:1
 returns : tie.Need-returns Inv-loop μ-loop
-returns c = listed-end (c .before .before .before .before .before .loop .inv) (c .before .before .before .before .loop-test .left) (c .before .before .before .before .before .before .before .before .before .pre .5) _ (c .before .before .arrange .ensures)
+returns c =
+    let entry = c .before .before .before .before .before .before .before .before .before in
+    listed-end (c .before .before .before .before .before .loop .inv) (c .before .before .before .before .loop-test .left) (entry .pre .5) _ (c .before .before .arrange .ensures)
 
 pub class-order-spec : {M : Type 1} → statement M
 class-order-spec =

@@ -39,7 +39,9 @@ goal-at-requires : tie.Need-goal-at-requires Inv-loop μ-loop
 goal-at-requires c κs = search needs
 
 first-owed-requires : tie.Need-first-owed-requires Inv-loop μ-loop
-first-owed-requires c κs = rw (c .goal-at .ensures) (c .before .before .before .before .before .before .before .pre .0, c .before .before .before .before .before .before .before .pre .3 (c .before .before .before .before .loop .j) (c .before .before .before .loop-test .taken))
+first-owed-requires c κs =
+    let entry = c .before .before .before .before .before .before .before in
+    rw (c .goal-at .ensures) (entry .pre .0, entry .pre .3 (c .before .before .before .before .loop .j) (c .before .before .before .loop-test .taken))
 
 add-j : tie.Need-add-j Inv-loop μ-loop
 add-j c = search needs
@@ -48,12 +50,15 @@ loop-less : tie.Need-loop-less Inv-loop μ-loop
 loop-less c = search needs
 
 loop-again : tie.Need-loop-again Inv-loop μ-loop
-loop-again c = let a = c .before .before .before .before .before .before .args in let l = c .before .before .before .loop in
+loop-again c =
+    let entry = c .before .before .before .before .before .before in
+    let at-loop-test = c .before .before .loop-test in
+    let a = entry .args in let l = c .before .before .before .loop in
     let row = getD (a .dep .now) (a .i) [] in
-    let inside : l .j < length row = omega (arith, c .before .before .loop-test .taken, c .before .before .before .before .before .before .pre .1, c .before .before .before .before .before .before .pre .4 .cols (a .i) (c .before .before .before .before .before .before .pre .5)) in
+    let inside : l .j < length row = omega (arith, at-loop-test .taken, entry .pre .1, entry .pre .4 .cols (a .i) (entry .pre .5)) in
     ⊎-elim
-    (λ w. (omega arith, rw (w .3, w .2 .ensures, w .1 .ensures) (l .inv .1 ∙ first-on (a .tab .now) row (a .ws .now) (a .n) (l .best) (l .j) (c .before .before .loop-test .taken) inside (w .0 .taken))))
-    (λ w. (omega arith, rw (w .1) (l .inv .1 ∙ first-off (a .tab .now) row (a .ws .now) (a .n) (l .best) (l .j) (c .before .before .loop-test .taken) inside (w .0 .left))))
+    (λ w. (omega arith, rw (w .3, w .2 .ensures, w .1 .ensures) (l .inv .1 ∙ first-on (a .tab .now) row (a .ws .now) (a .n) (l .best) (l .j) (at-loop-test .taken) inside (w .0 .taken))))
+    (λ w. (omega arith, rw (w .1) (l .inv .1 ∙ first-off (a .tab .now) row (a .ws .now) (a .n) (l .best) (l .j) (at-loop-test .taken) inside (w .0 .left))))
     (c .if1 .came)
 
 returns : tie.Need-returns Inv-loop μ-loop

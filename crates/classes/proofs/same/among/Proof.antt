@@ -38,7 +38,9 @@ same-goal-requires : tie.Need-same-goal-requires Inv-loop μ-loop
 same-goal-requires c κs = search needs
 
 returns : tie.Need-returns Inv-loop μ-loop
-returns c = let a = c .before .before .before .before .before .before .args in let l = c .before .before .before .before .loop in sym (l .inv .1 ∙ among-here (wordsOf (a .g)) (a .vs .now) (l .here) (l .left) (c .before .before .before .loop-test .taken) (sym (c .before .same-goal .ensures ∙ ap (λ (x : Goal). sameW (wordsOf (a .g)) (wordsOf x)) (c .before .before .goal-at .ensures)) ∙ c .if1 .taken))
+returns c =
+    let entry = c .before .before .before .before .before .before in
+    let a = entry .args in let l = c .before .before .before .before .loop in sym (l .inv .1 ∙ among-here (wordsOf (a .g)) (a .vs .now) (l .here) (l .left) (c .before .before .before .loop-test .taken) (sym (c .before .same-goal .ensures ∙ ap (λ (x : Goal). sameW (wordsOf (a .g)) (wordsOf x)) (c .before .before .goal-at .ensures)) ∙ c .if1 .taken))
 
 add-here : tie.Need-add-here Inv-loop μ-loop
 add-here c = search needs
@@ -50,7 +52,9 @@ loop-less : tie.Need-loop-less Inv-loop μ-loop
 loop-less c = search needs
 
 loop-again : tie.Need-loop-again Inv-loop μ-loop
-loop-again c = let a = c .before .before .before .before .before .before .args in let l = c .before .before .before .before .loop in (omega arith, l .inv .1 ∙ among-not (wordsOf (a .g)) (a .vs .now) (l .here) (l .left) (c .before .before .before .loop-test .taken) (sym (c .before .same-goal .ensures ∙ ap (λ (x : Goal). sameW (wordsOf (a .g)) (wordsOf x)) (c .before .before .goal-at .ensures)) ∙ c .if1 .left))
+loop-again c =
+    let entry = c .before .before .before .before .before .before in
+    let a = entry .args in let l = c .before .before .before .before .loop in (omega arith, l .inv .1 ∙ among-not (wordsOf (a .g)) (a .vs .now) (l .here) (l .left) (c .before .before .before .loop-test .taken) (sym (c .before .same-goal .ensures ∙ ap (λ (x : Goal). sameW (wordsOf (a .g)) (wordsOf x)) (c .before .before .goal-at .ensures)) ∙ c .if1 .left))
 
 returns-2 : tie.Need-returns-2 Inv-loop μ-loop
 returns-2 c = let a = c .before .before .before .args in let l = c .before .loop in sym (l .inv .1 ∙ among-end (wordsOf (a .g)) (a .vs .now) (l .here) (l .left) (c .loop-test .left))

@@ -42,7 +42,9 @@ loop-less : tie.Need-loop-less Inv-loop μ-loop
 loop-less c = search needs
 
 loop-again : tie.Need-loop-again Inv-loop μ-loop
-loop-again c = let a = c .before .before .before .args in let l = c .before .before .loop in (omega arith, length-set (l .out) (l .i) _ ∙ l .inv .1, l .inv .2 ∙ copy-next (a .ws .now) (l .out) (a .at) (a .n) (l .i) (c .before .loop-test .taken) (c .before .before .before .pre .0))
+loop-again c =
+    let entry = c .before .before .before in
+    let a = entry .args in let l = c .before .before .loop in (omega arith, length-set (l .out) (l .i) _ ∙ l .inv .1, l .inv .2 ∙ copy-next (a .ws .now) (l .out) (a .at) (a .n) (l .i) (c .before .loop-test .taken) (entry .pre .0))
 
 same-length : tie.Need-same-length Inv-loop μ-loop
 same-length c = search needs

@@ -17,10 +17,14 @@ returns : tie.Need-returns
 returns c = let a = c .before .before .before .args in sym (other-shape (wordsOf (a .g)) (wordsOf (a .h)) (c .if1 .taken))
 
 returns-2 : tie.Need-returns-2
-returns-2 c = let a = c .before .before .before .before .before .before .args in sym (other-place (wordsOf (a .g)) (wordsOf (a .h)) (c .before .before .before .if1 .left) (c .if2 .taken))
+returns-2 c =
+    let entry = c .before .before .before .before .before .before in
+    let a = entry .args in sym (other-place (wordsOf (a .g)) (wordsOf (a .h)) (c .before .before .before .if1 .left) (c .if2 .taken))
 
 returns-3 : tie.Need-returns-3
-returns-3 c = let a = c .before .before .before .before .before .before .before .before .args in sym (by-mask (wordsOf (a .g)) (wordsOf (a .h)) (c .before .before .before .before .before .if1 .left) (c .before .before .if2 .left))
+returns-3 c =
+    let entry = c .before .before .before .before .before .before .before .before in
+    let a = entry .args in sym (by-mask (wordsOf (a .g)) (wordsOf (a .h)) (c .before .before .before .before .before .if1 .left) (c .before .before .if2 .left))
 
 pub same-goal-spec : {M : Type 1} → statement M
 same-goal-spec = tie.close (tie.spec returns returns-2 returns-3)

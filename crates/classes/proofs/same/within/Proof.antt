@@ -44,10 +44,14 @@ loop-less : tie.Need-loop-less Inv-loop μ-loop
 loop-less c = search needs
 
 loop-again : tie.Need-loop-again Inv-loop μ-loop
-loop-again c = let a = c .before .before .before .before .before .before .before .args in let l = c .before .before .before .before .loop in (omega arith, l .inv .1 ∙ within-on (goalsFrom (a .vs .now) (a .at) (a .k)) (a .ws .now) (l .here) (l .left) (c .before .before .before .loop-test .taken) (sym (c .before .among .ensures ∙ ap (λ (x : Goal). amongW (wordsOf x) (goalsFrom (a .vs .now) (a .at) (a .k))) (c .before .before .goal-at .ensures)) ∙ c .if1 .taken))
+loop-again c =
+    let entry = c .before .before .before .before .before .before .before in
+    let a = entry .args in let l = c .before .before .before .before .loop in (omega arith, l .inv .1 ∙ within-on (goalsFrom (a .vs .now) (a .at) (a .k)) (a .ws .now) (l .here) (l .left) (c .before .before .before .loop-test .taken) (sym (c .before .among .ensures ∙ ap (λ (x : Goal). amongW (wordsOf x) (goalsFrom (a .vs .now) (a .at) (a .k))) (c .before .before .goal-at .ensures)) ∙ c .if1 .taken))
 
 returns : tie.Need-returns Inv-loop μ-loop
-returns c = let a = c .before .before .before .before .before .before .before .args in let l = c .before .before .before .before .loop in sym (l .inv .1 ∙ within-off (goalsFrom (a .vs .now) (a .at) (a .k)) (a .ws .now) (l .here) (l .left) (c .before .before .before .loop-test .taken) (sym (c .before .among .ensures ∙ ap (λ (x : Goal). amongW (wordsOf x) (goalsFrom (a .vs .now) (a .at) (a .k))) (c .before .before .goal-at .ensures)) ∙ c .if1 .left))
+returns c =
+    let entry = c .before .before .before .before .before .before .before in
+    let a = entry .args in let l = c .before .before .before .before .loop in sym (l .inv .1 ∙ within-off (goalsFrom (a .vs .now) (a .at) (a .k)) (a .ws .now) (l .here) (l .left) (c .before .before .before .loop-test .taken) (sym (c .before .among .ensures ∙ ap (λ (x : Goal). amongW (wordsOf x) (goalsFrom (a .vs .now) (a .at) (a .k))) (c .before .before .goal-at .ensures)) ∙ c .if1 .left))
 
 returns-2 : tie.Need-returns-2 Inv-loop μ-loop
 returns-2 c = let a = c .before .before .before .before .args in let l = c .before .loop in sym (l .inv .1 ∙ within-end (goalsFrom (a .vs .now) (a .at) (a .k)) (a .ws .now) (l .here) (l .left) (c .loop-test .left))

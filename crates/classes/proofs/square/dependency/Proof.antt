@@ -14,9 +14,12 @@ close-requires : tie.Need-close-requires
 close-requires c κs = search needs
 
 returns : tie.Need-returns
-returns c = let a = c .before .before .before .before .before .before .args in let e = c .before .before .fill .ensures in let k = c .close .ensures in
+returns c =
+    let entry = c .before .before .before .before .before .before in
+    let at-fill = c .before .before .fill in
+    let a = entry .args in let e = at-fill .ensures in let k = c .close .ensures in
     let p : ℕ → ℕ → Bool = λ i j. depW (a .tab .now) (goalAt (a .ws .now) (3 * i)) (goalAt (a .ws .now) (3 * j)) in
-    let d = c .before .before .fill .last .1 .1 .1 .0 in
+    let d = at-fill .last .1 .1 .1 .0 in
     (k .0, ((λ x y hx hy z. reach-linked (a .n) p d (e .1) hx hy (k .1 .0 .sound x y z)), (λ x y hx hy z. k .1 .1 x y hx hy (linked-reach (a .n) p d (e .1) hx hy z))))
 
 pub dependency-spec : {M : Type 1} → statement M

@@ -15,10 +15,14 @@ abbrev μ-loop : tie.MeasureT-loop
 μ-loop tab ws n dep₀ i₀ dep i = n - i
 
 loop-holds : tie.Need-loop-holds Inv-loop μ-loop
-loop-holds c = let a = c .before .before .args in (omega arith, rows-none (a .n) (λ x b. depW (a .tab .now) (goalAt (a .ws .now) (3 * x)) (goalAt (a .ws .now) (3 * b))) (a .dep .now) (c .before .before .pre .4))
+loop-holds c =
+    let entry = c .before .before in
+    let a = entry .args in (omega arith, rows-none (a .n) (λ x b. depW (a .tab .now) (goalAt (a .ws .now) (3 * x)) (goalAt (a .ws .now) (3 * b))) (a .dep .now) (entry .pre .4))
 
 fill-row-requires : tie.Need-fill-row-requires Inv-loop μ-loop
-fill-row-requires c κs = (c .before .before .before .before .before .pre .0, c .before .before .before .before .before .pre .1, c .before .loop-test .taken, c .before .before .before .before .before .pre .2, c .before .before .before .before .before .pre .3, c .before .before .loop .inv .1 .square)
+fill-row-requires c κs =
+    let entry = c .before .before .before .before .before in
+    (entry .pre .0, entry .pre .1, c .before .loop-test .taken, entry .pre .2, entry .pre .3, c .before .before .loop .inv .1 .square)
 
 add-i : tie.Need-add-i Inv-loop μ-loop
 add-i c = search needs
@@ -27,7 +31,9 @@ loop-less : tie.Need-loop-less Inv-loop μ-loop
 loop-less c = search needs
 
 loop-again : tie.Need-loop-again Inv-loop μ-loop
-loop-again c = let a = c .before .before .before .before .before .before .args in let l = c .before .before .before .loop in let e = c .fill-row .ensures in
+loop-again c =
+    let entry = c .before .before .before .before .before .before in
+    let a = entry .args in let l = c .before .before .before .loop in let e = c .fill-row .ensures in
     (omega arith, rows-more (a .n) (λ x b. depW (a .tab .now) (goalAt (a .ws .now) (3 * x)) (goalAt (a .ws .now) (3 * b))) (l .dep) (c .fill-row .last .1 .1 .1 .1 .0) (l .i) (l .inv .1) (e .0) (e .1 .0) (e .1 .1))
 
 returns : tie.Need-returns Inv-loop μ-loop

@@ -29,7 +29,9 @@ goal-at-requires : tie.Need-goal-at-requires Inv-loop μ-loop
 goal-at-requires c κs = search needs
 
 loop-holds : tie.Need-loop-holds Inv-loop μ-loop
-loop-holds c = let a = c .before .before .before .args in (omega arith, row-none (a .i) (λ b. depW (a .tab .now) (goalAt (a .ws .now) (3 * a .i)) (goalAt (a .ws .now) (3 * b))) (a .dep .now) (c .before .before .before .pre .5))
+loop-holds c =
+    let entry = c .before .before .before in
+    let a = entry .args in (omega arith, row-none (a .i) (λ b. depW (a .tab .now) (goalAt (a .ws .now) (3 * a .i)) (goalAt (a .ws .now) (3 * b))) (a .dep .now) (entry .pre .5))
 
 mul-goal-at-2 : tie.Need-mul-goal-at-2 Inv-loop μ-loop
 mul-goal-at-2 c = search needs
@@ -38,7 +40,9 @@ goal-at-requires-2 : tie.Need-goal-at-requires-2 Inv-loop μ-loop
 goal-at-requires-2 c κs = search needs
 
 depends-requires : tie.Need-depends-requires Inv-loop μ-loop
-depends-requires c κs = rw (c .before .before .before .goal-at .ensures, c .goal-at2 .ensures) (c .before .before .before .before .before .before .pre .0, c .before .before .before .before .before .before .pre .4 (c .before .before .before .before .before .before .args .i) (c .before .before .before .before .before .before .pre .2), c .before .before .before .before .before .before .pre .4 (c .before .before .loop .j) (c .before .loop-test .taken))
+depends-requires c κs =
+    let entry = c .before .before .before .before .before .before in
+    rw (c .before .before .before .goal-at .ensures, c .goal-at2 .ensures) (entry .pre .0, entry .pre .4 (entry .args .i) (entry .pre .2), entry .pre .4 (c .before .before .loop .j) (c .before .loop-test .taken))
 
 mul-dep : tie.Need-mul-dep Inv-loop μ-loop
 mul-dep c = search needs
@@ -56,7 +60,9 @@ loop-less : tie.Need-loop-less Inv-loop μ-loop
 loop-less c = search needs
 
 loop-again : tie.Need-loop-again Inv-loop μ-loop
-loop-again c = let a = c .before .before .before .before .before .before .before .args in let l = c .before .before .before .loop in (omega arith, row-more (a .i) (λ b. depW (a .tab .now) (goalAt (a .ws .now) (3 * a .i)) (goalAt (a .ws .now) (3 * b))) (a .dep .now) (l .dep) (l .j) (c .depends .result) (omega (arith, c .before .before .before .before .before .before .before .pre .1, c .before .before .before .before .before .before .before .pre .2)) (omega (arith, c .before .before .before .before .before .before .before .pre .1, c .before .before .loop-test .taken)) (l .inv .1) (c .depends .ensures ∙ ap₂ (λ (x y : Goal). depW (a .tab .now) (wordsOf x) (wordsOf y)) (c .before .before .before .before .goal-at .ensures) (c .before .goal-at2 .ensures)))
+loop-again c =
+    let entry = c .before .before .before .before .before .before .before in
+    let a = entry .args in let l = c .before .before .before .loop in (omega arith, row-more (a .i) (λ b. depW (a .tab .now) (goalAt (a .ws .now) (3 * a .i)) (goalAt (a .ws .now) (3 * b))) (a .dep .now) (l .dep) (l .j) (c .depends .result) (omega (arith, entry .pre .1, entry .pre .2)) (omega (arith, entry .pre .1, c .before .before .loop-test .taken)) (l .inv .1) (c .depends .ensures ∙ ap₂ (λ (x y : Goal). depW (a .tab .now) (wordsOf x) (wordsOf y)) (c .before .before .before .before .goal-at .ensures) (c .before .goal-at2 .ensures)))
 
 returns : tie.Need-returns Inv-loop μ-loop
 returns c = let r = c .before .loop .inv .1 in (r .square, ((λ b h. r .row b (omega (arith, c .before .loop .inv .0, c .loop-test .left, h))), r .others))

@@ -18,7 +18,9 @@ abbrev μ-loop : tie.MeasureT-loop
 μ-loop arity blanks words starts₀ at₀ n₀ starts at n = 16 - n
 
 returns : tie.Need-returns Inv-loop μ-loop
-returns c = (let e = shapes-none _ (c .before .before .before .before .args .blanks) _ (c .if1 .taken) in (sym (ap (λ (r : Row). r .answer) e), sym (ap (λ (r : Row). sets (c .before .before .before .before .args .starts .now) 0 (r .starts)) e)))
+returns c =
+    let entry = c .before .before .before .before in
+    (let e = shapes-none _ (entry .args .blanks) _ (c .if1 .taken) in (sym (ap (λ (r : Row). r .answer) e), sym (ap (λ (r : Row). sets (entry .args .starts .now) 0 (r .starts)) e)))
 
 loop-holds : tie.Need-loop-holds Inv-loop μ-loop
 loop-holds c = (omega arith, omega arith, left-first _ (shapes-some _ _ _ (c .if1 .left)))
@@ -42,11 +44,17 @@ shape-reason-requires : tie.Need-shape-reason-requires Inv-loop μ-loop
 shape-reason-requires c κs = search needs
 
 same-length-2 : tie.Need-same-length-2 Inv-loop μ-loop
-same-length-2 c = c .before .before .before .before .before .before .before .loop .inv .2 .long
+same-length-2 c =
+    let at-loop = c .before .before .before .before .before .before .before .loop in
+    at-loop .inv .2 .long
 
 returns-3 : tie.Need-returns-3 Inv-loop μ-loop
-returns-3 c = let w = left-end (c .before .before .before .before .before .before .before .loop .inv .2) (shapes-refused _ _ _ _ _ (c .before .before .before .before .before .before .loop-test .taken) (c .before .before .before .before .before .before .before .loop .inv .0) (c .before .before .before .before .before .if2 .left) (sym (c .before .before .before .before .read-term .ensures) ∙ c .before .before .f .given .1)) in
-    (ap (λ (r : Reason). shapes.Refused r (c .before .before .f .given .0 .1 .0)) (c .shape-reason .ensures) ∙ w .0, w .1)
+returns-3 c =
+    let at-loop = c .before .before .before .before .before .before .before .loop in
+    let at-loop-test = c .before .before .before .before .before .before .loop-test in
+    let at-f = c .before .before .f in
+    let w = left-end (at-loop .inv .2) (shapes-refused _ _ _ _ _ (at-loop-test .taken) (at-loop .inv .0) (c .before .before .before .before .before .if2 .left) (sym (c .before .before .before .before .read-term .ensures) ∙ at-f .given .1)) in
+    (ap (λ (r : Reason). shapes.Refused r (at-f .given .0 .1 .0)) (c .shape-reason .ensures) ∙ w .0, w .1)
 
 enum-known-m : tie.Need-enum-known-m Inv-loop μ-loop
 enum-known-m c = search needs
@@ -58,22 +66,34 @@ shared-slice-read-if3 : tie.Need-shared-slice-read-if3 Inv-loop μ-loop
 shared-slice-read-if3 c = search needs
 
 cast-if3 : tie.Need-cast-if3 Inv-loop μ-loop
-cast-if3 c = omega (arith, c .shared-slice-known3 .given (c .before .before .before .before .before .before .before .loop .at))
+cast-if3 c =
+    let at-loop = c .before .before .before .before .before .before .before .loop in
+    omega (arith, c .shared-slice-known3 .given (at-loop .at))
 
 same-length-3 : tie.Need-same-length-3 Inv-loop μ-loop
-same-length-3 c = c .before .before .before .before .before .before .before .before .loop .inv .2 .long
+same-length-3 c =
+    let at-loop = c .before .before .before .before .before .before .before .before .loop in
+    at-loop .inv .2 .long
 
 returns-4 : tie.Need-returns-4 Inv-loop μ-loop
-returns-4 c = left-end (c .before .before .before .before .before .before .before .before .loop .inv .2) (shapes-lone _ _ _ _ _ (c .before .before .before .before .before .before .before .loop-test .taken) (c .before .before .before .before .before .before .before .before .loop .inv .0) (c .before .before .before .before .before .before .if2 .left) (sym (c .before .before .before .before .before .read-term .ensures) ∙ c .before .before .before .m .given .1) (c .if3 .taken))
+returns-4 c =
+    let at-loop = c .before .before .before .before .before .before .before .before .loop in
+    let at-loop-test = c .before .before .before .before .before .before .before .loop-test in
+    let at-if2 = c .before .before .before .before .before .before .if2 in
+    left-end (at-loop .inv .2) (shapes-lone _ _ _ _ _ (at-loop-test .taken) (at-loop .inv .0) (at-if2 .left) (sym (c .before .before .before .before .before .read-term .ensures) ∙ c .before .before .before .m .given .1) (c .if3 .taken))
 
 cast-starts : tie.Need-cast-starts Inv-loop μ-loop
 cast-starts c = omega arith
 
 mul-starts : tie.Need-mul-starts Inv-loop μ-loop
-mul-starts c = omega (arith, c .before .before .before .before .before .before .before .before .loop .inv .2 .long)
+mul-starts c =
+    let at-loop = c .before .before .before .before .before .before .before .before .loop in
+    omega (arith, at-loop .inv .2 .long)
 
 slice-write-starts : tie.Need-slice-write-starts Inv-loop μ-loop
-slice-write-starts c = omega (arith, c .before .before .before .before .before .before .before .before .loop .inv .2 .long)
+slice-write-starts c =
+    let at-loop = c .before .before .before .before .before .before .before .before .loop in
+    omega (arith, at-loop .inv .2 .long)
 
 add-n : tie.Need-add-n Inv-loop μ-loop
 add-n c = omega arith
@@ -82,9 +102,13 @@ loop-less : tie.Need-loop-less Inv-loop μ-loop
 loop-less c = omega arith
 
 loop-again : tie.Need-loop-again Inv-loop μ-loop
-loop-again c = let e = sym (c .before .before .before .before .before .read-term .ensures) ∙ c .before .before .before .m .given .1 in
+loop-again c =
+    let at-loop = c .before .before .before .before .before .before .before .before .loop in
+    let at-loop-test = c .before .before .before .before .before .before .before .loop-test in
+    let at-if2 = c .before .before .before .before .before .before .if2 in
+    let e = sym (c .before .before .before .before .before .read-term .ensures) ∙ c .before .before .before .m .given .1 in
     let w = whole-in _ _ _ _ _ _ e in
-    (omega arith, omega (arith, w .few), left-next (c .before .before .before .before .before .before .before .before .loop .inv .2) (shapes-next _ _ _ _ _ (c .before .before .before .before .before .before .before .loop-test .taken) (c .before .before .before .before .before .before .before .before .loop .inv .0) (c .before .before .before .before .before .before .if2 .left) e (c .if3 .left)))
+    (omega arith, omega (arith, w .few), left-next (at-loop .inv .2) (shapes-next _ _ _ _ _ (at-loop-test .taken) (at-loop .inv .0) (at-if2 .left) e (c .if3 .left)))
 
 same-length-4 : tie.Need-same-length-4 Inv-loop μ-loop
 same-length-4 c = c .before .loop .inv .2 .long

@@ -15,7 +15,9 @@ score-good-requires : tie.Need-score-good-requires
 score-good-requires c κs = search needs
 
 returns : tie.Need-returns
-returns c = sym (count-short (clashNumber (clash (c .before .before .before .before .before .before .before .args .spans .now))) _ _ _ _ (sym (c .before .before .score-good .ensures) ∙ c .before .if1 .taken) (c .if2 .taken))
+returns c =
+    let entry = c .before .before .before .before .before .before .before in
+    sym (count-short (clashNumber (clash (entry .args .spans .now))) _ _ _ _ (sym (c .before .before .score-good .ensures) ∙ c .before .if1 .taken) (c .if2 .taken))
 
 sub-count-clashing : tie.Need-sub-count-clashing
 sub-count-clashing c = search needs
@@ -27,14 +29,20 @@ part-count-clashing-end : tie.Need-part-count-clashing-end
 part-count-clashing-end c = search needs
 
 count-clashing-requires : tie.Need-count-clashing-requires
-count-clashing-requires c κs = let g = sym (c .before .before .before .score-good .ensures) ∙ c .before .before .if1 .taken in
-    omega (arith, few-nodes _ _ _ g, length-take (length (c .before .before .before .before .before .before .before .before .args .score .now) - 0) (c .before .before .before .before .before .before .before .before .args .marks .now), ap length (score-good-is _ _ _ g .spans), length-spans (c .before .before .before .before .before .before .before .before .args .arity .now) (c .before .before .before .before .before .before .before .before .args .score .now))
+count-clashing-requires c κs =
+    let entry = c .before .before .before .before .before .before .before .before in
+    let g = sym (c .before .before .before .score-good .ensures) ∙ c .before .before .if1 .taken in
+    omega (arith, few-nodes _ _ _ g, length-take (length (entry .args .score .now) - 0) (entry .args .marks .now), ap length (score-good-is _ _ _ g .spans), length-spans (entry .args .arity .now) (entry .args .score .now))
 
 returns-2 : tie.Need-returns-2
-returns-2 c = ap Number (c .count-clashing .ensures) ∙ sym (count-is (clashNumber (clash (c .before .before .before .before .before .before .before .before .before .args .spans .now))) (c .before .before .before .before .before .before .before .before .before .args .arity .now) (c .before .before .before .before .before .before .before .before .before .args .score .now) (c .before .before .before .before .before .before .before .before .before .args .spans .now) (c .before .before .before .before .before .before .before .before .before .args .marks .now) (sym (c .before .before .before .before .score-good .ensures) ∙ c .before .before .before .if1 .taken) (c .before .before .if2 .left))
+returns-2 c =
+    let entry = c .before .before .before .before .before .before .before .before .before in
+    ap Number (c .count-clashing .ensures) ∙ sym (count-is (clashNumber (clash (entry .args .spans .now))) (entry .args .arity .now) (entry .args .score .now) (entry .args .spans .now) (entry .args .marks .now) (sym (c .before .before .before .before .score-good .ensures) ∙ c .before .before .before .if1 .taken) (c .before .before .if2 .left))
 
 returns-3 : tie.Need-returns-3
-returns-3 c = sym (count-bad (clashNumber (clash (c .before .before .before .before .before .before .args .spans .now))) _ _ _ _ (sym (c .before .score-good .ensures) ∙ c .if1 .left))
+returns-3 c =
+    let entry = c .before .before .before .before .before .before in
+    sym (count-bad (clashNumber (clash (entry .args .spans .now))) _ _ _ _ (sym (c .before .score-good .ensures) ∙ c .if1 .left))
 
 pub clashes-spec : {M : Type 1} → statement M
 clashes-spec =

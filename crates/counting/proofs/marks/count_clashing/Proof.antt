@@ -20,7 +20,9 @@ abbrev μ-loop : tie.MeasureT-loop
 
 loop-holds : tie.Need-loop-holds Inv-loop μ-loop
 unfolding sumTo
-loop-holds c = (omega arith, omega arith, refl, reach-none (c .before .before .args .marks .now) (c .before .before .args .spans .now))
+loop-holds c =
+    let entry = c .before .before in
+    (omega arith, omega arith, refl, reach-none (entry .args .marks .now) (entry .args .spans .now))
 
 mul-ones : tie.Need-mul-ones Inv-loop μ-loop
 mul-ones c = search needs
@@ -29,7 +31,9 @@ shared-slice-read-ones : tie.Need-shared-slice-read-ones Inv-loop μ-loop
 shared-slice-read-ones c = search needs
 
 cast-ones : tie.Need-cast-ones Inv-loop μ-loop
-cast-ones c = omega (arith, ones-le 16 (getD (c .before .before .before .before .before .args .marks .now) (c .before .before .loop .x) 0) (c .shared-slice-known3 .given (c .before .before .loop .x) .fits))
+cast-ones c =
+    let at-loop = c .before .before .loop in
+    omega (arith, ones-le 16 (getD (c .before .before .before .before .before .args .marks .now) (at-loop .x) 0) (c .shared-slice-known3 .given (at-loop .x) .fits))
 
 mul-end : tie.Need-mul-end Inv-loop μ-loop
 mul-end c = search needs
@@ -50,7 +54,10 @@ gain-requires : tie.Need-gain-requires Inv-loop μ-loop
 gain-requires c κs = search needs
 
 add-sum : tie.Need-add-sum Inv-loop μ-loop
-add-sum c = omega (arith, ones-le 16 (getD (c .before .before .before .before .before .before .before .before .args .marks .now) (c .before .before .before .before .before .loop .x) 0) (c .before .before .before .shared-slice-known3 .given (c .before .before .before .before .before .loop .x) .fits), c .gain .ensures, gain-le (c .before .is-hit .result) (ones (getD (c .before .before .before .before .before .before .before .before .args .marks .now) (c .before .before .before .before .before .loop .x) 0)))
+add-sum c =
+    let entry = c .before .before .before .before .before .before .before .before in
+    let at-loop = c .before .before .before .before .before .loop in
+    omega (arith, ones-le 16 (getD (entry .args .marks .now) (at-loop .x) 0) (c .before .before .before .shared-slice-known3 .given (at-loop .x) .fits), c .gain .ensures, gain-le (c .before .is-hit .result) (ones (getD (entry .args .marks .now) (at-loop .x) 0)))
 
 furthest-requires : tie.Need-furthest-requires Inv-loop μ-loop
 furthest-requires c κs = search needs
@@ -62,15 +69,22 @@ loop-less : tie.Need-loop-less Inv-loop μ-loop
 loop-less c = search needs
 
 loop-again : tie.Need-loop-again Inv-loop μ-loop
-loop-again c = let le = ones-le 16 (getD (c .before .before .before .before .before .before .before .before .before .args .marks .now) (c .before .before .before .before .before .before .loop .x) 0) (c .before .before .before .before .shared-slice-known3 .given (c .before .before .before .before .before .before .loop .x) .fits) in
-    let g = gain-le (c .before .before .is-hit .result) (ones (getD (c .before .before .before .before .before .before .before .before .before .args .marks .now) (c .before .before .before .before .before .before .loop .x) 0)) in
-    let n = count-next (c .before .before .before .before .before .before .before .before .before .args .marks .now) (c .before .before .before .before .before .before .before .before .before .args .spans .now) (c .before .before .before .before .before .before .loop .x) (c .before .before .before .before .before .before .loop .reach) (λ y. c .before .before .before .before .shared-slice-known3 .given y .fits) (c .before .before .before .before .before .loop-test .taken) (c .before .before .before .before .before .before .loop .inv .3) in
-    let e = c .before .gain .ensures ∙ ap (λ b. cond b (ones (getD (c .before .before .before .before .before .before .before .before .before .args .marks .now) (c .before .before .before .before .before .before .loop .x) 0)) 0) (c .before .before .is-hit .ensures) in
-    (omega arith, omega (arith, le, g, c .before .gain .ensures), omega (arith, n, e, c .before .before .before .before .before .before .loop .inv .2), rw (c .furthest .ensures) (reach-next (c .before .before .before .before .before .before .before .before .before .args .marks .now) (c .before .before .before .before .before .before .before .before .before .args .spans .now) (c .before .before .before .before .before .before .loop .x) (c .before .before .before .before .before .before .loop .reach) (c .before .before .before .before .before .before .loop .inv .3)))
+loop-again c =
+    let entry = c .before .before .before .before .before .before .before .before .before in
+    let at-loop = c .before .before .before .before .before .before .loop in
+    let at-shared-slice-known3 = c .before .before .before .before .shared-slice-known3 in
+    let at-is-hit = c .before .before .is-hit in
+    let le = ones-le 16 (getD (entry .args .marks .now) (at-loop .x) 0) (at-shared-slice-known3 .given (at-loop .x) .fits) in
+    let g = gain-le (at-is-hit .result) (ones (getD (entry .args .marks .now) (at-loop .x) 0)) in
+    let n = count-next (entry .args .marks .now) (entry .args .spans .now) (at-loop .x) (at-loop .reach) (λ y. at-shared-slice-known3 .given y .fits) (c .before .before .before .before .before .loop-test .taken) (at-loop .inv .3) in
+    let e = c .before .gain .ensures ∙ ap (λ b. cond b (ones (getD (entry .args .marks .now) (at-loop .x) 0)) 0) (at-is-hit .ensures) in
+    (omega arith, omega (arith, le, g, c .before .gain .ensures), omega (arith, n, e, at-loop .inv .2), rw (c .furthest .ensures) (reach-next (entry .args .marks .now) (entry .args .spans .now) (at-loop .x) (at-loop .reach) (at-loop .inv .3)))
 
 returns : tie.Need-returns Inv-loop μ-loop
-returns c = let q : c .before .loop .x ≡ length (c .before .before .before .before .args .marks .now) = omega arith in
-    c .before .loop .inv .2 ∙ ap (λ (n : ℕ). sumTo n (numberAt (c .before .before .before .before .args .marks .now) (clashing (clash (c .before .before .before .before .args .spans .now)) (c .before .before .before .before .args .marks .now)))) q
+returns c =
+    let entry = c .before .before .before .before in
+    let q : c .before .loop .x ≡ length (entry .args .marks .now) = omega arith in
+    c .before .loop .inv .2 ∙ ap (λ (n : ℕ). sumTo n (numberAt (entry .args .marks .now) (clashing (clash (entry .args .spans .now)) (entry .args .marks .now)))) q
 
 pub count-clashing-spec : {M : Type 1} → statement M
 count-clashing-spec =

@@ -18,7 +18,10 @@ loop-holds : tie.Need-loop-holds Inv-loop μ-loop
 loop-holds c = (omega arith, λ y h g. absurd (omega arith))
 
 returns : tie.Need-returns Inv-loop μ-loop
-returns c = sym (marked-none (c .before .before .before .args .marks .now) (c .before .before .before .args .from) (c .before .before .before .args .to) (c .before .before .loop .i) (c .before .before .loop .inv .1) (inr (c .if1 .taken)))
+returns c =
+    let entry = c .before .before .before in
+    let at-loop = c .before .before .loop in
+    sym (marked-none (entry .args .marks .now) (entry .args .from) (entry .args .to) (at-loop .i) (at-loop .inv .1) (inr (c .if1 .taken)))
 
 mul-if2 : tie.Need-mul-if2 Inv-loop μ-loop
 mul-if2 c = search needs
@@ -27,7 +30,10 @@ shared-slice-read-if2 : tie.Need-shared-slice-read-if2 Inv-loop μ-loop
 shared-slice-read-if2 c = search needs
 
 returns-2 : tie.Need-returns-2 Inv-loop μ-loop
-returns-2 c = sym (marked-here (c .before .before .before .before .before .args .marks .now) (c .before .before .before .before .before .args .from) (c .before .before .before .before .before .args .to) (c .before .before .before .before .loop .i) (c .before .before .before .before .loop .inv .0) (c .before .before .before .loop-test .taken) (c .if2 .taken))
+returns-2 c =
+    let entry = c .before .before .before .before .before in
+    let at-loop = c .before .before .before .before .loop in
+    sym (marked-here (entry .args .marks .now) (entry .args .from) (entry .args .to) (at-loop .i) (at-loop .inv .0) (c .before .before .before .loop-test .taken) (c .if2 .taken))
 
 add-i : tie.Need-add-i Inv-loop μ-loop
 add-i c = search needs
@@ -36,10 +42,15 @@ loop-less : tie.Need-loop-less Inv-loop μ-loop
 loop-less c = search needs
 
 loop-again : tie.Need-loop-again Inv-loop μ-loop
-loop-again c = (omega arith, free-next (c .before .before .before .before .before .args .marks .now) (c .before .before .before .before .before .args .from) (c .before .before .before .before .loop .i) (c .before .before .before .before .loop .inv .1) (c .if2 .left))
+loop-again c =
+    let entry = c .before .before .before .before .before in
+    let at-loop = c .before .before .before .before .loop in
+    (omega arith, free-next (entry .args .marks .now) (entry .args .from) (at-loop .i) (at-loop .inv .1) (c .if2 .left))
 
 returns-3 : tie.Need-returns-3 Inv-loop μ-loop
-returns-3 c = sym (marked-none (c .before .before .args .marks .now) (c .before .before .args .from) (c .before .before .args .to) (c .before .loop .i) (c .before .loop .inv .1) (inl (c .loop-test .left)))
+returns-3 c =
+    let entry = c .before .before in
+    sym (marked-none (entry .args .marks .now) (entry .args .from) (entry .args .to) (c .before .loop .i) (c .before .loop .inv .1) (inl (c .loop-test .left)))
 
 pub is-marked-spec : {M : Type 1} → statement M
 is-marked-spec =

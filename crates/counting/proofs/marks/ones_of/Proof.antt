@@ -25,10 +25,14 @@ shared-slice-read-sum : tie.Need-shared-slice-read-sum Inv-loop μ-loop
 shared-slice-read-sum c = search needs
 
 cast-sum : tie.Need-cast-sum Inv-loop μ-loop
-cast-sum c = omega (arith, ones-le 16 (getD (c .before .before .before .args .marks .now) (c .before .before .loop .i) 0) (c .shared-slice-known .given (c .before .before .loop .i) .fits))
+cast-sum c =
+    let at-loop = c .before .before .loop in
+    omega (arith, ones-le 16 (getD (c .before .before .before .args .marks .now) (at-loop .i) 0) (c .shared-slice-known .given (at-loop .i) .fits))
 
 add-sum : tie.Need-add-sum Inv-loop μ-loop
-add-sum c = omega (arith, ones-le 16 (getD (c .before .before .before .args .marks .now) (c .before .before .loop .i) 0) (c .shared-slice-known .given (c .before .before .loop .i) .fits))
+add-sum c =
+    let at-loop = c .before .before .loop in
+    omega (arith, ones-le 16 (getD (c .before .before .before .args .marks .now) (at-loop .i) 0) (c .shared-slice-known .given (at-loop .i) .fits))
 
 add-i : tie.Need-add-i Inv-loop μ-loop
 add-i c = search needs
@@ -37,9 +41,12 @@ loop-less : tie.Need-loop-less Inv-loop μ-loop
 loop-less c = search needs
 
 loop-again : tie.Need-loop-again Inv-loop μ-loop
-loop-again c = let m = getD (c .before .before .before .args .marks .now) (c .before .before .loop .i) 0 in
-    let fits = c .shared-slice-known .given (c .before .before .loop .i) in
-    omega (arith, ones-le 16 m (fits .fits), total-next (c .before .before .before .args .marks .now) (c .before .before .loop .i) (c .before .loop-test .taken) (fits .fits))
+loop-again c =
+    let entry = c .before .before .before in
+    let at-loop = c .before .before .loop in
+    let m = getD (entry .args .marks .now) (at-loop .i) 0 in
+    let fits = c .shared-slice-known .given (at-loop .i) in
+    omega (arith, ones-le 16 m (fits .fits), total-next (entry .args .marks .now) (at-loop .i) (c .before .loop-test .taken) (fits .fits))
 
 returns : tie.Need-returns Inv-loop μ-loop
 returns c = omega (arith, total-end (c .before .before .args .marks .now) (c .before .loop .i) (c .loop-test .left))

@@ -30,7 +30,9 @@ abbrev μ-loop : tie.MeasureT-loop
 μ-loop tab ws at n root symbol items₀ k₀ j₀ items k j = n - j
 
 loop-holds : tie.Need-loop-holds Inv-loop μ-loop
-loop-holds c = listed-begin (goesOut (c .before .before .before .args .tab .now) (c .before .before .before .args .ws .now) (c .before .before .before .args .at) (c .before .before .before .args .root .0) (c .before .before .before .args .symbol .0)) (λ x. annKey (goalOn (c .before .before .before .args .ws .now) (c .before .before .before .args .at) x)) (c .before .before .before .args .n) (c .before .before .before .args .items .now)
+loop-holds c =
+    let entry = c .before .before .before in
+    listed-begin (goesOut (entry .args .tab .now) (entry .args .ws .now) (entry .args .at) (entry .args .root .0) (entry .args .symbol .0)) (λ x. annKey (goalOn (entry .args .ws .now) (entry .args .at) x)) (entry .args .n) (entry .args .items .now)
 
 mul-goal-at : tie.Need-mul-goal-at Inv-loop μ-loop
 mul-goal-at c = search needs
@@ -42,7 +44,9 @@ goal-at-requires : tie.Need-goal-at-requires Inv-loop μ-loop
 goal-at-requires c κs = search needs
 
 reduce-requires : tie.Need-reduce-requires Inv-loop μ-loop
-reduce-requires c κs = rw (c .goal-at .ensures) (c .before .before .before .before .before .before .pre .0, c .before .before .before .before .before .before .pre .3 (c .before .before .loop .j) (c .before .loop-test .taken))
+reduce-requires c κs =
+    let entry = c .before .before .before .before .before .before in
+    rw (c .goal-at .ensures) (entry .pre .0, entry .pre .3 (c .before .before .loop .j) (c .before .loop-test .taken))
 
 cast-padded : tie.Need-cast-padded Inv-loop μ-loop
 cast-padded c = search needs
@@ -51,31 +55,63 @@ padded-requires : tie.Need-padded-requires Inv-loop μ-loop
 padded-requires c κs = search needs
 
 mul-items : tie.Need-mul-items Inv-loop μ-loop
-mul-items c = omega (arith, c .padded .ensures, pad-word (c .before .before .before .before .goal-at .result .at .0) (omega (arith, ap (λ (x : Goal). x .at .0) (c .before .before .before .before .goal-at .ensures), c .before .before .before .before .before .before .before .before .shared-slice-known2 .given (c .before .before .before .before .before .before .before .before .before .before .args .at + 3 * c .before .before .before .before .before .before .loop .j + 1))))
+mul-items c =
+    let entry = c .before .before .before .before .before .before .before .before .before .before in
+    let at-shared-slice-known2 = c .before .before .before .before .before .before .before .before .shared-slice-known2 in
+    let at-loop = c .before .before .before .before .before .before .loop in
+    let at-goal-at = c .before .before .before .before .goal-at in
+    omega (arith, c .padded .ensures, pad-word (at-goal-at .result .at .0) (omega (arith, ap (λ (x : Goal). x .at .0) (at-goal-at .ensures), at-shared-slice-known2 .given (entry .args .at + 3 * at-loop .j + 1))))
 
 cast-items : tie.Need-cast-items Inv-loop μ-loop
 cast-items c = search needs
 
 add-items : tie.Need-add-items Inv-loop μ-loop
-add-items c = omega (arith, ap (λ (x : Goal). x .shape .0) (c .before .before .before .before .before .goal-at .ensures), c .before .before .before .before .before .before .before .before .before .before .before .pre .3 (c .before .before .before .before .before .before .before .loop .j) (c .before .before .before .before .before .before .loop-test .taken), c .before .padded .ensures, pad-word (c .before .before .before .before .before .goal-at .result .at .0) (omega (arith, ap (λ (x : Goal). x .at .0) (c .before .before .before .before .before .goal-at .ensures), c .before .before .before .before .before .before .before .before .before .shared-slice-known2 .given (c .before .before .before .before .before .before .before .before .before .before .before .args .at + 3 * c .before .before .before .before .before .before .before .loop .j + 1))))
+add-items c =
+    let entry = c .before .before .before .before .before .before .before .before .before .before .before in
+    let at-shared-slice-known2 = c .before .before .before .before .before .before .before .before .before .shared-slice-known2 in
+    let at-loop = c .before .before .before .before .before .before .before .loop in
+    let at-loop-test = c .before .before .before .before .before .before .loop-test in
+    let at-goal-at = c .before .before .before .before .before .goal-at in
+    omega (arith, ap (λ (x : Goal). x .shape .0) (at-goal-at .ensures), entry .pre .3 (at-loop .j) (at-loop-test .taken), c .before .padded .ensures, pad-word (at-goal-at .result .at .0) (omega (arith, ap (λ (x : Goal). x .at .0) (at-goal-at .ensures), at-shared-slice-known2 .given (entry .args .at + 3 * at-loop .j + 1))))
 
 mul-items-2 : tie.Need-mul-items-2 Inv-loop μ-loop
-mul-items-2 c = omega (arith, ap (λ (x : Goal). x .shape .0) (c .before .before .before .before .before .goal-at .ensures), c .before .before .before .before .before .before .before .before .before .before .before .pre .3 (c .before .before .before .before .before .before .before .loop .j) (c .before .before .before .before .before .before .loop-test .taken), c .before .padded .ensures, pad-word (c .before .before .before .before .before .goal-at .result .at .0) (omega (arith, ap (λ (x : Goal). x .at .0) (c .before .before .before .before .before .goal-at .ensures), c .before .before .before .before .before .before .before .before .before .shared-slice-known2 .given (c .before .before .before .before .before .before .before .before .before .before .before .args .at + 3 * c .before .before .before .before .before .before .before .loop .j + 1))))
+mul-items-2 c =
+    let entry = c .before .before .before .before .before .before .before .before .before .before .before in
+    let at-shared-slice-known2 = c .before .before .before .before .before .before .before .before .before .shared-slice-known2 in
+    let at-loop = c .before .before .before .before .before .before .before .loop in
+    let at-loop-test = c .before .before .before .before .before .before .loop-test in
+    let at-goal-at = c .before .before .before .before .before .goal-at in
+    omega (arith, ap (λ (x : Goal). x .shape .0) (at-goal-at .ensures), entry .pre .3 (at-loop .j) (at-loop-test .taken), c .before .padded .ensures, pad-word (at-goal-at .result .at .0) (omega (arith, ap (λ (x : Goal). x .at .0) (at-goal-at .ensures), at-shared-slice-known2 .given (entry .args .at + 3 * at-loop .j + 1))))
 
 cast-items-2 : tie.Need-cast-items-2 Inv-loop μ-loop
 cast-items-2 c = search needs
 
 add-items-2 : tie.Need-add-items-2 Inv-loop μ-loop
-add-items-2 c = omega (arith, ap (λ (x : Goal). x .shape .0) (c .before .before .before .before .before .goal-at .ensures), c .before .before .before .before .before .before .before .before .before .before .before .pre .3 (c .before .before .before .before .before .before .before .loop .j) (c .before .before .before .before .before .before .loop-test .taken), c .before .padded .ensures, pad-word (c .before .before .before .before .before .goal-at .result .at .0) (omega (arith, ap (λ (x : Goal). x .at .0) (c .before .before .before .before .before .goal-at .ensures), c .before .before .before .before .before .before .before .before .before .shared-slice-known2 .given (c .before .before .before .before .before .before .before .before .before .before .before .args .at + 3 * c .before .before .before .before .before .before .before .loop .j + 1))))
+add-items-2 c =
+    let entry = c .before .before .before .before .before .before .before .before .before .before .before in
+    let at-shared-slice-known2 = c .before .before .before .before .before .before .before .before .before .shared-slice-known2 in
+    let at-loop = c .before .before .before .before .before .before .before .loop in
+    let at-loop-test = c .before .before .before .before .before .before .loop-test in
+    let at-goal-at = c .before .before .before .before .before .goal-at in
+    omega (arith, ap (λ (x : Goal). x .shape .0) (at-goal-at .ensures), entry .pre .3 (at-loop .j) (at-loop-test .taken), c .before .padded .ensures, pad-word (at-goal-at .result .at .0) (omega (arith, ap (λ (x : Goal). x .at .0) (at-goal-at .ensures), at-shared-slice-known2 .given (entry .args .at + 3 * at-loop .j + 1))))
 
 mul-items-3 : tie.Need-mul-items-3 Inv-loop μ-loop
-mul-items-3 c = let s = c .before .before .before .before .before .before .before .loop .inv in omega (arith, s .few, s .long, c .before .before .before .before .before .before .before .before .before .before .before .pre .4, c .before .before .before .before .before .before .before .before .before .before .before .pre .1)
+mul-items-3 c =
+    let entry = c .before .before .before .before .before .before .before .before .before .before .before in
+    let at-loop = c .before .before .before .before .before .before .before .loop in
+    let s = at-loop .inv in omega (arith, s .few, s .long, entry .pre .4, entry .pre .1)
 
 slice-write-items : tie.Need-slice-write-items Inv-loop μ-loop
-slice-write-items c = let s = c .before .before .before .before .before .before .before .loop .inv in omega (arith, s .few, s .long, c .before .before .before .before .before .before .before .before .before .before .before .pre .4, c .before .before .before .before .before .before .before .before .before .before .before .pre .1)
+slice-write-items c =
+    let entry = c .before .before .before .before .before .before .before .before .before .before .before in
+    let at-loop = c .before .before .before .before .before .before .before .loop in
+    let s = at-loop .inv in omega (arith, s .few, s .long, entry .pre .4, entry .pre .1)
 
 add-k : tie.Need-add-k Inv-loop μ-loop
-add-k c = let s = c .before .before .before .before .before .before .before .loop .inv in omega (arith, s .few, c .before .before .before .before .before .before .before .before .before .before .before .pre .1)
+add-k c =
+    let entry = c .before .before .before .before .before .before .before .before .before .before .before in
+    let at-loop = c .before .before .before .before .before .before .before .loop in
+    let s = at-loop .inv in omega (arith, s .few, entry .pre .1)
 
 add-j : tie.Need-add-j Inv-loop μ-loop
 add-j c = search needs
@@ -84,21 +120,29 @@ loop-less : tie.Need-loop-less Inv-loop μ-loop
 loop-less c = search needs
 
 loop-again : tie.Need-loop-again Inv-loop μ-loop
-loop-again c = let a = c .before .before .before .before .before .before .before .before .args in let l = c .before .before .before .before .loop in
-    let d = c .before .reduce .ensures ∙ ap (λ (x : Goal). reduct (a .tab .now) (a .root .0) (a .symbol .0) (wordsOf x)) (c .before .before .goal-at .ensures) in
+loop-again c =
+    let entry = c .before .before .before .before .before .before .before .before in
+    let at-loop-test = c .before .before .before .loop-test in
+    let at-goal-at = c .before .before .goal-at in
+    let a = entry .args in let l = c .before .before .before .before .loop in
+    let d = c .before .reduce .ensures ∙ ap (λ (x : Goal). reduct (a .tab .now) (a .root .0) (a .symbol .0) (wordsOf x)) (at-goal-at .ensures) in
     ⊎-elim
-    (λ w. rw (w .4, w .5) (listed-on (l .inv) (c .before .before .before .loop-test .taken) (eq-eqb _ _ (sym d ∙ w .0 .taken)) _ (ap₂ (λ (x : ℕ) (y : Goal). 128 * (16 * x + y .shape .0) + l .j) (w .2 .ensures ∙ ap (λ (y : Goal). pad (y .at .0)) (c .before .before .goal-at .ensures)) (c .before .before .goal-at .ensures))))
-    (λ w. rw (w .1, w .2) (listed-off (l .inv) (c .before .before .before .loop-test .taken) (ne-eqb _ _ (λ e. w .0 .left (d ∙ e)))))
+    (λ w. rw (w .4, w .5) (listed-on (l .inv) (at-loop-test .taken) (eq-eqb _ _ (sym d ∙ w .0 .taken)) _ (ap₂ (λ (x : ℕ) (y : Goal). 128 * (16 * x + y .shape .0) + l .j) (w .2 .ensures ∙ ap (λ (y : Goal). pad (y .at .0)) (at-goal-at .ensures)) (at-goal-at .ensures))))
+    (λ w. rw (w .1, w .2) (listed-off (l .inv) (at-loop-test .taken) (ne-eqb _ _ (λ e. w .0 .left (d ∙ e)))))
     (c .if1 .came)
 
 arrange-requires : tie.Need-arrange-requires Inv-loop μ-loop
-arrange-requires c κs = let s = c .before .before .loop .inv in omega (arith, s .few, s .long, s .below, c .before .before .before .before .before .before .pre .4)
+arrange-requires c κs =
+    let entry = c .before .before .before .before .before .before in
+    let s = c .before .before .loop .inv in omega (arith, s .few, s .long, s .below, entry .pre .4)
 
 same-length : tie.Need-same-length Inv-loop μ-loop
 same-length c = c .before .before .arrange .kept .0 ∙ c .before .before .before .before .before .loop .inv .long
 
 returns : tie.Need-returns Inv-loop μ-loop
-returns c = listed-end (c .before .before .before .before .before .loop .inv) (c .before .before .before .before .loop-test .left) (c .before .before .before .before .before .before .before .before .before .pre .4) _ (c .before .before .arrange .ensures)
+returns c =
+    let entry = c .before .before .before .before .before .before .before .before .before in
+    listed-end (c .before .before .before .before .before .loop .inv) (c .before .before .before .before .loop-test .left) (entry .pre .4) _ (c .before .before .arrange .ensures)
 
 pub outputs-spec : {M : Type 1} → statement M
 outputs-spec =

@@ -20,33 +20,47 @@ use Rattle.deriving.proofs.derivative.put_staying.Reads as put-staying-
 -- src/derivative.rt:172:9
 
 put-staying-requires : tie.Need-put-staying-requires
-put-staying-requires c κs = let a = c .before .before .before .before .args in
+put-staying-requires c κs =
+    let entry = c .before .before .before .before in
+    let a = entry .args in
     let z = deriv-size (a .tab .now) (a .n) (a .root .0) (a .symbol .0) (a .k) (goalsFrom (a .ws .now) (a .at) (a .goals)) in
-    (c .before .before .before .before .pre .0, c .before .before .before .before .pre .1, c .before .before .before .before .pre .2, c .before .before .before .before .pre .3, omega (arith, z))
+    (entry .pre .0, entry .pre .1, entry .pre .2, entry .pre .3, omega (arith, z))
 
 put-moving-requires : tie.Need-put-moving-requires
-put-moving-requires c κs = let a = c .before .before .before .before .before .before .before .before .args in
+put-moving-requires c κs =
+    let entry = c .before .before .before .before .before .before .before .before in
+    let at-put-staying = c .before .before .before .put-staying in
+    let a = entry .args in
     let z = deriv-size (a .tab .now) (a .n) (a .root .0) (a .symbol .0) (a .k) (goalsFrom (a .ws .now) (a .at) (a .goals)) in
-    (c .before .before .before .before .before .before .before .before .pre .0, c .before .before .before .before .before .before .before .before .pre .1, c .before .before .before .before .before .before .before .before .pre .2, c .before .before .before .before .before .before .before .before .pre .3, omega (arith, z, c .before .before .before .put-staying .ensures .0, c .before .before .before .put-staying .kept .1 .1 .1 .1 .1 .0))
+    (entry .pre .0, entry .pre .1, entry .pre .2, entry .pre .3, omega (arith, z, at-put-staying .ensures .0, at-put-staying .kept .1 .1 .1 .1 .1 .0))
 
 put-born-requires : tie.Need-put-born-requires
-put-born-requires c κs = let a = c .before .before .before .before .before .before .before .before .before .before .before .before .args in
+put-born-requires c κs =
+    let entry = c .before .before .before .before .before .before .before .before .before .before .before .before in
+    let at-put-staying = c .before .before .before .before .before .before .before .put-staying in
+    let at-put-moving = c .before .before .before .put-moving in
+    let a = entry .args in
     let z = deriv-size (a .tab .now) (a .n) (a .root .0) (a .symbol .0) (a .k) (goalsFrom (a .ws .now) (a .at) (a .goals)) in
-    (c .before .before .before .before .before .before .before .before .before .before .before .before .pre .4, c .before .before .before .before .before .before .before .before .before .before .before .before .pre .5, omega (arith, z, c .before .before .before .before .before .before .before .put-staying .ensures .0, c .before .before .before .before .before .before .before .put-staying .kept .1 .1 .1 .1 .1 .0, c .before .before .before .put-moving .ensures .0, c .before .before .before .put-moving .kept .1 .1 .1 .1 .1 .1 .0))
+    (entry .pre .4, entry .pre .5, omega (arith, z, at-put-staying .ensures .0, at-put-staying .kept .1 .1 .1 .1 .1 .0, at-put-moving .ensures .0, at-put-moving .kept .1 .1 .1 .1 .1 .1 .0))
 
 same-length : tie.Need-same-length
 same-length c = search needs
 
 returns : tie.Need-returns
-returns c = let a = c .before .before .before .before .before .before .before .before .before .before .before .before .before .before .before .args in
+returns c =
+    let entry = c .before .before .before .before .before .before .before .before .before .before .before .before .before .before .before in
+    let at-put-staying = c .before .before .before .before .before .before .before .before .before .before .put-staying in
+    let at-put-moving = c .before .before .before .before .before .before .put-moving in
+    let at-put-born = c .before .before .put-born in
+    let a = entry .args in
     let gs = goalsFrom (a .ws .now) (a .at) (a .goals) in
     let S = flat (gather (stays (a .tab .now) (a .root .0)) gs) in
     let M = flat (gather (moves (a .tab .now) (a .root .0) (a .symbol .0)) gs) in
     let B = flat (bornW (a .n) (a .root .0) (a .k)) in (
-      omega (arith, deriv-size (a .tab .now) (a .n) (a .root .0) (a .symbol .0) (a .k) gs, c .before .before .before .before .before .before .before .before .before .before .put-staying .ensures .0, c .before .before .before .before .before .before .put-moving .ensures .0, c .before .before .put-born .ensures .0),
-      c .before .before .put-born .ensures .1
-          ∙ ap (λ o. sets o (c .before .before .before .before .before .before .put-moving .result) B) (c .before .before .before .before .before .before .put-moving .ensures .1 ∙ ap (λ o. sets o (c .before .before .before .before .before .before .before .before .before .before .put-staying .result) M) (c .before .before .before .before .before .before .before .before .before .before .put-staying .ensures .1))
-          ∙ three-runs (a .out .now) S M B (c .before .before .before .before .before .before .before .before .before .before .put-staying .result) (c .before .before .before .before .before .before .put-moving .result) (c .before .before .before .before .before .before .before .before .before .before .put-staying .ensures .0) (c .before .before .before .before .before .before .put-moving .ensures .0)
+      omega (arith, deriv-size (a .tab .now) (a .n) (a .root .0) (a .symbol .0) (a .k) gs, at-put-staying .ensures .0, at-put-moving .ensures .0, at-put-born .ensures .0),
+      at-put-born .ensures .1
+          ∙ ap (λ o. sets o (at-put-moving .result) B) (at-put-moving .ensures .1 ∙ ap (λ o. sets o (at-put-staying .result) M) (at-put-staying .ensures .1))
+          ∙ three-runs (a .out .now) S M B (at-put-staying .result) (at-put-moving .result) (at-put-staying .ensures .0) (at-put-moving .ensures .0)
           ∙ ap (sets (a .out .now) 0) (sym (deriv-words (a .tab .now) (a .n) (a .root .0) (a .symbol .0) (a .k) gs)),
     )
 

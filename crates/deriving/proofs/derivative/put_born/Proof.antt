@@ -34,22 +34,28 @@ add-t12 : tie.Need-add-t12 Inv-loop μ-loop
 add-t12 c = search needs
 
 put-fresh-requires : tie.Need-put-fresh-requires Inv-loop μ-loop
-put-fresh-requires c κs = let a = c .before .before .before .before .before .args in let l = c .before .before .before .loop in
+put-fresh-requires c κs =
+    let entry = c .before .before .before .before .before in
+    let a = entry .args in let l = c .before .before .before .loop in
     let p = born-next (a .n) (a .root .0) (a .k) (l .i) (c .before .before .loop-test .taken) in
-    (c .before .before .before .before .before .pre .0, omega (arith, ap length p, length-append (flat (freshesW (a .n) (5 * a .root .0 + (l .i + 1)))) (bornFrom (a .n) (a .root .0) (a .k) (l .i + 1))))
+    (entry .pre .0, omega (arith, ap length p, length-append (flat (freshesW (a .n) (5 * a .root .0 + (l .i + 1)))) (bornFrom (a .n) (a .root .0) (a .k) (l .i + 1))))
 
 loop-less : tie.Need-loop-less Inv-loop μ-loop
 loop-less c = search needs
 
 loop-again : tie.Need-loop-again Inv-loop μ-loop
-loop-again c = let a = c .before .before .before .before .before .before .before .before .args in let l = c .before .before .before .before .before .before .loop in
+loop-again c =
+    let entry = c .before .before .before .before .before .before .before .before in
+    let at-loop = c .before .before .before .before .before .before .loop in
+    let at-put-fresh = c .before .before .put-fresh in
+    let a = entry .args in let l = at-loop in
     let p = born-next (a .n) (a .root .0) (a .k) (l .i) (c .before .before .before .before .before .loop-test .taken) in
     let one = flat (freshesW (a .n) (5 * a .root .0 + (l .i + 1))) in
     let rest = bornFrom (a .n) (a .root .0) (a .k) (l .i + 1) in (
       omega arith,
-      c .before .before .put-fresh .kept .0 ∙ l .inv .1,
-      omega (arith, c .before .before .put-fresh .ensures .0, ap length p, length-append one rest),
-      l .inv .3 ∙ ap (sets (l .out) (l .next)) p ∙ sets-append (l .out) (l .next) one rest ∙ ap₂ (λ o i. sets o i rest) (sym (c .before .before .put-fresh .ensures .1)) (sym (c .before .before .put-fresh .ensures .0)),
+      at-put-fresh .kept .0 ∙ l .inv .1,
+      omega (arith, at-put-fresh .ensures .0, ap length p, length-append one rest),
+      l .inv .3 ∙ ap (sets (l .out) (l .next)) p ∙ sets-append (l .out) (l .next) one rest ∙ ap₂ (λ o i. sets o i rest) (sym (at-put-fresh .ensures .1)) (sym (at-put-fresh .ensures .0)),
     )
 
 same-length : tie.Need-same-length Inv-loop μ-loop

@@ -30,7 +30,9 @@ put-goal-requires : tie.Need-put-goal-requires Inv-loop μ-loop
 put-goal-requires c κs = let a = c .before .before .before .before .args in let l = c .before .before .loop in omega (arith, ap length (fresh-next (a .n) (a .at .0) (l .j) (c .before .loop-test .taken)))
 
 add-next : tie.Need-add-next Inv-loop μ-loop
-add-next c = let a = c .before .before .before .before .before .before .before .args in let l = c .before .before .before .before .before .loop in omega (arith, ap length (fresh-next (a .n) (a .at .0) (l .j) (c .before .before .before .before .loop-test .taken)))
+add-next c =
+    let entry = c .before .before .before .before .before .before .before in
+    let a = entry .args in let l = c .before .before .before .before .before .loop in omega (arith, ap length (fresh-next (a .n) (a .at .0) (l .j) (c .before .before .before .before .loop-test .taken)))
 
 add-j : tie.Need-add-j Inv-loop μ-loop
 add-j c = search needs
@@ -39,12 +41,15 @@ loop-less : tie.Need-loop-less Inv-loop μ-loop
 loop-less c = search needs
 
 loop-again : tie.Need-loop-again Inv-loop μ-loop
-loop-again c = let a = c .before .before .before .before .before .before .before .args in let l = c .before .before .before .before .before .loop in
+loop-again c =
+    let entry = c .before .before .before .before .before .before .before in
+    let at-put-goal = c .before .before .put-goal in
+    let a = entry .args in let l = c .before .before .before .before .before .loop in
     let p = fresh-next (a .n) (a .at .0) (l .j) (c .before .before .before .before .loop-test .taken) in (
       omega arith,
-      c .before .before .put-goal .kept .0 ∙ l .inv .1,
+      at-put-goal .kept .0 ∙ l .inv .1,
       omega (arith, ap length p),
-      l .inv .3 ∙ ap (sets (l .out) (l .next)) p ∙ run-three (l .out) (l .next) (l .j) (a .at .0) 1 (freshFrom (a .n) (a .at .0) (l .j + 1)) ∙ ap (λ o. sets o (l .next + 3) (freshFrom (a .n) (a .at .0) (l .j + 1))) (sym (c .before .before .put-goal .ensures)),
+      l .inv .3 ∙ ap (sets (l .out) (l .next)) p ∙ run-three (l .out) (l .next) (l .j) (a .at .0) 1 (freshFrom (a .n) (a .at .0) (l .j + 1)) ∙ ap (λ o. sets o (l .next + 3) (freshFrom (a .n) (a .at .0) (l .j + 1))) (sym (at-put-goal .ensures)),
     )
 
 same-length : tie.Need-same-length Inv-loop μ-loop

@@ -43,7 +43,9 @@ same-length : tie.Need-same-length
 same-length c = search needs
 
 returns-3 : tie.Need-returns-3
-returns-3 c = let a = c .before .before .before .before .before .before .before .args in let g = wordsOf (a .g) in
+returns-3 c =
+    let entry = c .before .before .before .before .before .before .before in
+    let a = entry .args in let g = wordsOf (a .g) in
     let e = flat-one (goesOn (a .x) g) (withMask g (a .x)) (goes (a .x) g (c .before .before .before .before .before .if1 .left) (c .before .before .before .before .if2 .left)) in
     (omega (arith, ap length e), c .before .before .put-goal .ensures ∙ sym (ap (sets (a .out .now) (a .to)) e))
 

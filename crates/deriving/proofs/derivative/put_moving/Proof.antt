@@ -37,10 +37,15 @@ goal-at-requires : tie.Need-goal-at-requires Inv-loop μ-loop
 goal-at-requires c κs = search needs
 
 reduce-requires : tie.Need-reduce-requires Inv-loop μ-loop
-reduce-requires c κs = rw (c .goal-at .ensures) (c .before .before .before .before .before .before .pre .0, low-next (c .before .before .before .before .before .before .args .ws .now) (c .before .before .loop .here) (c .before .before .loop .left) (c .before .loop-test .taken) (c .before .before .loop .inv .2) .0)
+reduce-requires c κs =
+    let entry = c .before .before .before .before .before .before in
+    let at-loop = c .before .before .loop in
+    rw (c .goal-at .ensures) (entry .pre .0, low-next (entry .args .ws .now) (at-loop .here) (at-loop .left) (c .before .loop-test .taken) (at-loop .inv .2) .0)
 
 put-moved-requires : tie.Need-put-moved-requires Inv-loop μ-loop
-put-moved-requires c κs = let a = c .before .before .before .before .before .before .before .before .args in let l = c .before .before .before .before .loop in
+put-moved-requires c κs =
+    let entry = c .before .before .before .before .before .before .before .before in
+    let a = entry .args in let l = c .before .before .before .before .loop in
     let g = goalAt (a .ws .now) (l .here) in
     let e = moves (a .tab .now) (a .root .0) (a .symbol .0) in
     let p = pass-next e (a .ws .now) (l .here) (l .left) (c .before .before .before .loop-test .taken) in
@@ -56,16 +61,22 @@ loop-less : tie.Need-loop-less Inv-loop μ-loop
 loop-less c = search needs
 
 loop-again : tie.Need-loop-again Inv-loop μ-loop
-loop-again c = let a = c .before .before .before .before .before .before .before .before .before .before .before .args in let l = c .before .before .before .before .before .before .before .loop in
-    let low = low-next (a .ws .now) (l .here) (l .left) (c .before .before .before .before .before .before .loop-test .taken) (l .inv .2) .1 in
+loop-again c =
+    let entry = c .before .before .before .before .before .before .before .before .before .before .before in
+    let at-loop = c .before .before .before .before .before .before .before .loop in
+    let at-loop-test = c .before .before .before .before .before .before .loop-test in
+    let at-goal-at = c .before .before .before .before .before .goal-at in
+    let at-put-moved = c .before .before .put-moved in
+    let a = entry .args in let l = at-loop in
+    let low = low-next (a .ws .now) (l .here) (l .left) (at-loop-test .taken) (l .inv .2) .1 in
     let g = goalAt (a .ws .now) (l .here) in
     let e = moves (a .tab .now) (a .root .0) (a .symbol .0) in
-    let p = pass-next e (a .ws .now) (l .here) (l .left) (c .before .before .before .before .before .before .loop-test .taken) in
+    let p = pass-next e (a .ws .now) (l .here) (l .left) (at-loop-test .taken) in
     let rest = Pass e (a .ws .now) (l .here + 3) (l .left - 1) in
-    let d = c .before .before .before .before .reduce .ensures ∙ ap (λ (r : Goal). reduct (a .tab .now) (a .root .0) (a .symbol .0) (wordsOf r)) (c .before .before .before .before .before .goal-at .ensures) in
-    let n = c .before .before .put-moved .ensures .0 ∙ ap₂ (λ (x : ℕ) (r : Goal). l .next + length (flat (goesOn x (wordsOf r)))) d (c .before .before .before .before .before .goal-at .ensures) in
-    let o = c .before .before .put-moved .ensures .1 ∙ ap₂ (λ (x : ℕ) (r : Goal). sets (l .out) (l .next) (flat (goesOn x (wordsOf r)))) d (c .before .before .before .before .before .goal-at .ensures) in (
-      c .before .before .put-moved .kept .0 ∙ l .inv .0,
+    let d = c .before .before .before .before .reduce .ensures ∙ ap (λ (r : Goal). reduct (a .tab .now) (a .root .0) (a .symbol .0) (wordsOf r)) (at-goal-at .ensures) in
+    let n = at-put-moved .ensures .0 ∙ ap₂ (λ (x : ℕ) (r : Goal). l .next + length (flat (goesOn x (wordsOf r)))) d (at-goal-at .ensures) in
+    let o = at-put-moved .ensures .1 ∙ ap₂ (λ (x : ℕ) (r : Goal). sets (l .out) (l .next) (flat (goesOn x (wordsOf r)))) d (at-goal-at .ensures) in (
+      at-put-moved .kept .0 ∙ l .inv .0,
       omega arith,
       low,
       omega (arith, n, ap length p, length-append (flat (e g)) rest),

@@ -32,13 +32,23 @@ goal-at-requires : tie.Need-goal-at-requires Inv-loop μ-loop
 goal-at-requires c κs = search needs
 
 node-at-requires : tie.Need-node-at-requires Inv-loop μ-loop
-node-at-requires c κs = rw (c .goal-at .ensures) (c .before .before .before .before .before .before .pre .0, low-next (c .before .before .before .before .before .before .args .ws .now) (c .before .before .loop .here) (c .before .before .loop .left) (c .before .loop-test .taken) (c .before .before .loop .inv .2) .0)
+node-at-requires c κs =
+    let entry = c .before .before .before .before .before .before in
+    let at-loop = c .before .before .loop in
+    rw (c .goal-at .ensures) (entry .pre .0, low-next (entry .args .ws .now) (at-loop .here) (at-loop .left) (c .before .loop-test .taken) (at-loop .inv .2) .0)
 
 put-goal-requires : tie.Need-put-goal-requires Inv-loop μ-loop
-put-goal-requires c κs = let a = c .before .before .before .before .before .before .before .before .before .args in let l = c .before .before .before .before .before .loop in omega (arith, ap length (pass-on (stays (a .tab .now) (a .root .0)) (a .ws .now) (l .here) (l .left) (c .before .before .before .before .loop-test .taken) (goalAt (a .ws .now) (l .here)) (stay (a .tab .now) (a .root .0) 0 (goalAt (a .ws .now) (l .here)) (sym (node-is (a .tab .now) (a .root .0) _ (goalAt (a .ws .now) (l .here)) _ (c .before .before .before .goal-at .ensures) (c .before .before .node-at .ensures)) ∙ c .before .if1 .taken))))
+put-goal-requires c κs =
+    let entry = c .before .before .before .before .before .before .before .before .before in
+    let a = entry .args in let l = c .before .before .before .before .before .loop in omega (arith, ap length (pass-on (stays (a .tab .now) (a .root .0)) (a .ws .now) (l .here) (l .left) (c .before .before .before .before .loop-test .taken) (goalAt (a .ws .now) (l .here)) (stay (a .tab .now) (a .root .0) 0 (goalAt (a .ws .now) (l .here)) (sym (node-is (a .tab .now) (a .root .0) _ (goalAt (a .ws .now) (l .here)) _ (c .before .before .before .goal-at .ensures) (c .before .before .node-at .ensures)) ∙ c .before .if1 .taken))))
 
 add-next : tie.Need-add-next Inv-loop μ-loop
-add-next c = let a = c .before .before .before .before .before .before .before .before .before .before .before .before .args in let l = c .before .before .before .before .before .before .before .before .loop in omega (arith, ap length (pass-on (stays (a .tab .now) (a .root .0)) (a .ws .now) (l .here) (l .left) (c .before .before .before .before .before .before .before .loop-test .taken) (goalAt (a .ws .now) (l .here)) (stay (a .tab .now) (a .root .0) 0 (goalAt (a .ws .now) (l .here)) (sym (node-is (a .tab .now) (a .root .0) _ (goalAt (a .ws .now) (l .here)) _ (c .before .before .before .before .before .before .goal-at .ensures) (c .before .before .before .before .before .node-at .ensures)) ∙ c .before .before .before .before .if1 .taken))))
+add-next c =
+    let entry = c .before .before .before .before .before .before .before .before .before .before .before .before in
+    let at-loop = c .before .before .before .before .before .before .before .before .loop in
+    let at-loop-test = c .before .before .before .before .before .before .before .loop-test in
+    let at-goal-at = c .before .before .before .before .before .before .goal-at in
+    let a = entry .args in let l = at-loop in omega (arith, ap length (pass-on (stays (a .tab .now) (a .root .0)) (a .ws .now) (l .here) (l .left) (at-loop-test .taken) (goalAt (a .ws .now) (l .here)) (stay (a .tab .now) (a .root .0) 0 (goalAt (a .ws .now) (l .here)) (sym (node-is (a .tab .now) (a .root .0) _ (goalAt (a .ws .now) (l .here)) _ (at-goal-at .ensures) (c .before .before .before .before .before .node-at .ensures)) ∙ c .before .before .before .before .if1 .taken))))
 
 add-here : tie.Need-add-here Inv-loop μ-loop
 add-here c = search needs
@@ -50,19 +60,23 @@ loop-less : tie.Need-loop-less Inv-loop μ-loop
 loop-less c = search needs
 
 loop-again : tie.Need-loop-again Inv-loop μ-loop
-loop-again c = let a = c .before .before .before .before .before .before .before .before .args in let l = c .before .before .before .before .loop in
-    let low = low-next (a .ws .now) (l .here) (l .left) (c .before .before .before .loop-test .taken) (l .inv .2) .1 in
+loop-again c =
+    let entry = c .before .before .before .before .before .before .before .before in
+    let at-loop-test = c .before .before .before .loop-test in
+    let at-goal-at = c .before .before .goal-at in
+    let a = entry .args in let l = c .before .before .before .before .loop in
+    let low = low-next (a .ws .now) (l .here) (l .left) (at-loop-test .taken) (l .inv .2) .1 in
     let g = goalAt (a .ws .now) (l .here) in
     let e = stays (a .tab .now) (a .root .0) in
     ⊎-elim
-    (λ w. let p = pass-on e (a .ws .now) (l .here) (l .left) (c .before .before .before .loop-test .taken) g (stay (a .tab .now) (a .root .0) 0 g (sym (node-is (a .tab .now) (a .root .0) _ (goalAt (a .ws .now) (l .here)) _ (c .before .before .goal-at .ensures) (c .before .node-at .ensures)) ∙ w .0 .taken)) in (
+    (λ w. let p = pass-on e (a .ws .now) (l .here) (l .left) (at-loop-test .taken) g (stay (a .tab .now) (a .root .0) 0 g (sym (node-is (a .tab .now) (a .root .0) _ (goalAt (a .ws .now) (l .here)) _ (at-goal-at .ensures) (c .before .node-at .ensures)) ∙ w .0 .taken)) in (
       ap length (w .5) ∙ w .2 .kept .0 ∙ l .inv .0,
       omega arith,
       low,
       omega (arith, w .6, ap length p),
-      l .inv .4 ∙ ap (sets (l .out) (l .next)) p ∙ run-three (l .out) (l .next) (g .sh) (g .an) (g .mask) (Pass e (a .ws .now) (l .here + 3) (l .left - 1)) ∙ rw (w .6, w .5, w .2 .ensures, c .before .before .goal-at .ensures) refl,
+      l .inv .4 ∙ ap (sets (l .out) (l .next)) p ∙ run-three (l .out) (l .next) (g .sh) (g .an) (g .mask) (Pass e (a .ws .now) (l .here + 3) (l .left - 1)) ∙ rw (w .6, w .5, w .2 .ensures, at-goal-at .ensures) refl,
     ))
-    (λ w. let p = pass-off e (a .ws .now) (l .here) (l .left) (c .before .before .before .loop-test .taken) (leave (a .tab .now) (a .root .0) 0 g (λ z. w .0 .left (node-is (a .tab .now) (a .root .0) _ (goalAt (a .ws .now) (l .here)) _ (c .before .before .goal-at .ensures) (c .before .node-at .ensures) ∙ z))) in
+    (λ w. let p = pass-off e (a .ws .now) (l .here) (l .left) (at-loop-test .taken) (leave (a .tab .now) (a .root .0) 0 g (λ z. w .0 .left (node-is (a .tab .now) (a .root .0) _ (goalAt (a .ws .now) (l .here)) _ (at-goal-at .ensures) (c .before .node-at .ensures) ∙ z))) in
     (ap length (w .1) ∙ l .inv .0, omega arith, low, omega (arith, w .2, ap length p), rw (w .1, w .2) (l .inv .4 ∙ ap (sets (l .out) (l .next)) p)))
     (c .if1 .came)
 

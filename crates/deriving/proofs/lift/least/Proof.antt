@@ -46,10 +46,12 @@ loop-less : tie.Need-loop-less Inv-loop μ-loop
 loop-less c = search needs
 
 loop-again : tie.Need-loop-again Inv-loop μ-loop
-loop-again c = let a = c .before .before .before .before .args in let l = c .before .before .before .loop in
+loop-again c =
+    let at-loop-test = c .before .before .loop-test in
+    let a = c .before .before .before .before .args in let l = c .before .before .before .loop in
     ⊎-elim
-    (λ w. (omega arith, l .inv .1 ∙ rw (w .2) (least-next (a .ws .now) (l .here) (l .left) (l .found) (c .before .before .loop-test .taken) (w .0 .taken))))
-    (λ w. (omega arith, l .inv .1 ∙ rw (w .1) (least-keep (a .ws .now) (l .here) (l .left) (l .found) (c .before .before .loop-test .taken) (w .0 .left))))
+    (λ w. (omega arith, l .inv .1 ∙ rw (w .2) (least-next (a .ws .now) (l .here) (l .left) (l .found) (at-loop-test .taken) (w .0 .taken))))
+    (λ w. (omega arith, l .inv .1 ∙ rw (w .1) (least-keep (a .ws .now) (l .here) (l .left) (l .found) (at-loop-test .taken) (w .0 .left))))
     (c .if1 .came)
 
 returns : tie.Need-returns Inv-loop μ-loop

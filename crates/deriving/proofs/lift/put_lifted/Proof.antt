@@ -35,7 +35,10 @@ under-requires : tie.Need-under-requires Inv-loop μ-loop
 under-requires c κs = search needs
 
 put-goal-requires : tie.Need-put-goal-requires Inv-loop μ-loop
-put-goal-requires c κs = let l = c .before .before .before .before .before .before .loop in omega (arith, c .before .before .before .before .before .before .before .before .before .pre .2, c .before .before .before .before .before .loop-test .taken, l .inv .2, l .inv .3)
+put-goal-requires c κs =
+    let entry = c .before .before .before .before .before .before .before .before .before in
+    let at-loop = c .before .before .before .before .before .before .loop in
+    let l = at-loop in omega (arith, entry .pre .2, c .before .before .before .before .before .loop-test .taken, l .inv .2, l .inv .3)
 
 add-next : tie.Need-add-next Inv-loop μ-loop
 add-next c = search needs
@@ -50,16 +53,22 @@ loop-less : tie.Need-loop-less Inv-loop μ-loop
 loop-less c = search needs
 
 loop-again : tie.Need-loop-again Inv-loop μ-loop
-loop-again c = let a = c .before .before .before .before .before .before .before .before .before .before .before .before .args in let l = c .before .before .before .before .before .before .before .before .before .loop in
-    let p = lifted-next (a .top .0) (a .ws .now) (l .here) (l .left) (c .before .before .before .before .before .before .before .before .loop-test .taken) in
+loop-again c =
+    let entry = c .before .before .before .before .before .before .before .before .before .before .before .before in
+    let at-loop = c .before .before .before .before .before .before .before .before .before .loop in
+    let at-loop-test = c .before .before .before .before .before .before .before .before .loop-test in
+    let at-goal-at = c .before .before .before .before .before .before .before .goal-at in
+    let at-put-goal = c .before .before .put-goal in
+    let a = entry .args in let l = at-loop in
+    let p = lifted-next (a .top .0) (a .ws .now) (l .here) (l .left) (at-loop-test .taken) in
     let rest = lifted (a .top .0) (a .ws .now) (l .here + 3) (l .left - 1) in
     let u = underCode (a .top .0) (getD (a .ws .now) (l .here + 1) 0) in
-    let e = ap₂ (λ (x : ℕ) (y : Goal). sets (l .out) (l .next) (y .shape .0 ∷ x ∷ y .mask ∷ [])) (c .before .before .before .before .under .ensures ∙ ap (λ (y : Goal). underCode (a .top .0) (y .at .0)) (c .before .before .before .before .before .before .before .goal-at .ensures)) (c .before .before .before .before .before .before .before .goal-at .ensures) in (
+    let e = ap₂ (λ (x : ℕ) (y : Goal). sets (l .out) (l .next) (y .shape .0 ∷ x ∷ y .mask ∷ [])) (c .before .before .before .before .under .ensures ∙ ap (λ (y : Goal). underCode (a .top .0) (y .at .0)) (at-goal-at .ensures)) (at-goal-at .ensures) in (
       omega arith,
       omega arith,
       omega arith,
-      c .before .before .put-goal .kept .0 ∙ l .inv .3,
-      l .inv .4 ∙ ap (sets (l .out) (l .next)) p ∙ run-three (l .out) (l .next) (getD (a .ws .now) (l .here) 0) u (getD (a .ws .now) (l .here + 2) 0) rest ∙ ap (λ o. sets o (l .next + 3) rest) (sym (c .before .before .put-goal .ensures ∙ e)),
+      at-put-goal .kept .0 ∙ l .inv .3,
+      l .inv .4 ∙ ap (sets (l .out) (l .next)) p ∙ run-three (l .out) (l .next) (getD (a .ws .now) (l .here) 0) u (getD (a .ws .now) (l .here + 2) 0) rest ∙ ap (λ o. sets o (l .next + 3) rest) (sym (at-put-goal .ensures ∙ e)),
     )
 
 same-length : tie.Need-same-length Inv-loop μ-loop

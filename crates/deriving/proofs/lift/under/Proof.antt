@@ -31,10 +31,14 @@ rem-t9 : tie.Need-rem-t9 Inv-loop μ-loop
 rem-t9 c = let l = c .before .before .before .before .loop in omega (arith, l .inv .1, five-le (7 - l .left) (omega arith) .0)
 
 cast-t10 : tie.Need-cast-t10 Inv-loop μ-loop
-cast-t10 c = let l = c .before .before .before .before .loop in omega (arith, rem-le (c .before .before .before .before .before .before .args .place .0) (l .weight))
+cast-t10 c =
+    let entry = c .before .before .before .before .before .before in
+    let l = c .before .before .before .before .loop in omega (arith, rem-le (entry .args .place .0) (l .weight))
 
 returns : tie.Need-returns Inv-loop μ-loop
-returns c = let a = c .before .before .before .before .before .before .args in let l = c .before .before .before .before .loop in sym (l .inv .2 ∙ under-stop (a .top .0) (a .place .0) (l .left) (l .up) (l .weight) (c .before .if1 .taken))
+returns c =
+    let entry = c .before .before .before .before .before .before in
+    let a = entry .args in let l = c .before .before .before .before .loop in sym (l .inv .2 ∙ under-stop (a .top .0) (a .place .0) (l .left) (l .up) (l .weight) (c .before .if1 .taken))
 
 mul-weight : tie.Need-mul-weight Inv-loop μ-loop
 mul-weight c = let l = c .before .before .before .loop in omega (arith, l .inv .1, five-le (7 - l .left) (omega arith) .1)
@@ -46,7 +50,9 @@ loop-less : tie.Need-loop-less Inv-loop μ-loop
 loop-less c = search needs
 
 loop-again : tie.Need-loop-again Inv-loop μ-loop
-loop-again c = let a = c .before .before .before .before .before .args in let l = c .before .before .before .loop in (omega arith, ap (λ w. w * 5) (l .inv .1) ∙ five-next (l .left) (c .before .before .loop-test .taken) (l .inv .0), l .inv .2 ∙ under-next (a .top .0) (a .place .0) (l .left) (l .up) (l .weight) (c .before .before .loop-test .taken) (c .if1 .left))
+loop-again c =
+    let at-loop-test = c .before .before .loop-test in
+    let a = c .before .before .before .before .before .args in let l = c .before .before .before .loop in (omega arith, ap (λ w. w * 5) (l .inv .1) ∙ five-next (l .left) (at-loop-test .taken) (l .inv .0), l .inv .2 ∙ under-next (a .top .0) (a .place .0) (l .left) (l .up) (l .weight) (at-loop-test .taken) (c .if1 .left))
 
 cast-t11 : tie.Need-cast-t11 Inv-loop μ-loop
 cast-t11 c = search needs

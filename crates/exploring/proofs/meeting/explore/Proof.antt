@@ -22,7 +22,9 @@ slice-aggregate-put-fresh : tie.Need-slice-aggregate-put-fresh Inv-loop μ-loop
 slice-aggregate-put-fresh c = search needs
 
 put-fresh-requires : tie.Need-put-fresh-requires Inv-loop μ-loop
-put-fresh-requires c κs = (c .before .before .before .before .pre .0 .few-shapes, fresh-room (c .before .before .before .before .args .shapes) (c .before .before .before .before .pre .0 .few-shapes))
+put-fresh-requires c κs =
+    let entry = c .before .before .before .before in
+    (entry .pre .0 .few-shapes, fresh-room (entry .args .shapes) (entry .pre .0 .few-shapes))
 
 slice-aggregate-add-state : tie.Need-slice-aggregate-add-state Inv-loop μ-loop
 slice-aggregate-add-state c = search needs
@@ -31,46 +33,83 @@ add-state-requires : tie.Need-add-state-requires Inv-loop μ-loop
 add-state-requires c κs = search needs
 
 loop-holds : tie.Need-loop-holds Inv-loop μ-loop
-loop-holds c = (running-begin (c .before .before .before .before .before .before .before .before .before .before .before .args .arity .now) (c .before .before .before .before .before .before .before .before .before .before .before .args .tab .now) (c .before .before .before .before .before .before .before .before .before .before .before .args .shapes) (c .before .before .before .before .before .before .before .before .before .before .before .args .scratch .now) (c .before .before .before .before .before .before .before .before .before .before .before .pre .0) (c .before .before .before .before .before .before .before .before .before .before .before .pre .1) _ _ (c .before .before .before .before .before .before .put-fresh .ensures .1) (c .before .before .add-state .ensures)) .0
+loop-holds c =
+    let entry = c .before .before .before .before .before .before .before .before .before .before .before in
+    let at-put-fresh = c .before .before .before .before .before .before .put-fresh in
+    (running-begin (entry .args .arity .now) (entry .args .tab .now) (entry .args .shapes) (entry .args .scratch .now) (entry .pre .0) (entry .pre .1) _ _ (at-put-fresh .ensures .1) (c .before .before .add-state .ensures)) .0
 
 cast-t25 : tie.Need-cast-t25 Inv-loop μ-loop
 cast-t25 c = omega (arith, c .before .loop-test .taken, c .before .before .loop .inv .kept .few)
 
 explore-state-requires : tie.Need-explore-state-requires Inv-loop μ-loop
-explore-state-requires c κs = (c .before .before .loop .inv .kept, c .before .loop-test .taken, c .before .before .loop .inv .good)
+explore-state-requires c κs =
+    let at-loop = c .before .before .loop in
+    (at-loop .inv .kept, c .before .loop-test .taken, at-loop .inv .good)
 
 enum-known-states : tie.Need-enum-known-states Inv-loop μ-loop
 enum-known-states c = search needs
 
 add-words : tie.Need-add-words Inv-loop μ-loop
-add-words c = let s = (running-on (c .before .before .before .before .before .before .before .before .before .before .before .before .before .before .before .before .before .before .before .before .args .arity .now) (c .before .before .before .before .before .before .before .before .before .before .before .before .before .before .before .before .before .before .before .before .args .tab .now) (c .before .before .before .before .before .before .before .before .before .before .before .before .before .before .before .before .before .before .before .before .args .shapes) _ (c .before .before .before .before .before .before .before .before .loop .inv) (c .before .before .before .before .before .before .before .loop-test .taken) _ (c .before .before .before .before .before .explore-state .result) _ _ (c .before .states .given .1) (c .before .before .before .before .before .explore-state .ensures .0) (c .before .before .before .before .before .explore-state .ensures .1) (c .before .before .before .before .before .explore-state .kept .1 .1 .1 .0)) in omega (arith, s .sum, s .below, s .kept .few)
+add-words c =
+    let entry = c .before .before .before .before .before .before .before .before .before .before .before .before .before .before .before .before .before .before .before .before in
+    let at-loop = c .before .before .before .before .before .before .before .before .loop in
+    let at-loop-test = c .before .before .before .before .before .before .before .loop-test in
+    let at-explore-state = c .before .before .before .before .before .explore-state in
+    let s = (running-on (entry .args .arity .now) (entry .args .tab .now) (entry .args .shapes) _ (at-loop .inv) (at-loop-test .taken) _ (at-explore-state .result) _ _ (c .before .states .given .1) (at-explore-state .ensures .0) (at-explore-state .ensures .1) (at-explore-state .kept .1 .1 .1 .0)) in omega (arith, s .sum, s .below, s .kept .few)
 
 enum-known-reason : tie.Need-enum-known-reason Inv-loop μ-loop
 enum-known-reason c = search needs
 
 cast-t27 : tie.Need-cast-t27 Inv-loop μ-loop
-cast-t27 c = omega (arith, c .before .before .before .before .before .before .before .loop-test .taken, c .before .before .before .before .before .before .before .before .loop .inv .kept .few)
+cast-t27 c =
+    let at-loop = c .before .before .before .before .before .before .before .before .loop in
+    let at-loop-test = c .before .before .before .before .before .before .before .loop-test in
+    omega (arith, at-loop-test .taken, at-loop .inv .kept .few)
 
 same-length : tie.Need-same-length Inv-loop μ-loop
-same-length c = c .before .before .before .before .before .explore-state .kept .1 .1 .1 .0 ∙ c .before .before .before .before .before .before .before .before .loop .inv .long ∙ c .before .before .before .before .before .before .before .before .before .before .before .add-state .kept .0
+same-length c =
+    let at-add-state = c .before .before .before .before .before .before .before .before .before .before .before .add-state in
+    let at-loop = c .before .before .before .before .before .before .before .before .loop in
+    c .before .before .before .before .before .explore-state .kept .1 .1 .1 .0 ∙ at-loop .inv .long ∙ at-add-state .kept .0
 
 returns : tie.Need-returns Inv-loop μ-loop
-returns c = (running-stop (c .before .before .before .before .before .before .before .before .before .before .before .before .before .before .before .before .before .before .before .before .args .arity .now) (c .before .before .before .before .before .before .before .before .before .before .before .before .before .before .before .before .before .before .before .before .args .tab .now) (c .before .before .before .before .before .before .before .before .before .before .before .before .before .before .before .before .before .before .before .before .args .shapes) _ (c .before .before .before .before .before .before .before .before .loop .inv) (c .before .before .before .before .before .before .before .loop-test .taken) _ (c .before .before .before .before .before .explore-state .result) _ (c .before .reason .given .1) (c .before .before .before .before .before .explore-state .ensures .0), c .before .before .before .before .before .explore-state .ensures .1 ∙ c .before .before .before .before .before .before .before .before .loop .inv .behind ∙ (running-begin (c .before .before .before .before .before .before .before .before .before .before .before .before .before .before .before .before .before .before .before .before .args .arity .now) (c .before .before .before .before .before .before .before .before .before .before .before .before .before .before .before .before .before .before .before .before .args .tab .now) (c .before .before .before .before .before .before .before .before .before .before .before .before .before .before .before .before .before .before .before .before .args .shapes) (c .before .before .before .before .before .before .before .before .before .before .before .before .before .before .before .before .before .before .before .before .args .scratch .now) (c .before .before .before .before .before .before .before .before .before .before .before .before .before .before .before .before .before .before .before .before .pre .0) (c .before .before .before .before .before .before .before .before .before .before .before .before .before .before .before .before .before .before .before .before .pre .1) _ _ (c .before .before .before .before .before .before .before .before .before .before .before .before .before .before .before .put-fresh .ensures .1) (c .before .before .before .before .before .before .before .before .before .before .before .add-state .ensures)) .1)
+returns c =
+    let entry = c .before .before .before .before .before .before .before .before .before .before .before .before .before .before .before .before .before .before .before .before in
+    let at-put-fresh = c .before .before .before .before .before .before .before .before .before .before .before .before .before .before .before .put-fresh in
+    let at-add-state = c .before .before .before .before .before .before .before .before .before .before .before .add-state in
+    let at-loop = c .before .before .before .before .before .before .before .before .loop in
+    let at-loop-test = c .before .before .before .before .before .before .before .loop-test in
+    let at-explore-state = c .before .before .before .before .before .explore-state in
+    (running-stop (entry .args .arity .now) (entry .args .tab .now) (entry .args .shapes) _ (at-loop .inv) (at-loop-test .taken) _ (at-explore-state .result) _ (c .before .reason .given .1) (at-explore-state .ensures .0), at-explore-state .ensures .1 ∙ at-loop .inv .behind ∙ (running-begin (entry .args .arity .now) (entry .args .tab .now) (entry .args .shapes) (entry .args .scratch .now) (entry .pre .0) (entry .pre .1) _ _ (at-put-fresh .ensures .1) (at-add-state .ensures)) .1)
 
 add-i : tie.Need-add-i Inv-loop μ-loop
-add-i c = omega (arith, c .before .before .before .before .before .before .before .loop-test .taken, c .before .before .before .before .before .before .before .before .loop .inv .kept .few)
+add-i c =
+    let at-loop = c .before .before .before .before .before .before .before .before .loop in
+    let at-loop-test = c .before .before .before .before .before .before .before .loop-test in
+    omega (arith, at-loop-test .taken, at-loop .inv .kept .few)
 
 loop-less : tie.Need-loop-less Inv-loop μ-loop
-loop-less c = omega (arith, c .before .before .before .before .before .before .before .loop-test .taken, c .before .before .before .before .before .before .before .before .loop .inv .kept .few)
+loop-less c =
+    let at-loop = c .before .before .before .before .before .before .before .before .loop in
+    let at-loop-test = c .before .before .before .before .before .before .before .loop-test in
+    omega (arith, at-loop-test .taken, at-loop .inv .kept .few)
 
 loop-again : tie.Need-loop-again Inv-loop μ-loop
-loop-again c = (running-on (c .before .before .before .before .before .before .before .before .before .before .before .before .before .before .before .before .before .before .before .before .args .arity .now) (c .before .before .before .before .before .before .before .before .before .before .before .before .before .before .before .before .before .before .before .before .args .tab .now) (c .before .before .before .before .before .before .before .before .before .before .before .before .before .before .before .before .before .before .before .before .args .shapes) _ (c .before .before .before .before .before .before .before .before .loop .inv) (c .before .before .before .before .before .before .before .loop-test .taken) _ (c .before .before .before .before .before .explore-state .result) _ _ (c .before .states .given .1) (c .before .before .before .before .before .explore-state .ensures .0) (c .before .before .before .before .before .explore-state .ensures .1) (c .before .before .before .before .before .explore-state .kept .1 .1 .1 .0))
+loop-again c =
+    let entry = c .before .before .before .before .before .before .before .before .before .before .before .before .before .before .before .before .before .before .before .before in
+    let at-loop = c .before .before .before .before .before .before .before .before .loop in
+    let at-loop-test = c .before .before .before .before .before .before .before .loop-test in
+    let at-explore-state = c .before .before .before .before .before .explore-state in
+    (running-on (entry .args .arity .now) (entry .args .tab .now) (entry .args .shapes) _ (at-loop .inv) (at-loop-test .taken) _ (at-explore-state .result) _ _ (c .before .states .given .1) (at-explore-state .ensures .0) (at-explore-state .ensures .1) (at-explore-state .kept .1 .1 .1 .0))
 
 same-length-2 : tie.Need-same-length-2 Inv-loop μ-loop
 same-length-2 c = c .before .loop .inv .long ∙ c .before .before .before .before .add-state .kept .0
 
 returns-2 : tie.Need-returns-2 Inv-loop μ-loop
-returns-2 c = (running-end (c .before .before .before .before .before .before .before .before .before .before .before .before .before .args .arity .now) (c .before .before .before .before .before .before .before .before .before .before .before .before .before .args .tab .now) (c .before .before .before .before .before .before .before .before .before .before .before .before .before .args .shapes) _ (c .before .loop .inv) (c .loop-test .left), c .before .loop .inv .behind ∙ (running-begin (c .before .before .before .before .before .before .before .before .before .before .before .before .before .args .arity .now) (c .before .before .before .before .before .before .before .before .before .before .before .before .before .args .tab .now) (c .before .before .before .before .before .before .before .before .before .before .before .before .before .args .shapes) (c .before .before .before .before .before .before .before .before .before .before .before .before .before .args .scratch .now) (c .before .before .before .before .before .before .before .before .before .before .before .before .before .pre .0) (c .before .before .before .before .before .before .before .before .before .before .before .before .before .pre .1) _ _ (c .before .before .before .before .before .before .before .before .put-fresh .ensures .1) (c .before .before .before .before .add-state .ensures)) .1)
+returns-2 c =
+    let entry = c .before .before .before .before .before .before .before .before .before .before .before .before .before in
+    let at-put-fresh = c .before .before .before .before .before .before .before .before .put-fresh in
+    (running-end (entry .args .arity .now) (entry .args .tab .now) (entry .args .shapes) _ (c .before .loop .inv) (c .loop-test .left), c .before .loop .inv .behind ∙ (running-begin (entry .args .arity .now) (entry .args .tab .now) (entry .args .shapes) (entry .args .scratch .now) (entry .pre .0) (entry .pre .1) _ _ (at-put-fresh .ensures .1) (c .before .before .before .before .add-state .ensures)) .1)
 
 pub explore-spec : {M : Type 1} → statement M
 explore-spec =

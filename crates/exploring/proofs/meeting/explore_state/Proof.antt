@@ -23,39 +23,58 @@ abbrev μ-loop : tie.MeasureT-loop
 
 -- src/meeting.rt:62:13
 mul-n : tie.Need-mul-n Inv-loop μ-loop
-mul-n c = omega (arith, c .before .before .before .before .pre .0 .few, c .before .before .before .before .pre .1)
+mul-n c =
+    let entry = c .before .before .before .before in
+    omega (arith, entry .pre .0 .few, entry .pre .1)
 
 -- src/meeting.rt:62:13
 slice-read-n : tie.Need-slice-read-n Inv-loop μ-loop
-slice-read-n c = omega (arith, c .before .before .before .before .before .pre .0 .few, c .before .before .before .before .before .pre .1, c .before .before .before .before .before .pre .0 .long)
+slice-read-n c =
+    let entry = c .before .before .before .before .before in
+    omega (arith, entry .pre .0 .few, entry .pre .1, entry .pre .0 .long)
 
 -- src/meeting.rt:62:13
 cast-n : tie.Need-cast-n Inv-loop μ-loop
-cast-n c = omega (arith, c .before .before .before .before .before .pre .0 .counts (c .before .before .before .before .before .args .state .0) (c .before .before .before .before .before .pre .1))
+cast-n c =
+    let entry = c .before .before .before .before .before in
+    omega (arith, entry .pre .0 .counts (entry .args .state .0) (entry .pre .1))
 
 -- src/meeting.rt:63:39
 mul-label : tie.Need-mul-label Inv-loop μ-loop
-mul-label c = omega (arith, c .before .before .before .before .before .before .pre .0 .few, c .before .before .before .before .before .before .pre .1)
+mul-label c =
+    let entry = c .before .before .before .before .before .before in
+    omega (arith, entry .pre .0 .few, entry .pre .1)
 
 -- src/meeting.rt:63:33
 add-label : tie.Need-add-label Inv-loop μ-loop
-add-label c = omega (arith, c .before .before .before .before .before .before .pre .0 .few, c .before .before .before .before .before .before .pre .1)
+add-label c =
+    let entry = c .before .before .before .before .before .before in
+    omega (arith, entry .pre .0 .few, entry .pre .1)
 
 -- src/meeting.rt:63:13
 label-requires : tie.Need-label-requires Inv-loop μ-loop
-label-requires c κs = ((c .before .before .before .before .before .before .pre .2 (stateIn (c .before .before .before .before .before .before .args .scratch .now) (c .before .before .before .before .before .before .args .state .0)) (state-in (c .before .before .before .before .before .before .args .scratch .now) (c .before .before .before .before .before .before .args .m) (c .before .before .before .before .before .before .args .state .0) (c .before .before .before .before .before .before .pre .1))) .ready .tabled, omega (arith, c .before .before .before .before .before .before .pre .0 .counts (c .before .before .before .before .before .before .args .state .0) (c .before .before .before .before .before .before .pre .1)), omega (arith, c .before .before .before .before .before .before .pre .0 .counts (c .before .before .before .before .before .before .args .state .0) (c .before .before .before .before .before .before .pre .1), c .before .before .before .before .before .before .pre .0 .long, c .before .before .before .before .before .before .pre .0 .few, c .before .before .before .before .before .before .pre .1), good-low (c .before .before .before .before .before .before .pre .2 (stateIn (c .before .before .before .before .before .before .args .scratch .now) (c .before .before .before .before .before .before .args .state .0)) (state-in (c .before .before .before .before .before .before .args .scratch .now) (c .before .before .before .before .before .before .args .m) (c .before .before .before .before .before .before .args .state .0) (c .before .before .before .before .before .before .pre .1))))
+label-requires c κs =
+    let entry = c .before .before .before .before .before .before in
+    ((entry .pre .2 (stateIn (entry .args .scratch .now) (entry .args .state .0)) (state-in (entry .args .scratch .now) (entry .args .m) (entry .args .state .0) (entry .pre .1))) .ready .tabled, omega (arith, entry .pre .0 .counts (entry .args .state .0) (entry .pre .1)), omega (arith, entry .pre .0 .counts (entry .args .state .0) (entry .pre .1), entry .pre .0 .long, entry .pre .0 .few, entry .pre .1), good-low (entry .pre .2 (stateIn (entry .args .scratch .now) (entry .args .state .0)) (state-in (entry .args .scratch .now) (entry .args .m) (entry .args .state .0) (entry .pre .1))))
 
 -- src/meeting.rt:63:13
 cast-c : tie.Need-cast-c Inv-loop μ-loop
-cast-c c = omega (arith, c .label .ensures, good-label (c .before .before .before .before .before .before .before .pre .2 (stateIn (c .before .before .before .before .before .before .before .args .scratch .now) (c .before .before .before .before .before .before .before .args .state .0)) (state-in (c .before .before .before .before .before .before .before .args .scratch .now) (c .before .before .before .before .before .before .before .args .m) (c .before .before .before .before .before .before .before .args .state .0) (c .before .before .before .before .before .before .before .pre .1))))
+cast-c c =
+    let entry = c .before .before .before .before .before .before .before in
+    omega (arith, c .label .ensures, good-label (entry .pre .2 (stateIn (entry .args .scratch .now) (entry .args .state .0)) (state-in (entry .args .scratch .now) (entry .args .m) (entry .args .state .0) (entry .pre .1))))
 
 -- src/meeting.rt:67:5
 loop-holds : tie.Need-loop-holds Inv-loop μ-loop
-loop-holds c = rowing-begin (c .before .before .before .before .before .before .before .args .arity .now) (c .before .before .before .before .before .before .before .args .tab .now) (c .before .before .before .before .before .before .before .args .shapes) (c .before .before .before .before .before .before .before .args .scratch .now) (c .before .before .before .before .before .before .before .args .m) (c .before .before .before .before .before .before .before .args .state .0) (c .before .before .before .before .before .before .before .pre .0) (c .before .before .before .before .before .before .before .pre .1) (c .before .before .before .before .before .before .before .pre .2)
+loop-holds c =
+    let entry = c .before .before .before .before .before .before .before in
+    rowing-begin (entry .args .arity .now) (entry .args .tab .now) (entry .args .shapes) (entry .args .scratch .now) (entry .args .m) (entry .args .state .0) (entry .pre .0) (entry .pre .1) (entry .pre .2)
 
 -- src/meeting.rt:68:15
 explore-symbol-requires : tie.Need-explore-symbol-requires Inv-loop μ-loop
-explore-symbol-requires c κs = (c .before .before .loop .inv .kept, c .before .before .loop .inv .inside, c .before .before .loop .inv .good, c .before .before .before .label .ensures ∙ ap (labelCode (c .before .before .before .before .before .before .before .before .before .before .args .tab .now)) (sym (c .before .before .loop .inv .still)), c .before .loop-test .taken)
+explore-symbol-requires c κs =
+    let entry = c .before .before .before .before .before .before .before .before .before .before in
+    let at-loop = c .before .before .loop in
+    (at-loop .inv .kept, at-loop .inv .inside, at-loop .inv .good, c .before .before .before .label .ensures ∙ ap (labelCode (entry .args .tab .now)) (sym (at-loop .inv .still)), c .before .loop-test .taken)
 
 -- src/meeting.rt:69:21
 enum-known-all : tie.Need-enum-known-all Inv-loop μ-loop
@@ -63,7 +82,13 @@ enum-known-all c = search needs
 
 -- src/meeting.rt:71:17
 add-words : tie.Need-add-words Inv-loop μ-loop
-add-words c = let s = (rowing-on (c .before .before .before .before .before .before .before .before .before .before .before .before .before .before .before .before .args .arity .now) (c .before .before .before .before .before .before .before .before .before .before .before .before .before .before .before .before .args .tab .now) (c .before .before .before .before .before .before .before .before .before .before .before .before .before .before .before .before .args .shapes) (c .before .before .before .before .before .before .before .before .before .before .before .before .before .before .before .before .args .scratch .now) (c .before .before .before .before .before .before .before .before .before .before .before .before .before .before .before .before .args .m) (c .before .before .before .before .before .before .before .before .before .before .before .before .before .before .before .before .args .state .0) (c .before .before .before .before .before .before .before .before .loop .inv) (c .before .before .before .before .before .before .before .loop-test .taken) (c .before .before .before .before .before .before .before .before .before .label .result) (c .before .before .before .before .before .before .before .before .before .label .ensures) _ (c .before .before .before .before .before .explore-symbol .result) _ _ (c .before .all .given .1) (c .before .before .before .before .before .explore-symbol .ensures .0) (c .before .before .before .before .before .explore-symbol .ensures .1) (c .before .before .before .before .before .explore-symbol .kept .1 .1 .1 .0)) in omega (arith, s .sum, s .below, (c .before .before .before .before .before .before .before .before .before .before .before .before .before .before .before .before .pre .2 (stateIn (c .before .before .before .before .before .before .before .before .before .before .before .before .before .before .before .before .args .scratch .now) (c .before .before .before .before .before .before .before .before .before .before .before .before .before .before .before .before .args .state .0)) (state-in (c .before .before .before .before .before .before .before .before .before .before .before .before .before .before .before .before .args .scratch .now) (c .before .before .before .before .before .before .before .before .before .before .before .before .before .before .before .before .args .m) (c .before .before .before .before .before .before .before .before .before .before .before .before .before .before .before .before .args .state .0) (c .before .before .before .before .before .before .before .before .before .before .before .before .before .before .before .before .pre .1))) .ready .few-symbols)
+add-words c =
+    let entry = c .before .before .before .before .before .before .before .before .before .before .before .before .before .before .before .before in
+    let at-label = c .before .before .before .before .before .before .before .before .before .label in
+    let at-loop = c .before .before .before .before .before .before .before .before .loop in
+    let at-loop-test = c .before .before .before .before .before .before .before .loop-test in
+    let at-explore-symbol = c .before .before .before .before .before .explore-symbol in
+    let s = (rowing-on (entry .args .arity .now) (entry .args .tab .now) (entry .args .shapes) (entry .args .scratch .now) (entry .args .m) (entry .args .state .0) (at-loop .inv) (at-loop-test .taken) (at-label .result) (at-label .ensures) _ (at-explore-symbol .result) _ _ (c .before .all .given .1) (at-explore-symbol .ensures .0) (at-explore-symbol .ensures .1) (at-explore-symbol .kept .1 .1 .1 .0)) in omega (arith, s .sum, s .below, (entry .pre .2 (stateIn (entry .args .scratch .now) (entry .args .state .0)) (state-in (entry .args .scratch .now) (entry .args .m) (entry .args .state .0) (entry .pre .1))) .ready .few-symbols)
 
 -- src/meeting.rt:73:26
 enum-known-reason : tie.Need-enum-known-reason Inv-loop μ-loop
@@ -71,11 +96,19 @@ enum-known-reason c = search needs
 
 -- src/meeting.rt:74:17
 same-length : tie.Need-same-length Inv-loop μ-loop
-same-length c = c .before .before .before .before .before .explore-symbol .kept .1 .1 .1 .0 ∙ c .before .before .before .before .before .before .before .before .loop .inv .long
+same-length c =
+    let at-loop = c .before .before .before .before .before .before .before .before .loop in
+    c .before .before .before .before .before .explore-symbol .kept .1 .1 .1 .0 ∙ at-loop .inv .long
 
 -- src/meeting.rt:74:17
 returns : tie.Need-returns Inv-loop μ-loop
-returns c = (rowing-stop (c .before .before .before .before .before .before .before .before .before .before .before .before .before .before .before .before .args .arity .now) (c .before .before .before .before .before .before .before .before .before .before .before .before .before .before .before .before .args .tab .now) (c .before .before .before .before .before .before .before .before .before .before .before .before .before .before .before .before .args .shapes) (c .before .before .before .before .before .before .before .before .before .before .before .before .before .before .before .before .args .scratch .now) (c .before .before .before .before .before .before .before .before .before .before .before .before .before .before .before .before .args .m) (c .before .before .before .before .before .before .before .before .before .before .before .before .before .before .before .before .args .state .0) (c .before .before .before .before .before .before .before .before .loop .inv) (c .before .before .before .before .before .before .before .loop-test .taken) (c .before .before .before .before .before .before .before .before .before .label .result) (c .before .before .before .before .before .before .before .before .before .label .ensures) _ (c .before .before .before .before .before .explore-symbol .result) _ (c .before .reason .given .1) (c .before .before .before .before .before .explore-symbol .ensures .0), c .before .before .before .before .before .explore-symbol .ensures .1 ∙ c .before .before .before .before .before .before .before .before .loop .inv .behind)
+returns c =
+    let entry = c .before .before .before .before .before .before .before .before .before .before .before .before .before .before .before .before in
+    let at-label = c .before .before .before .before .before .before .before .before .before .label in
+    let at-loop = c .before .before .before .before .before .before .before .before .loop in
+    let at-loop-test = c .before .before .before .before .before .before .before .loop-test in
+    let at-explore-symbol = c .before .before .before .before .before .explore-symbol in
+    (rowing-stop (entry .args .arity .now) (entry .args .tab .now) (entry .args .shapes) (entry .args .scratch .now) (entry .args .m) (entry .args .state .0) (at-loop .inv) (at-loop-test .taken) (at-label .result) (at-label .ensures) _ (at-explore-symbol .result) _ (c .before .reason .given .1) (at-explore-symbol .ensures .0), at-explore-symbol .ensures .1 ∙ at-loop .inv .behind)
 
 -- src/meeting.rt:77:9
 add-f : tie.Need-add-f Inv-loop μ-loop
@@ -87,7 +120,13 @@ loop-less c = search needs
 
 -- src/meeting.rt:67:5
 loop-again : tie.Need-loop-again Inv-loop μ-loop
-loop-again c = (rowing-on (c .before .before .before .before .before .before .before .before .before .before .before .before .before .before .before .before .args .arity .now) (c .before .before .before .before .before .before .before .before .before .before .before .before .before .before .before .before .args .tab .now) (c .before .before .before .before .before .before .before .before .before .before .before .before .before .before .before .before .args .shapes) (c .before .before .before .before .before .before .before .before .before .before .before .before .before .before .before .before .args .scratch .now) (c .before .before .before .before .before .before .before .before .before .before .before .before .before .before .before .before .args .m) (c .before .before .before .before .before .before .before .before .before .before .before .before .before .before .before .before .args .state .0) (c .before .before .before .before .before .before .before .before .loop .inv) (c .before .before .before .before .before .before .before .loop-test .taken) (c .before .before .before .before .before .before .before .before .before .label .result) (c .before .before .before .before .before .before .before .before .before .label .ensures) _ (c .before .before .before .before .before .explore-symbol .result) _ _ (c .before .all .given .1) (c .before .before .before .before .before .explore-symbol .ensures .0) (c .before .before .before .before .before .explore-symbol .ensures .1) (c .before .before .before .before .before .explore-symbol .kept .1 .1 .1 .0))
+loop-again c =
+    let entry = c .before .before .before .before .before .before .before .before .before .before .before .before .before .before .before .before in
+    let at-label = c .before .before .before .before .before .before .before .before .before .label in
+    let at-loop = c .before .before .before .before .before .before .before .before .loop in
+    let at-loop-test = c .before .before .before .before .before .before .before .loop-test in
+    let at-explore-symbol = c .before .before .before .before .before .explore-symbol in
+    (rowing-on (entry .args .arity .now) (entry .args .tab .now) (entry .args .shapes) (entry .args .scratch .now) (entry .args .m) (entry .args .state .0) (at-loop .inv) (at-loop-test .taken) (at-label .result) (at-label .ensures) _ (at-explore-symbol .result) _ _ (c .before .all .given .1) (at-explore-symbol .ensures .0) (at-explore-symbol .ensures .1) (at-explore-symbol .kept .1 .1 .1 .0))
 
 -- src/meeting.rt:57:1
 same-length-2 : tie.Need-same-length-2 Inv-loop μ-loop
@@ -95,13 +134,17 @@ same-length-2 c = c .before .loop .inv .long
 
 -- src/meeting.rt:57:1
 returns-2 : tie.Need-returns-2 Inv-loop μ-loop
-returns-2 c = (rowing-end (c .before .before .before .before .before .before .before .before .before .args .arity .now) (c .before .before .before .before .before .before .before .before .before .args .tab .now) (c .before .before .before .before .before .before .before .before .before .args .shapes) (c .before .before .before .before .before .before .before .before .before .args .scratch .now) (c .before .before .before .before .before .before .before .before .before .args .m) (c .before .before .before .before .before .before .before .before .before .args .state .0) (c .before .loop .inv) (c .loop-test .left) ((c .before .before .before .before .before .before .before .before .before .pre .2 (stateIn (c .before .before .before .before .before .before .before .before .before .args .scratch .now) (c .before .before .before .before .before .before .before .before .before .args .state .0)) (state-in (c .before .before .before .before .before .before .before .before .before .args .scratch .now) (c .before .before .before .before .before .before .before .before .before .args .m) (c .before .before .before .before .before .before .before .before .before .args .state .0) (c .before .before .before .before .before .before .before .before .before .pre .1))) .ready .few-symbols), c .before .loop .inv .behind)
+returns-2 c =
+    let entry = c .before .before .before .before .before .before .before .before .before in
+    (rowing-end (entry .args .arity .now) (entry .args .tab .now) (entry .args .shapes) (entry .args .scratch .now) (entry .args .m) (entry .args .state .0) (c .before .loop .inv) (c .loop-test .left) ((entry .pre .2 (stateIn (entry .args .scratch .now) (entry .args .state .0)) (state-in (entry .args .scratch .now) (entry .args .m) (entry .args .state .0) (entry .pre .1))) .ready .few-symbols), c .before .loop .inv .behind)
 
 cast-i : tie.Need-cast-i Inv-loop μ-loop
 cast-i c = search needs
 
 cast-t29 : tie.Need-cast-t29 Inv-loop μ-loop
-cast-t29 c = omega (arith, c .before .loop-test .taken, (c .before .before .before .before .before .before .before .before .before .before .pre .2 (stateIn (c .before .before .before .before .before .before .before .before .before .before .args .scratch .now) (c .before .before .before .before .before .before .before .before .before .before .args .state .0)) (state-in (c .before .before .before .before .before .before .before .before .before .before .args .scratch .now) (c .before .before .before .before .before .before .before .before .before .before .args .m) (c .before .before .before .before .before .before .before .before .before .before .args .state .0) (c .before .before .before .before .before .before .before .before .before .before .pre .1))) .ready .few-symbols)
+cast-t29 c =
+    let entry = c .before .before .before .before .before .before .before .before .before .before in
+    omega (arith, c .before .loop-test .taken, (entry .pre .2 (stateIn (entry .args .scratch .now) (entry .args .state .0)) (state-in (entry .args .scratch .now) (entry .args .m) (entry .args .state .0) (entry .pre .1))) .ready .few-symbols)
 
 pub explore-state-spec : {M : Type 1} → statement M
 explore-state-spec =

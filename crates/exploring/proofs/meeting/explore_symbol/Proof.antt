@@ -34,43 +34,64 @@ cast-k : tie.Need-cast-k
 cast-k c = search needs
 
 shared-slice-read-k : tie.Need-shared-slice-read-k
-shared-slice-read-k c = c .before .before .before .before .before .before .pre .4
+shared-slice-read-k c =
+    let entry = c .before .before .before .before .before .before in
+    entry .pre .4
 
 cast-k-2 : tie.Need-cast-k-2
-cast-k-2 c = omega (arith, c .shared-slice-known3 .given (c .before .before .before .before .before .before .args .symbol .0))
+cast-k-2 c =
+    let entry = c .before .before .before .before .before .before in
+    omega (arith, c .shared-slice-known3 .given (entry .args .symbol .0))
 
 mul-at : tie.Need-mul-at
-mul-at c = omega (arith, c .before .before .before .before .before .before .pre .0 .few, c .before .before .before .before .before .before .pre .1)
+mul-at c =
+    let entry = c .before .before .before .before .before .before in
+    omega (arith, entry .pre .0 .few, entry .pre .1)
 
 add-at : tie.Need-add-at
-add-at c = omega (arith, c .before .before .before .before .before .before .pre .0 .few, c .before .before .before .before .before .before .pre .1)
+add-at c =
+    let entry = c .before .before .before .before .before .before in
+    omega (arith, entry .pre .0 .few, entry .pre .1)
 
 mul-n : tie.Need-mul-n
-mul-n c = omega (arith, c .before .before .before .before .before .before .pre .0 .few, c .before .before .before .before .before .before .pre .1)
+mul-n c =
+    let entry = c .before .before .before .before .before .before in
+    omega (arith, entry .pre .0 .few, entry .pre .1)
 
 slice-read-n : tie.Need-slice-read-n
-slice-read-n c = omega (arith, c .before .before .before .before .before .before .before .pre .0 .few, c .before .before .before .before .before .before .before .pre .1, c .before .before .before .before .before .before .before .pre .0 .long)
+slice-read-n c =
+    let entry = c .before .before .before .before .before .before .before in
+    omega (arith, entry .pre .0 .few, entry .pre .1, entry .pre .0 .long)
 
 cast-n : tie.Need-cast-n
-cast-n c = omega (arith, c .before .before .before .before .before .before .before .pre .0 .counts (c .before .before .before .before .before .before .before .args .state .0) (c .before .before .before .before .before .before .before .pre .1))
+cast-n c =
+    let entry = c .before .before .before .before .before .before .before in
+    omega (arith, entry .pre .0 .counts (entry .args .state .0) (entry .pre .1))
 
 slice-aggregate-outputs : tie.Need-slice-aggregate-outputs
 slice-aggregate-outputs c = search needs
 
 outputs-requires : tie.Need-outputs-requires
-outputs-requires c κs = ((c .before .before .before .before .before .before .before .before .before .pre .2 (stateIn (c .before .before .before .before .before .before .before .before .before .args .scratch .now) (c .before .before .before .before .before .before .before .before .before .args .state .0)) (state-in (c .before .before .before .before .before .before .before .before .before .args .scratch .now) (c .before .before .before .before .before .before .before .before .before .args .m) (c .before .before .before .before .before .before .before .before .before .args .state .0) (c .before .before .before .before .before .before .before .before .before .pre .1))) .ready .tabled, omega (arith, c .before .before .before .before .before .before .before .before .before .pre .0 .counts (c .before .before .before .before .before .before .before .before .before .args .state .0) (c .before .before .before .before .before .before .before .before .before .pre .1)), omega (arith, c .before .before .before .before .before .before .before .before .before .pre .0 .counts (c .before .before .before .before .before .before .before .before .before .args .state .0) (c .before .before .before .before .before .before .before .before .before .pre .1), c .before .before .before .before .before .before .before .before .before .pre .0 .long, c .before .before .before .before .before .before .before .before .before .pre .0 .few, c .before .before .before .before .before .before .before .before .before .pre .1), (λ j h. low-at (c .before .before .before .before .before .before .before .before .before .args .scratch .now) (128 + 96 * c .before .before .before .before .before .before .before .before .before .args .state .0) (getD (c .before .before .before .before .before .before .before .before .before .args .scratch .now) (c .before .before .before .before .before .before .before .before .before .args .state .0) 0) j (good-low (c .before .before .before .before .before .before .before .before .before .pre .2 (stateIn (c .before .before .before .before .before .before .before .before .before .args .scratch .now) (c .before .before .before .before .before .before .before .before .before .args .state .0)) (state-in (c .before .before .before .before .before .before .before .before .before .args .scratch .now) (c .before .before .before .before .before .before .before .before .before .args .m) (c .before .before .before .before .before .before .before .before .before .args .state .0) (c .before .before .before .before .before .before .before .before .before .pre .1)))) h), omega (arith, c .before .before .before .before .before .before .before .before .before .pre .0 .counts (c .before .before .before .before .before .before .before .before .before .args .state .0) (c .before .before .before .before .before .before .before .before .before .pre .1)))
+outputs-requires c κs =
+    let entry = c .before .before .before .before .before .before .before .before .before in
+    ((entry .pre .2 (stateIn (entry .args .scratch .now) (entry .args .state .0)) (state-in (entry .args .scratch .now) (entry .args .m) (entry .args .state .0) (entry .pre .1))) .ready .tabled, omega (arith, entry .pre .0 .counts (entry .args .state .0) (entry .pre .1)), omega (arith, entry .pre .0 .counts (entry .args .state .0) (entry .pre .1), entry .pre .0 .long, entry .pre .0 .few, entry .pre .1), (λ j h. low-at (entry .args .scratch .now) (128 + 96 * entry .args .state .0) (getD (entry .args .scratch .now) (entry .args .state .0) 0) j (good-low (entry .pre .2 (stateIn (entry .args .scratch .now) (entry .args .state .0)) (state-in (entry .args .scratch .now) (entry .args .m) (entry .args .state .0) (entry .pre .1)))) h), omega (arith, entry .pre .0 .counts (entry .args .state .0) (entry .pre .1)))
 
 slice-aggregate-derive : tie.Need-slice-aggregate-derive
 slice-aggregate-derive c = search needs
 
 derive-requires : tie.Need-derive-requires
-derive-requires c κs = ((c .before .before .before .before .before .before .before .before .before .before .before .before .before .pre .2 (stateIn (c .before .before .before .before .before .before .before .before .before .before .before .before .before .args .scratch .now) (c .before .before .before .before .before .before .before .before .before .before .before .before .before .args .state .0)) (state-in (c .before .before .before .before .before .before .before .before .before .before .before .before .before .args .scratch .now) (c .before .before .before .before .before .before .before .before .before .before .before .before .before .args .m) (c .before .before .before .before .before .before .before .before .before .before .before .before .before .args .state .0) (c .before .before .before .before .before .before .before .before .before .before .before .before .before .pre .1))) .ready .tabled, omega (arith, c .before .before .before .before .before .before .before .before .before .before .before .before .before .pre .0 .counts (c .before .before .before .before .before .before .before .before .before .before .before .before .before .args .state .0) (c .before .before .before .before .before .before .before .before .before .before .before .before .before .pre .1)), omega (arith, c .before .before .before .before .before .before .before .before .before .before .before .before .before .pre .0 .counts (c .before .before .before .before .before .before .before .before .before .before .before .before .before .args .state .0) (c .before .before .before .before .before .before .before .before .before .before .before .before .before .pre .1), c .before .before .before .before .before .before .before .before .before .before .before .before .before .pre .0 .long, c .before .before .before .before .before .before .before .before .before .before .before .before .before .pre .0 .few, c .before .before .before .before .before .before .before .before .before .before .before .before .before .pre .1), good-low (c .before .before .before .before .before .before .before .before .before .before .before .before .before .pre .2 (stateIn (c .before .before .before .before .before .before .before .before .before .before .before .before .before .args .scratch .now) (c .before .before .before .before .before .before .before .before .before .before .before .before .before .args .state .0)) (state-in (c .before .before .before .before .before .before .before .before .before .before .before .before .before .args .scratch .now) (c .before .before .before .before .before .before .before .before .before .before .before .before .before .args .m) (c .before .before .before .before .before .before .before .before .before .before .before .before .before .args .state .0) (c .before .before .before .before .before .before .before .before .before .before .before .before .before .pre .1))), (c .before .before .before .before .before .before .before .before .before .before .before .before .before .pre .2 (stateIn (c .before .before .before .before .before .before .before .before .before .before .before .before .before .args .scratch .now) (c .before .before .before .before .before .before .before .before .before .before .before .before .before .args .state .0)) (state-in (c .before .before .before .before .before .before .before .before .before .before .before .before .before .args .scratch .now) (c .before .before .before .before .before .before .before .before .before .before .before .before .before .args .m) (c .before .before .before .before .before .before .before .before .before .before .before .before .before .args .state .0) (c .before .before .before .before .before .before .before .before .before .before .before .before .before .pre .1))) .ready .few-shapes, derive-small (c .before .before .before .before .before .before .before .before .before .before .before .before .before .pre .2 (stateIn (c .before .before .before .before .before .before .before .before .before .before .before .before .before .args .scratch .now) (c .before .before .before .before .before .before .before .before .before .before .before .before .before .args .state .0)) (state-in (c .before .before .before .before .before .before .before .before .before .before .before .before .before .args .scratch .now) (c .before .before .before .before .before .before .before .before .before .before .before .before .before .args .m) (c .before .before .before .before .before .before .before .before .before .before .before .before .before .args .state .0) (c .before .before .before .before .before .before .before .before .before .before .before .before .before .pre .1))) (c .before .before .before .before .before .before .before .before .before .before .before .before .before .args .root .0) (c .before .before .before .before .before .before .before .before .before .before .before .before .before .args .symbol .0) (c .before .before .before .before .before .before .before .before .before .before .before .before .before .pre .3) (c .before .before .before .before .before .before .before .before .before .before .before .before .before .pre .4), derive-room (c .before .before .before .before .before .before .before .before .before .before .before .before .before .pre .2 (stateIn (c .before .before .before .before .before .before .before .before .before .before .before .before .before .args .scratch .now) (c .before .before .before .before .before .before .before .before .before .before .before .before .before .args .state .0)) (state-in (c .before .before .before .before .before .before .before .before .before .before .before .before .before .args .scratch .now) (c .before .before .before .before .before .before .before .before .before .before .before .before .before .args .m) (c .before .before .before .before .before .before .before .before .before .before .before .before .before .args .state .0) (c .before .before .before .before .before .before .before .before .before .before .before .before .before .pre .1))) (c .before .before .before .before .before .before .before .before .before .before .before .before .before .args .root .0) (c .before .before .before .before .before .before .before .before .before .before .before .before .before .args .symbol .0) (c .before .before .before .before .before .before .before .before .before .before .before .before .before .pre .3) (c .before .before .before .before .before .before .before .before .before .before .before .before .before .pre .4))
+derive-requires c κs =
+    let entry = c .before .before .before .before .before .before .before .before .before .before .before .before .before in
+    ((entry .pre .2 (stateIn (entry .args .scratch .now) (entry .args .state .0)) (state-in (entry .args .scratch .now) (entry .args .m) (entry .args .state .0) (entry .pre .1))) .ready .tabled, omega (arith, entry .pre .0 .counts (entry .args .state .0) (entry .pre .1)), omega (arith, entry .pre .0 .counts (entry .args .state .0) (entry .pre .1), entry .pre .0 .long, entry .pre .0 .few, entry .pre .1), good-low (entry .pre .2 (stateIn (entry .args .scratch .now) (entry .args .state .0)) (state-in (entry .args .scratch .now) (entry .args .m) (entry .args .state .0) (entry .pre .1))), (entry .pre .2 (stateIn (entry .args .scratch .now) (entry .args .state .0)) (state-in (entry .args .scratch .now) (entry .args .m) (entry .args .state .0) (entry .pre .1))) .ready .few-shapes, derive-small (entry .pre .2 (stateIn (entry .args .scratch .now) (entry .args .state .0)) (state-in (entry .args .scratch .now) (entry .args .m) (entry .args .state .0) (entry .pre .1))) (entry .args .root .0) (entry .args .symbol .0) (entry .pre .3) (entry .pre .4), derive-room (entry .pre .2 (stateIn (entry .args .scratch .now) (entry .args .state .0)) (state-in (entry .args .scratch .now) (entry .args .m) (entry .args .state .0) (entry .pre .1))) (entry .args .root .0) (entry .args .symbol .0) (entry .pre .3) (entry .pre .4))
 
 slice-aggregate-dependency : tie.Need-slice-aggregate-dependency
 slice-aggregate-dependency c = search needs
 
 dependency-requires : tie.Need-dependency-requires
-dependency-requires c κs = ((c .before .before .before .before .before .before .before .before .before .before .before .before .before .before .before .before .before .pre .2 (stateIn (c .before .before .before .before .before .before .before .before .before .before .before .before .before .before .before .before .before .args .scratch .now) (c .before .before .before .before .before .before .before .before .before .before .before .before .before .before .before .before .before .args .state .0)) (state-in (c .before .before .before .before .before .before .before .before .before .before .before .before .before .before .before .before .before .args .scratch .now) (c .before .before .before .before .before .before .before .before .before .before .before .before .before .before .before .before .before .args .m) (c .before .before .before .before .before .before .before .before .before .before .before .before .before .before .before .before .before .args .state .0) (c .before .before .before .before .before .before .before .before .before .before .before .before .before .before .before .before .before .pre .1))) .ready .tabled, (derived (c .before .before .before .before .before .before .before .before .before .before .before .before .before .before .before .before .before .pre .2 (stateIn (c .before .before .before .before .before .before .before .before .before .before .before .before .before .before .before .before .before .args .scratch .now) (c .before .before .before .before .before .before .before .before .before .before .before .before .before .before .before .before .before .args .state .0)) (state-in (c .before .before .before .before .before .before .before .before .before .before .before .before .before .before .before .before .before .args .scratch .now) (c .before .before .before .before .before .before .before .before .before .before .before .before .before .before .before .before .before .args .m) (c .before .before .before .before .before .before .before .before .before .before .before .before .before .before .before .before .before .args .state .0) (c .before .before .before .before .before .before .before .before .before .before .before .before .before .before .before .before .before .pre .1))) (c .before .before .before .before .before .before .before .before .before .before .before .before .before .before .before .before .before .args .root .0) (c .before .before .before .before .before .before .before .before .before .before .before .before .before .before .before .before .before .args .symbol .0) (c .before .before .before .before .before .before .before .before .before .before .before .before .before .before .before .before .before .pre .3) (c .before .before .before .before .before .before .before .before .before .before .before .before .before .before .before .before .before .pre .4) _ (c .before .before .before .derive .result) (c .before .before .before .derive .ensures .0) (c .before .before .before .derive .ensures .1)) .few, omega (arith, (derived (c .before .before .before .before .before .before .before .before .before .before .before .before .before .before .before .before .before .pre .2 (stateIn (c .before .before .before .before .before .before .before .before .before .before .before .before .before .before .before .before .before .args .scratch .now) (c .before .before .before .before .before .before .before .before .before .before .before .before .before .before .before .before .before .args .state .0)) (state-in (c .before .before .before .before .before .before .before .before .before .before .before .before .before .before .before .before .before .args .scratch .now) (c .before .before .before .before .before .before .before .before .before .before .before .before .before .before .before .before .before .args .m) (c .before .before .before .before .before .before .before .before .before .before .before .before .before .before .before .before .before .args .state .0) (c .before .before .before .before .before .before .before .before .before .before .before .before .before .before .before .before .before .pre .1))) (c .before .before .before .before .before .before .before .before .before .before .before .before .before .before .before .before .before .args .root .0) (c .before .before .before .before .before .before .before .before .before .before .before .before .before .before .before .before .before .args .symbol .0) (c .before .before .before .before .before .before .before .before .before .before .before .before .before .before .before .before .before .pre .3) (c .before .before .before .before .before .before .before .before .before .before .before .before .before .before .before .before .before .pre .4) _ (c .before .before .before .derive .result) (c .before .before .before .derive .ensures .0) (c .before .before .before .derive .ensures .1)) .few, c .before .before .before .derive .kept .1 .1 .1 .1 .1 .1 .1 .1 .0), (derived (c .before .before .before .before .before .before .before .before .before .before .before .before .before .before .before .before .before .pre .2 (stateIn (c .before .before .before .before .before .before .before .before .before .before .before .before .before .before .before .before .before .args .scratch .now) (c .before .before .before .before .before .before .before .before .before .before .before .before .before .before .before .before .before .args .state .0)) (state-in (c .before .before .before .before .before .before .before .before .before .before .before .before .before .before .before .before .before .args .scratch .now) (c .before .before .before .before .before .before .before .before .before .before .before .before .before .before .before .before .before .args .m) (c .before .before .before .before .before .before .before .before .before .before .before .before .before .before .before .before .before .args .state .0) (c .before .before .before .before .before .before .before .before .before .before .before .before .before .before .before .before .before .pre .1))) (c .before .before .before .before .before .before .before .before .before .before .before .before .before .before .before .before .before .args .root .0) (c .before .before .before .before .before .before .before .before .before .before .before .before .before .before .before .before .before .args .symbol .0) (c .before .before .before .before .before .before .before .before .before .before .before .before .before .before .before .before .before .pre .3) (c .before .before .before .before .before .before .before .before .before .before .before .before .before .before .before .before .before .pre .4) _ (c .before .before .before .derive .result) (c .before .before .before .derive .ensures .0) (c .before .before .before .derive .ensures .1)) .low, empty-square)
+dependency-requires c κs =
+    let entry = c .before .before .before .before .before .before .before .before .before .before .before .before .before .before .before .before .before in
+    let at-derive = c .before .before .before .derive in
+    ((entry .pre .2 (stateIn (entry .args .scratch .now) (entry .args .state .0)) (state-in (entry .args .scratch .now) (entry .args .m) (entry .args .state .0) (entry .pre .1))) .ready .tabled, (derived (entry .pre .2 (stateIn (entry .args .scratch .now) (entry .args .state .0)) (state-in (entry .args .scratch .now) (entry .args .m) (entry .args .state .0) (entry .pre .1))) (entry .args .root .0) (entry .args .symbol .0) (entry .pre .3) (entry .pre .4) _ (at-derive .result) (at-derive .ensures .0) (at-derive .ensures .1)) .few, omega (arith, (derived (entry .pre .2 (stateIn (entry .args .scratch .now) (entry .args .state .0)) (state-in (entry .args .scratch .now) (entry .args .m) (entry .args .state .0) (entry .pre .1))) (entry .args .root .0) (entry .args .symbol .0) (entry .pre .3) (entry .pre .4) _ (at-derive .result) (at-derive .ensures .0) (at-derive .ensures .1)) .few, at-derive .kept .1 .1 .1 .1 .1 .1 .1 .1 .0), (derived (entry .pre .2 (stateIn (entry .args .scratch .now) (entry .args .state .0)) (state-in (entry .args .scratch .now) (entry .args .m) (entry .args .state .0) (entry .pre .1))) (entry .args .root .0) (entry .args .symbol .0) (entry .pre .3) (entry .pre .4) _ (at-derive .result) (at-derive .ensures .0) (at-derive .ensures .1)) .low, empty-square)
 
 slice-aggregate-class-order : tie.Need-slice-aggregate-class-order
 slice-aggregate-class-order c = search needs
@@ -79,7 +100,10 @@ slice-aggregate-class-order-2 : tie.Need-slice-aggregate-class-order-2
 slice-aggregate-class-order-2 c = search needs
 
 class-order-requires : tie.Need-class-order-requires
-class-order-requires c κs = ((c .before .before .before .before .before .before .before .before .before .before .before .before .before .before .before .before .before .before .before .before .before .pre .2 (stateIn (c .before .before .before .before .before .before .before .before .before .before .before .before .before .before .before .before .before .before .before .before .before .args .scratch .now) (c .before .before .before .before .before .before .before .before .before .before .before .before .before .before .before .before .before .before .before .before .before .args .state .0)) (state-in (c .before .before .before .before .before .before .before .before .before .before .before .before .before .before .before .before .before .before .before .before .before .args .scratch .now) (c .before .before .before .before .before .before .before .before .before .before .before .before .before .before .before .before .before .before .before .before .before .args .m) (c .before .before .before .before .before .before .before .before .before .before .before .before .before .before .before .before .before .before .before .before .before .args .state .0) (c .before .before .before .before .before .before .before .before .before .before .before .before .before .before .before .before .before .before .before .before .before .pre .1))) .ready .tabled, (derived (c .before .before .before .before .before .before .before .before .before .before .before .before .before .before .before .before .before .before .before .before .before .pre .2 (stateIn (c .before .before .before .before .before .before .before .before .before .before .before .before .before .before .before .before .before .before .before .before .before .args .scratch .now) (c .before .before .before .before .before .before .before .before .before .before .before .before .before .before .before .before .before .before .before .before .before .args .state .0)) (state-in (c .before .before .before .before .before .before .before .before .before .before .before .before .before .before .before .before .before .before .before .before .before .args .scratch .now) (c .before .before .before .before .before .before .before .before .before .before .before .before .before .before .before .before .before .before .before .before .before .args .m) (c .before .before .before .before .before .before .before .before .before .before .before .before .before .before .before .before .before .before .before .before .before .args .state .0) (c .before .before .before .before .before .before .before .before .before .before .before .before .before .before .before .before .before .before .before .before .before .pre .1))) (c .before .before .before .before .before .before .before .before .before .before .before .before .before .before .before .before .before .before .before .before .before .args .root .0) (c .before .before .before .before .before .before .before .before .before .before .before .before .before .before .before .before .before .before .before .before .before .args .symbol .0) (c .before .before .before .before .before .before .before .before .before .before .before .before .before .before .before .before .before .before .before .before .before .pre .3) (c .before .before .before .before .before .before .before .before .before .before .before .before .before .before .before .before .before .before .before .before .before .pre .4) _ (c .before .before .before .before .before .before .before .derive .result) (c .before .before .before .before .before .before .before .derive .ensures .0) (c .before .before .before .before .before .before .before .derive .ensures .1)) .few, omega (arith, (derived (c .before .before .before .before .before .before .before .before .before .before .before .before .before .before .before .before .before .before .before .before .before .pre .2 (stateIn (c .before .before .before .before .before .before .before .before .before .before .before .before .before .before .before .before .before .before .before .before .before .args .scratch .now) (c .before .before .before .before .before .before .before .before .before .before .before .before .before .before .before .before .before .before .before .before .before .args .state .0)) (state-in (c .before .before .before .before .before .before .before .before .before .before .before .before .before .before .before .before .before .before .before .before .before .args .scratch .now) (c .before .before .before .before .before .before .before .before .before .before .before .before .before .before .before .before .before .before .before .before .before .args .m) (c .before .before .before .before .before .before .before .before .before .before .before .before .before .before .before .before .before .before .before .before .before .args .state .0) (c .before .before .before .before .before .before .before .before .before .before .before .before .before .before .before .before .before .before .before .before .before .pre .1))) (c .before .before .before .before .before .before .before .before .before .before .before .before .before .before .before .before .before .before .before .before .before .args .root .0) (c .before .before .before .before .before .before .before .before .before .before .before .before .before .before .before .before .before .before .before .before .before .args .symbol .0) (c .before .before .before .before .before .before .before .before .before .before .before .before .before .before .before .before .before .before .before .before .before .pre .3) (c .before .before .before .before .before .before .before .before .before .before .before .before .before .before .before .before .before .before .before .before .before .pre .4) _ (c .before .before .before .before .before .before .before .derive .result) (c .before .before .before .before .before .before .before .derive .ensures .0) (c .before .before .before .before .before .before .before .derive .ensures .1)) .few, c .before .before .before .before .before .before .before .derive .kept .1 .1 .1 .1 .1 .1 .1 .1 .0), (derived (c .before .before .before .before .before .before .before .before .before .before .before .before .before .before .before .before .before .before .before .before .before .pre .2 (stateIn (c .before .before .before .before .before .before .before .before .before .before .before .before .before .before .before .before .before .before .before .before .before .args .scratch .now) (c .before .before .before .before .before .before .before .before .before .before .before .before .before .before .before .before .before .before .before .before .before .args .state .0)) (state-in (c .before .before .before .before .before .before .before .before .before .before .before .before .before .before .before .before .before .before .before .before .before .args .scratch .now) (c .before .before .before .before .before .before .before .before .before .before .before .before .before .before .before .before .before .before .before .before .before .args .m) (c .before .before .before .before .before .before .before .before .before .before .before .before .before .before .before .before .before .before .before .before .before .args .state .0) (c .before .before .before .before .before .before .before .before .before .before .before .before .before .before .before .before .before .before .before .before .before .pre .1))) (c .before .before .before .before .before .before .before .before .before .before .before .before .before .before .before .before .before .before .before .before .before .args .root .0) (c .before .before .before .before .before .before .before .before .before .before .before .before .before .before .before .before .before .before .before .before .before .args .symbol .0) (c .before .before .before .before .before .before .before .before .before .before .before .before .before .before .before .before .before .before .before .before .before .pre .3) (c .before .before .before .before .before .before .before .before .before .before .before .before .before .before .before .before .before .before .before .before .before .pre .4) _ (c .before .before .before .before .before .before .before .derive .result) (c .before .before .before .before .before .before .before .derive .ensures .0) (c .before .before .before .before .before .before .before .derive .ensures .1)) .low, c .before .before .before .dependency .ensures .0, (derived (c .before .before .before .before .before .before .before .before .before .before .before .before .before .before .before .before .before .before .before .before .before .pre .2 (stateIn (c .before .before .before .before .before .before .before .before .before .before .before .before .before .before .before .before .before .before .before .before .before .args .scratch .now) (c .before .before .before .before .before .before .before .before .before .before .before .before .before .before .before .before .before .before .before .before .before .args .state .0)) (state-in (c .before .before .before .before .before .before .before .before .before .before .before .before .before .before .before .before .before .before .before .before .before .args .scratch .now) (c .before .before .before .before .before .before .before .before .before .before .before .before .before .before .before .before .before .before .before .before .before .args .m) (c .before .before .before .before .before .before .before .before .before .before .before .before .before .before .before .before .before .before .before .before .before .args .state .0) (c .before .before .before .before .before .before .before .before .before .before .before .before .before .before .before .before .before .before .before .before .before .pre .1))) (c .before .before .before .before .before .before .before .before .before .before .before .before .before .before .before .before .before .before .before .before .before .args .root .0) (c .before .before .before .before .before .before .before .before .before .before .before .before .before .before .before .before .before .before .before .before .before .args .symbol .0) (c .before .before .before .before .before .before .before .before .before .before .before .before .before .before .before .before .before .before .before .before .before .pre .3) (c .before .before .before .before .before .before .before .before .before .before .before .before .before .before .before .before .before .before .before .before .before .pre .4) _ (c .before .before .before .before .before .before .before .derive .result) (c .before .before .before .before .before .before .before .derive .ensures .0) (c .before .before .before .before .before .before .before .derive .ensures .1)) .few)
+class-order-requires c κs =
+    let entry = c .before .before .before .before .before .before .before .before .before .before .before .before .before .before .before .before .before .before .before .before .before in
+    let at-derive = c .before .before .before .before .before .before .before .derive in
+    ((entry .pre .2 (stateIn (entry .args .scratch .now) (entry .args .state .0)) (state-in (entry .args .scratch .now) (entry .args .m) (entry .args .state .0) (entry .pre .1))) .ready .tabled, (derived (entry .pre .2 (stateIn (entry .args .scratch .now) (entry .args .state .0)) (state-in (entry .args .scratch .now) (entry .args .m) (entry .args .state .0) (entry .pre .1))) (entry .args .root .0) (entry .args .symbol .0) (entry .pre .3) (entry .pre .4) _ (at-derive .result) (at-derive .ensures .0) (at-derive .ensures .1)) .few, omega (arith, (derived (entry .pre .2 (stateIn (entry .args .scratch .now) (entry .args .state .0)) (state-in (entry .args .scratch .now) (entry .args .m) (entry .args .state .0) (entry .pre .1))) (entry .args .root .0) (entry .args .symbol .0) (entry .pre .3) (entry .pre .4) _ (at-derive .result) (at-derive .ensures .0) (at-derive .ensures .1)) .few, at-derive .kept .1 .1 .1 .1 .1 .1 .1 .1 .0), (derived (entry .pre .2 (stateIn (entry .args .scratch .now) (entry .args .state .0)) (state-in (entry .args .scratch .now) (entry .args .m) (entry .args .state .0) (entry .pre .1))) (entry .args .root .0) (entry .args .symbol .0) (entry .pre .3) (entry .pre .4) _ (at-derive .result) (at-derive .ensures .0) (at-derive .ensures .1)) .low, c .before .before .before .dependency .ensures .0, (derived (entry .pre .2 (stateIn (entry .args .scratch .now) (entry .args .state .0)) (state-in (entry .args .scratch .now) (entry .args .m) (entry .args .state .0) (entry .pre .1))) (entry .args .root .0) (entry .args .symbol .0) (entry .pre .3) (entry .pre .4) _ (at-derive .result) (at-derive .ensures .0) (at-derive .ensures .1)) .few)
 
 slice-aggregate-meet-all : tie.Need-slice-aggregate-meet-all
 slice-aggregate-meet-all c = search needs
@@ -91,26 +115,50 @@ part-meet-all-start : tie.Need-part-meet-all-start
 part-meet-all-start c = search needs
 
 part-meet-all-end : tie.Need-part-meet-all-end
-part-meet-all-end c = let h = part-count (begins (c .before .before .before .before .before .before .before .before .before .dependency .last .1 .1 .1 .0)) (λ x. classKey (c .before .before .before .before .before .before .before .before .before .before .before .before .before .before .before .before .before .before .before .before .before .before .before .before .before .before .before .args .tab .now) (classAt (c .before .before .before .before .before .before .before .before .before .dependency .last .1 .1 .1 .0) (c .before .before .before .before .before .before .before .before .before .before .before .before .before .derive .last .1 .1 .1 .1 .1 .1 .1 .1 .0) (c .before .before .before .before .before .before .before .before .before .before .before .before .before .derive .result / 3) x)) (c .before .before .before .before .before .before .before .before .before .before .before .before .before .derive .result / 3) (replicate {A = ℕ} 96 0) _ (c .before .before .before .before .before .class-order .result) ((derived (c .before .before .before .before .before .before .before .before .before .before .before .before .before .before .before .before .before .before .before .before .before .before .before .before .before .before .before .pre .2 (stateIn (c .before .before .before .before .before .before .before .before .before .before .before .before .before .before .before .before .before .before .before .before .before .before .before .before .before .before .before .args .scratch .now) (c .before .before .before .before .before .before .before .before .before .before .before .before .before .before .before .before .before .before .before .before .before .before .before .before .before .before .before .args .state .0)) (state-in (c .before .before .before .before .before .before .before .before .before .before .before .before .before .before .before .before .before .before .before .before .before .before .before .before .before .before .before .args .scratch .now) (c .before .before .before .before .before .before .before .before .before .before .before .before .before .before .before .before .before .before .before .before .before .before .before .before .before .before .before .args .m) (c .before .before .before .before .before .before .before .before .before .before .before .before .before .before .before .before .before .before .before .before .before .before .before .before .before .before .before .args .state .0) (c .before .before .before .before .before .before .before .before .before .before .before .before .before .before .before .before .before .before .before .before .before .before .before .before .before .before .before .pre .1))) (c .before .before .before .before .before .before .before .before .before .before .before .before .before .before .before .before .before .before .before .before .before .before .before .before .before .before .before .args .root .0) (c .before .before .before .before .before .before .before .before .before .before .before .before .before .before .before .before .before .before .before .before .before .before .before .before .before .before .before .args .symbol .0) (c .before .before .before .before .before .before .before .before .before .before .before .before .before .before .before .before .before .before .before .before .before .before .before .before .before .before .before .pre .3) (c .before .before .before .before .before .before .before .before .before .before .before .before .before .before .before .before .before .before .before .before .before .before .before .before .before .before .before .pre .4) _ (c .before .before .before .before .before .before .before .before .before .before .before .before .before .derive .result) (c .before .before .before .before .before .before .before .before .before .before .before .before .before .derive .ensures .0) (c .before .before .before .before .before .before .before .before .before .before .before .before .before .derive .ensures .1)) .few) ((derived (c .before .before .before .before .before .before .before .before .before .before .before .before .before .before .before .before .before .before .before .before .before .before .before .before .before .before .before .pre .2 (stateIn (c .before .before .before .before .before .before .before .before .before .before .before .before .before .before .before .before .before .before .before .before .before .before .before .before .before .before .before .args .scratch .now) (c .before .before .before .before .before .before .before .before .before .before .before .before .before .before .before .before .before .before .before .before .before .before .before .before .before .before .before .args .state .0)) (state-in (c .before .before .before .before .before .before .before .before .before .before .before .before .before .before .before .before .before .before .before .before .before .before .before .before .before .before .before .args .scratch .now) (c .before .before .before .before .before .before .before .before .before .before .before .before .before .before .before .before .before .before .before .before .before .before .before .before .before .before .before .args .m) (c .before .before .before .before .before .before .before .before .before .before .before .before .before .before .before .before .before .before .before .before .before .before .before .before .before .before .before .args .state .0) (c .before .before .before .before .before .before .before .before .before .before .before .before .before .before .before .before .before .before .before .before .before .before .before .before .before .before .before .pre .1))) (c .before .before .before .before .before .before .before .before .before .before .before .before .before .before .before .before .before .before .before .before .before .before .before .before .before .before .before .args .root .0) (c .before .before .before .before .before .before .before .before .before .before .before .before .before .before .before .before .before .before .before .before .before .before .before .before .before .before .before .args .symbol .0) (c .before .before .before .before .before .before .before .before .before .before .before .before .before .before .before .before .before .before .before .before .before .before .before .before .before .before .before .pre .3) (c .before .before .before .before .before .before .before .before .before .before .before .before .before .before .before .before .before .before .before .before .before .before .before .before .before .before .before .pre .4) _ (c .before .before .before .before .before .before .before .before .before .before .before .before .before .derive .result) (c .before .before .before .before .before .before .before .before .before .before .before .before .before .derive .ensures .0) (c .before .before .before .before .before .before .before .before .before .before .before .before .before .derive .ensures .1)) .few) (c .before .before .before .before .before .class-order .ensures .0) (c .before .before .before .before .before .class-order .ensures .1) in omega (arith, h, (derived (c .before .before .before .before .before .before .before .before .before .before .before .before .before .before .before .before .before .before .before .before .before .before .before .before .before .before .before .pre .2 (stateIn (c .before .before .before .before .before .before .before .before .before .before .before .before .before .before .before .before .before .before .before .before .before .before .before .before .before .before .before .args .scratch .now) (c .before .before .before .before .before .before .before .before .before .before .before .before .before .before .before .before .before .before .before .before .before .before .before .before .before .before .before .args .state .0)) (state-in (c .before .before .before .before .before .before .before .before .before .before .before .before .before .before .before .before .before .before .before .before .before .before .before .before .before .before .before .args .scratch .now) (c .before .before .before .before .before .before .before .before .before .before .before .before .before .before .before .before .before .before .before .before .before .before .before .before .before .before .before .args .m) (c .before .before .before .before .before .before .before .before .before .before .before .before .before .before .before .before .before .before .before .before .before .before .before .before .before .before .before .args .state .0) (c .before .before .before .before .before .before .before .before .before .before .before .before .before .before .before .before .before .before .before .before .before .before .before .before .before .before .before .pre .1))) (c .before .before .before .before .before .before .before .before .before .before .before .before .before .before .before .before .before .before .before .before .before .before .before .before .before .before .before .args .root .0) (c .before .before .before .before .before .before .before .before .before .before .before .before .before .before .before .before .before .before .before .before .before .before .before .before .before .before .before .args .symbol .0) (c .before .before .before .before .before .before .before .before .before .before .before .before .before .before .before .before .before .before .before .before .before .before .before .before .before .before .before .pre .3) (c .before .before .before .before .before .before .before .before .before .before .before .before .before .before .before .before .before .before .before .before .before .before .before .before .before .before .before .pre .4) _ (c .before .before .before .before .before .before .before .before .before .before .before .before .before .derive .result) (c .before .before .before .before .before .before .before .before .before .before .before .before .before .derive .ensures .0) (c .before .before .before .before .before .before .before .before .before .before .before .before .before .derive .ensures .1)) .few)
+part-meet-all-end c =
+    let entry = c .before .before .before .before .before .before .before .before .before .before .before .before .before .before .before .before .before .before .before .before .before .before .before .before .before .before .before in
+    let at-derive = c .before .before .before .before .before .before .before .before .before .before .before .before .before .derive in
+    let at-dependency = c .before .before .before .before .before .before .before .before .before .dependency in
+    let at-class-order = c .before .before .before .before .before .class-order in
+    let h = part-count (begins (at-dependency .last .1 .1 .1 .0)) (λ x. classKey (entry .args .tab .now) (classAt (at-dependency .last .1 .1 .1 .0) (at-derive .last .1 .1 .1 .1 .1 .1 .1 .1 .0) (at-derive .result / 3) x)) (at-derive .result / 3) (replicate {A = ℕ} 96 0) _ (at-class-order .result) ((derived (entry .pre .2 (stateIn (entry .args .scratch .now) (entry .args .state .0)) (state-in (entry .args .scratch .now) (entry .args .m) (entry .args .state .0) (entry .pre .1))) (entry .args .root .0) (entry .args .symbol .0) (entry .pre .3) (entry .pre .4) _ (at-derive .result) (at-derive .ensures .0) (at-derive .ensures .1)) .few) ((derived (entry .pre .2 (stateIn (entry .args .scratch .now) (entry .args .state .0)) (state-in (entry .args .scratch .now) (entry .args .m) (entry .args .state .0) (entry .pre .1))) (entry .args .root .0) (entry .args .symbol .0) (entry .pre .3) (entry .pre .4) _ (at-derive .result) (at-derive .ensures .0) (at-derive .ensures .1)) .few) (at-class-order .ensures .0) (at-class-order .ensures .1) in omega (arith, h, (derived (entry .pre .2 (stateIn (entry .args .scratch .now) (entry .args .state .0)) (state-in (entry .args .scratch .now) (entry .args .m) (entry .args .state .0) (entry .pre .1))) (entry .args .root .0) (entry .args .symbol .0) (entry .pre .3) (entry .pre .4) _ (at-derive .result) (at-derive .ensures .0) (at-derive .ensures .1)) .few)
 
 mul-meet-all : tie.Need-mul-meet-all
-mul-meet-all c = omega (arith, (outs-many (c .before .before .before .before .before .before .before .before .before .before .before .before .before .before .before .before .before .before .before .before .before .before .before .before .before .before .before .before .args .tab .now) (c .before .before .before .before .before .before .before .before .before .before .before .before .before .before .before .before .before .before .before .before .before .before .before .before .before .before .before .before .args .scratch .now) (128 + 96 * c .before .before .before .before .before .before .before .before .before .before .before .before .before .before .before .before .before .before .before .before .before .before .before .before .before .before .before .before .args .state .0) (c .before .before .before .before .before .before .before .before .before .before .before .before .before .before .before .before .before .before .before .before .before .before .before .before .before .before .before .before .args .root .0) (c .before .before .before .before .before .before .before .before .before .before .before .before .before .before .before .before .before .before .before .before .before .before .before .before .before .before .before .before .args .symbol .0) (getD (c .before .before .before .before .before .before .before .before .before .before .before .before .before .before .before .before .before .before .before .before .before .before .before .before .before .before .before .before .args .scratch .now) (c .before .before .before .before .before .before .before .before .before .before .before .before .before .before .before .before .before .before .before .before .before .before .before .before .before .before .before .before .args .state .0) 0) (c .before .before .before .before .before .before .before .before .before .before .before .before .before .before .before .before .before .before .outputs .result) (omega (arith, c .before .before .before .before .before .before .before .before .before .before .before .before .before .before .before .before .before .before .before .before .before .before .before .before .before .before .before .before .pre .0 .counts (c .before .before .before .before .before .before .before .before .before .before .before .before .before .before .before .before .before .before .before .before .before .before .before .before .before .before .before .before .args .state .0) (c .before .before .before .before .before .before .before .before .before .before .before .before .before .before .before .before .before .before .before .before .before .before .before .before .before .before .before .before .pre .1))) (c .before .before .before .before .before .before .before .before .before .before .before .before .before .before .before .before .before .before .outputs .ensures .0)), outputs-few (c .before .before .before .before .before .before .before .before .before .before .before .before .before .before .before .before .before .before .before .before .before .before .before .before .before .before .before .before .args .tab .now) (c .before .before .before .before .before .before .before .before .before .before .before .before .before .before .before .before .before .before .before .before .before .before .before .before .before .before .before .before .args .root .0) (c .before .before .before .before .before .before .before .before .before .before .before .before .before .before .before .before .before .before .before .before .before .before .before .before .before .before .before .before .args .symbol .0) (stateIn (c .before .before .before .before .before .before .before .before .before .before .before .before .before .before .before .before .before .before .before .before .before .before .before .before .before .before .before .before .args .scratch .now) (c .before .before .before .before .before .before .before .before .before .before .before .before .before .before .before .before .before .before .before .before .before .before .before .before .before .before .before .before .args .state .0)) ((c .before .before .before .before .before .before .before .before .before .before .before .before .before .before .before .before .before .before .before .before .before .before .before .before .before .before .before .before .pre .2 (stateIn (c .before .before .before .before .before .before .before .before .before .before .before .before .before .before .before .before .before .before .before .before .before .before .before .before .before .before .before .before .args .scratch .now) (c .before .before .before .before .before .before .before .before .before .before .before .before .before .before .before .before .before .before .before .before .before .before .before .before .before .before .before .before .args .state .0)) (state-in (c .before .before .before .before .before .before .before .before .before .before .before .before .before .before .before .before .before .before .before .before .before .before .before .before .before .before .before .before .args .scratch .now) (c .before .before .before .before .before .before .before .before .before .before .before .before .before .before .before .before .before .before .before .before .before .before .before .before .before .before .before .before .args .m) (c .before .before .before .before .before .before .before .before .before .before .before .before .before .before .before .before .before .before .before .before .before .before .before .before .before .before .before .before .args .state .0) (c .before .before .before .before .before .before .before .before .before .before .before .before .before .before .before .before .before .before .before .before .before .before .before .before .before .before .before .before .pre .1))) .few))
+mul-meet-all c =
+    let entry = c .before .before .before .before .before .before .before .before .before .before .before .before .before .before .before .before .before .before .before .before .before .before .before .before .before .before .before .before in
+    let at-outputs = c .before .before .before .before .before .before .before .before .before .before .before .before .before .before .before .before .before .before .outputs in
+    omega (arith, (outs-many (entry .args .tab .now) (entry .args .scratch .now) (128 + 96 * entry .args .state .0) (entry .args .root .0) (entry .args .symbol .0) (getD (entry .args .scratch .now) (entry .args .state .0) 0) (at-outputs .result) (omega (arith, entry .pre .0 .counts (entry .args .state .0) (entry .pre .1))) (at-outputs .ensures .0)), outputs-few (entry .args .tab .now) (entry .args .root .0) (entry .args .symbol .0) (stateIn (entry .args .scratch .now) (entry .args .state .0)) ((entry .pre .2 (stateIn (entry .args .scratch .now) (entry .args .state .0)) (state-in (entry .args .scratch .now) (entry .args .m) (entry .args .state .0) (entry .pre .1))) .few))
 
 add-meet-all : tie.Need-add-meet-all
-add-meet-all c = omega (arith, (outs-many (c .before .before .before .before .before .before .before .before .before .before .before .before .before .before .before .before .before .before .before .before .before .before .before .before .before .before .before .before .args .tab .now) (c .before .before .before .before .before .before .before .before .before .before .before .before .before .before .before .before .before .before .before .before .before .before .before .before .before .before .before .before .args .scratch .now) (128 + 96 * c .before .before .before .before .before .before .before .before .before .before .before .before .before .before .before .before .before .before .before .before .before .before .before .before .before .before .before .before .args .state .0) (c .before .before .before .before .before .before .before .before .before .before .before .before .before .before .before .before .before .before .before .before .before .before .before .before .before .before .before .before .args .root .0) (c .before .before .before .before .before .before .before .before .before .before .before .before .before .before .before .before .before .before .before .before .before .before .before .before .before .before .before .before .args .symbol .0) (getD (c .before .before .before .before .before .before .before .before .before .before .before .before .before .before .before .before .before .before .before .before .before .before .before .before .before .before .before .before .args .scratch .now) (c .before .before .before .before .before .before .before .before .before .before .before .before .before .before .before .before .before .before .before .before .before .before .before .before .before .before .before .before .args .state .0) 0) (c .before .before .before .before .before .before .before .before .before .before .before .before .before .before .before .before .before .before .outputs .result) (omega (arith, c .before .before .before .before .before .before .before .before .before .before .before .before .before .before .before .before .before .before .before .before .before .before .before .before .before .before .before .before .pre .0 .counts (c .before .before .before .before .before .before .before .before .before .before .before .before .before .before .before .before .before .before .before .before .before .before .before .before .before .before .before .before .args .state .0) (c .before .before .before .before .before .before .before .before .before .before .before .before .before .before .before .before .before .before .before .before .before .before .before .before .before .before .before .before .pre .1))) (c .before .before .before .before .before .before .before .before .before .before .before .before .before .before .before .before .before .before .outputs .ensures .0)), outputs-few (c .before .before .before .before .before .before .before .before .before .before .before .before .before .before .before .before .before .before .before .before .before .before .before .before .before .before .before .before .args .tab .now) (c .before .before .before .before .before .before .before .before .before .before .before .before .before .before .before .before .before .before .before .before .before .before .before .before .before .before .before .before .args .root .0) (c .before .before .before .before .before .before .before .before .before .before .before .before .before .before .before .before .before .before .before .before .before .before .before .before .before .before .before .before .args .symbol .0) (stateIn (c .before .before .before .before .before .before .before .before .before .before .before .before .before .before .before .before .before .before .before .before .before .before .before .before .before .before .before .before .args .scratch .now) (c .before .before .before .before .before .before .before .before .before .before .before .before .before .before .before .before .before .before .before .before .before .before .before .before .before .before .before .before .args .state .0)) ((c .before .before .before .before .before .before .before .before .before .before .before .before .before .before .before .before .before .before .before .before .before .before .before .before .before .before .before .before .pre .2 (stateIn (c .before .before .before .before .before .before .before .before .before .before .before .before .before .before .before .before .before .before .before .before .before .before .before .before .before .before .before .before .args .scratch .now) (c .before .before .before .before .before .before .before .before .before .before .before .before .before .before .before .before .before .before .before .before .before .before .before .before .before .before .before .before .args .state .0)) (state-in (c .before .before .before .before .before .before .before .before .before .before .before .before .before .before .before .before .before .before .before .before .before .before .before .before .before .before .before .before .args .scratch .now) (c .before .before .before .before .before .before .before .before .before .before .before .before .before .before .before .before .before .before .before .before .before .before .before .before .before .before .before .before .args .m) (c .before .before .before .before .before .before .before .before .before .before .before .before .before .before .before .before .before .before .before .before .before .before .before .before .before .before .before .before .args .state .0) (c .before .before .before .before .before .before .before .before .before .before .before .before .before .before .before .before .before .before .before .before .before .before .before .before .before .before .before .before .pre .1))) .few))
+add-meet-all c =
+    let entry = c .before .before .before .before .before .before .before .before .before .before .before .before .before .before .before .before .before .before .before .before .before .before .before .before .before .before .before .before in
+    let at-outputs = c .before .before .before .before .before .before .before .before .before .before .before .before .before .before .before .before .before .before .outputs in
+    omega (arith, (outs-many (entry .args .tab .now) (entry .args .scratch .now) (128 + 96 * entry .args .state .0) (entry .args .root .0) (entry .args .symbol .0) (getD (entry .args .scratch .now) (entry .args .state .0) 0) (at-outputs .result) (omega (arith, entry .pre .0 .counts (entry .args .state .0) (entry .pre .1))) (at-outputs .ensures .0)), outputs-few (entry .args .tab .now) (entry .args .root .0) (entry .args .symbol .0) (stateIn (entry .args .scratch .now) (entry .args .state .0)) ((entry .pre .2 (stateIn (entry .args .scratch .now) (entry .args .state .0)) (state-in (entry .args .scratch .now) (entry .args .m) (entry .args .state .0) (entry .pre .1))) .few))
 
 meet-all-requires : tie.Need-meet-all-requires
-meet-all-requires c κs = (c .before .before .before .before .before .before .before .before .before .before .before .before .before .before .before .before .before .before .before .before .before .before .before .before .before .before .before .before .pre .0, (derived (c .before .before .before .before .before .before .before .before .before .before .before .before .before .before .before .before .before .before .before .before .before .before .before .before .before .before .before .before .pre .2 (stateIn (c .before .before .before .before .before .before .before .before .before .before .before .before .before .before .before .before .before .before .before .before .before .before .before .before .before .before .before .before .args .scratch .now) (c .before .before .before .before .before .before .before .before .before .before .before .before .before .before .before .before .before .before .before .before .before .before .before .before .before .before .before .before .args .state .0)) (state-in (c .before .before .before .before .before .before .before .before .before .before .before .before .before .before .before .before .before .before .before .before .before .before .before .before .before .before .before .before .args .scratch .now) (c .before .before .before .before .before .before .before .before .before .before .before .before .before .before .before .before .before .before .before .before .before .before .before .before .before .before .before .before .args .m) (c .before .before .before .before .before .before .before .before .before .before .before .before .before .before .before .before .before .before .before .before .before .before .before .before .before .before .before .before .args .state .0) (c .before .before .before .before .before .before .before .before .before .before .before .before .before .before .before .before .before .before .before .before .before .before .before .before .before .before .before .before .pre .1))) (c .before .before .before .before .before .before .before .before .before .before .before .before .before .before .before .before .before .before .before .before .before .before .before .before .before .before .before .before .args .root .0) (c .before .before .before .before .before .before .before .before .before .before .before .before .before .before .before .before .before .before .before .before .before .before .before .before .before .before .before .before .args .symbol .0) (c .before .before .before .before .before .before .before .before .before .before .before .before .before .before .before .before .before .before .before .before .before .before .before .before .before .before .before .before .pre .3) (c .before .before .before .before .before .before .before .before .before .before .before .before .before .before .before .before .before .before .before .before .before .before .before .before .before .before .before .before .pre .4) _ (c .before .before .before .before .before .before .before .before .before .before .before .before .before .before .derive .result) (c .before .before .before .before .before .before .before .before .before .before .before .before .before .before .derive .ensures .0) (c .before .before .before .before .before .before .before .before .before .before .before .before .before .before .derive .ensures .1)) .few, omega (arith, (derived (c .before .before .before .before .before .before .before .before .before .before .before .before .before .before .before .before .before .before .before .before .before .before .before .before .before .before .before .before .pre .2 (stateIn (c .before .before .before .before .before .before .before .before .before .before .before .before .before .before .before .before .before .before .before .before .before .before .before .before .before .before .before .before .args .scratch .now) (c .before .before .before .before .before .before .before .before .before .before .before .before .before .before .before .before .before .before .before .before .before .before .before .before .before .before .before .before .args .state .0)) (state-in (c .before .before .before .before .before .before .before .before .before .before .before .before .before .before .before .before .before .before .before .before .before .before .before .before .before .before .before .before .args .scratch .now) (c .before .before .before .before .before .before .before .before .before .before .before .before .before .before .before .before .before .before .before .before .before .before .before .before .before .before .before .before .args .m) (c .before .before .before .before .before .before .before .before .before .before .before .before .before .before .before .before .before .before .before .before .before .before .before .before .before .before .before .before .args .state .0) (c .before .before .before .before .before .before .before .before .before .before .before .before .before .before .before .before .before .before .before .before .before .before .before .before .before .before .before .before .pre .1))) (c .before .before .before .before .before .before .before .before .before .before .before .before .before .before .before .before .before .before .before .before .before .before .before .before .before .before .before .before .args .root .0) (c .before .before .before .before .before .before .before .before .before .before .before .before .before .before .before .before .before .before .before .before .before .before .before .before .before .before .before .before .args .symbol .0) (c .before .before .before .before .before .before .before .before .before .before .before .before .before .before .before .before .before .before .before .before .before .before .before .before .before .before .before .before .pre .3) (c .before .before .before .before .before .before .before .before .before .before .before .before .before .before .before .before .before .before .before .before .before .before .before .before .before .before .before .before .pre .4) _ (c .before .before .before .before .before .before .before .before .before .before .before .before .before .before .derive .result) (c .before .before .before .before .before .before .before .before .before .before .before .before .before .before .derive .ensures .0) (c .before .before .before .before .before .before .before .before .before .before .before .before .before .before .derive .ensures .1)) .few, c .before .before .before .before .before .before .before .before .before .before .before .before .before .before .derive .kept .1 .1 .1 .1 .1 .1 .1 .1 .0), c .before .before .before .before .before .before .before .before .before .before .dependency .ensures .0, part-few (begins (c .before .before .before .before .before .before .before .before .before .before .dependency .last .1 .1 .1 .0)) (λ x. classKey (c .before .before .before .before .before .before .before .before .before .before .before .before .before .before .before .before .before .before .before .before .before .before .before .before .before .before .before .before .args .tab .now) (classAt (c .before .before .before .before .before .before .before .before .before .before .dependency .last .1 .1 .1 .0) (c .before .before .before .before .before .before .before .before .before .before .before .before .before .before .derive .last .1 .1 .1 .1 .1 .1 .1 .1 .0) (c .before .before .before .before .before .before .before .before .before .before .before .before .before .before .derive .result / 3) x)) (c .before .before .before .before .before .before .before .before .before .before .before .before .before .before .derive .result / 3) (replicate {A = ℕ} 96 0) _ (c .before .before .before .before .before .before .class-order .result) ((derived (c .before .before .before .before .before .before .before .before .before .before .before .before .before .before .before .before .before .before .before .before .before .before .before .before .before .before .before .before .pre .2 (stateIn (c .before .before .before .before .before .before .before .before .before .before .before .before .before .before .before .before .before .before .before .before .before .before .before .before .before .before .before .before .args .scratch .now) (c .before .before .before .before .before .before .before .before .before .before .before .before .before .before .before .before .before .before .before .before .before .before .before .before .before .before .before .before .args .state .0)) (state-in (c .before .before .before .before .before .before .before .before .before .before .before .before .before .before .before .before .before .before .before .before .before .before .before .before .before .before .before .before .args .scratch .now) (c .before .before .before .before .before .before .before .before .before .before .before .before .before .before .before .before .before .before .before .before .before .before .before .before .before .before .before .before .args .m) (c .before .before .before .before .before .before .before .before .before .before .before .before .before .before .before .before .before .before .before .before .before .before .before .before .before .before .before .before .args .state .0) (c .before .before .before .before .before .before .before .before .before .before .before .before .before .before .before .before .before .before .before .before .before .before .before .before .before .before .before .before .pre .1))) (c .before .before .before .before .before .before .before .before .before .before .before .before .before .before .before .before .before .before .before .before .before .before .before .before .before .before .before .before .args .root .0) (c .before .before .before .before .before .before .before .before .before .before .before .before .before .before .before .before .before .before .before .before .before .before .before .before .before .before .before .before .args .symbol .0) (c .before .before .before .before .before .before .before .before .before .before .before .before .before .before .before .before .before .before .before .before .before .before .before .before .before .before .before .before .pre .3) (c .before .before .before .before .before .before .before .before .before .before .before .before .before .before .before .before .before .before .before .before .before .before .before .before .before .before .before .before .pre .4) _ (c .before .before .before .before .before .before .before .before .before .before .before .before .before .before .derive .result) (c .before .before .before .before .before .before .before .before .before .before .before .before .before .before .derive .ensures .0) (c .before .before .before .before .before .before .before .before .before .before .before .before .before .before .derive .ensures .1)) .few) ((derived (c .before .before .before .before .before .before .before .before .before .before .before .before .before .before .before .before .before .before .before .before .before .before .before .before .before .before .before .before .pre .2 (stateIn (c .before .before .before .before .before .before .before .before .before .before .before .before .before .before .before .before .before .before .before .before .before .before .before .before .before .before .before .before .args .scratch .now) (c .before .before .before .before .before .before .before .before .before .before .before .before .before .before .before .before .before .before .before .before .before .before .before .before .before .before .before .before .args .state .0)) (state-in (c .before .before .before .before .before .before .before .before .before .before .before .before .before .before .before .before .before .before .before .before .before .before .before .before .before .before .before .before .args .scratch .now) (c .before .before .before .before .before .before .before .before .before .before .before .before .before .before .before .before .before .before .before .before .before .before .before .before .before .before .before .before .args .m) (c .before .before .before .before .before .before .before .before .before .before .before .before .before .before .before .before .before .before .before .before .before .before .before .before .before .before .before .before .args .state .0) (c .before .before .before .before .before .before .before .before .before .before .before .before .before .before .before .before .before .before .before .before .before .before .before .before .before .before .before .before .pre .1))) (c .before .before .before .before .before .before .before .before .before .before .before .before .before .before .before .before .before .before .before .before .before .before .before .before .before .before .before .before .args .root .0) (c .before .before .before .before .before .before .before .before .before .before .before .before .before .before .before .before .before .before .before .before .before .before .before .before .before .before .before .before .args .symbol .0) (c .before .before .before .before .before .before .before .before .before .before .before .before .before .before .before .before .before .before .before .before .before .before .before .before .before .before .before .before .pre .3) (c .before .before .before .before .before .before .before .before .before .before .before .before .before .before .before .before .before .before .before .before .before .before .before .before .before .before .before .before .pre .4) _ (c .before .before .before .before .before .before .before .before .before .before .before .before .before .before .derive .result) (c .before .before .before .before .before .before .before .before .before .before .before .before .before .before .derive .ensures .0) (c .before .before .before .before .before .before .before .before .before .before .before .before .before .before .derive .ensures .1)) .few) (c .before .before .before .before .before .before .class-order .ensures .0) (c .before .before .before .before .before .before .class-order .ensures .1), part-low (begins (c .before .before .before .before .before .before .before .before .before .before .dependency .last .1 .1 .1 .0)) (λ x. classKey (c .before .before .before .before .before .before .before .before .before .before .before .before .before .before .before .before .before .before .before .before .before .before .before .before .before .before .before .before .args .tab .now) (classAt (c .before .before .before .before .before .before .before .before .before .before .dependency .last .1 .1 .1 .0) (c .before .before .before .before .before .before .before .before .before .before .before .before .before .before .derive .last .1 .1 .1 .1 .1 .1 .1 .1 .0) (c .before .before .before .before .before .before .before .before .before .before .before .before .before .before .derive .result / 3) x)) (c .before .before .before .before .before .before .before .before .before .before .before .before .before .before .derive .result / 3) (replicate {A = ℕ} 96 0) _ (c .before .before .before .before .before .before .class-order .result) ((derived (c .before .before .before .before .before .before .before .before .before .before .before .before .before .before .before .before .before .before .before .before .before .before .before .before .before .before .before .before .pre .2 (stateIn (c .before .before .before .before .before .before .before .before .before .before .before .before .before .before .before .before .before .before .before .before .before .before .before .before .before .before .before .before .args .scratch .now) (c .before .before .before .before .before .before .before .before .before .before .before .before .before .before .before .before .before .before .before .before .before .before .before .before .before .before .before .before .args .state .0)) (state-in (c .before .before .before .before .before .before .before .before .before .before .before .before .before .before .before .before .before .before .before .before .before .before .before .before .before .before .before .before .args .scratch .now) (c .before .before .before .before .before .before .before .before .before .before .before .before .before .before .before .before .before .before .before .before .before .before .before .before .before .before .before .before .args .m) (c .before .before .before .before .before .before .before .before .before .before .before .before .before .before .before .before .before .before .before .before .before .before .before .before .before .before .before .before .args .state .0) (c .before .before .before .before .before .before .before .before .before .before .before .before .before .before .before .before .before .before .before .before .before .before .before .before .before .before .before .before .pre .1))) (c .before .before .before .before .before .before .before .before .before .before .before .before .before .before .before .before .before .before .before .before .before .before .before .before .before .before .before .before .args .root .0) (c .before .before .before .before .before .before .before .before .before .before .before .before .before .before .before .before .before .before .before .before .before .before .before .before .before .before .before .before .args .symbol .0) (c .before .before .before .before .before .before .before .before .before .before .before .before .before .before .before .before .before .before .before .before .before .before .before .before .before .before .before .before .pre .3) (c .before .before .before .before .before .before .before .before .before .before .before .before .before .before .before .before .before .before .before .before .before .before .before .before .before .before .before .before .pre .4) _ (c .before .before .before .before .before .before .before .before .before .before .before .before .before .before .derive .result) (c .before .before .before .before .before .before .before .before .before .before .before .before .before .before .derive .ensures .0) (c .before .before .before .before .before .before .before .before .before .before .before .before .before .before .derive .ensures .1)) .few) ((derived (c .before .before .before .before .before .before .before .before .before .before .before .before .before .before .before .before .before .before .before .before .before .before .before .before .before .before .before .before .pre .2 (stateIn (c .before .before .before .before .before .before .before .before .before .before .before .before .before .before .before .before .before .before .before .before .before .before .before .before .before .before .before .before .args .scratch .now) (c .before .before .before .before .before .before .before .before .before .before .before .before .before .before .before .before .before .before .before .before .before .before .before .before .before .before .before .before .args .state .0)) (state-in (c .before .before .before .before .before .before .before .before .before .before .before .before .before .before .before .before .before .before .before .before .before .before .before .before .before .before .before .before .args .scratch .now) (c .before .before .before .before .before .before .before .before .before .before .before .before .before .before .before .before .before .before .before .before .before .before .before .before .before .before .before .before .args .m) (c .before .before .before .before .before .before .before .before .before .before .before .before .before .before .before .before .before .before .before .before .before .before .before .before .before .before .before .before .args .state .0) (c .before .before .before .before .before .before .before .before .before .before .before .before .before .before .before .before .before .before .before .before .before .before .before .before .before .before .before .before .pre .1))) (c .before .before .before .before .before .before .before .before .before .before .before .before .before .before .before .before .before .before .before .before .before .before .before .before .before .before .before .before .args .root .0) (c .before .before .before .before .before .before .before .before .before .before .before .before .before .before .before .before .before .before .before .before .before .before .before .before .before .before .before .before .args .symbol .0) (c .before .before .before .before .before .before .before .before .before .before .before .before .before .before .before .before .before .before .before .before .before .before .before .before .before .before .before .before .pre .3) (c .before .before .before .before .before .before .before .before .before .before .before .before .before .before .before .before .before .before .before .before .before .before .before .before .before .before .before .before .pre .4) _ (c .before .before .before .before .before .before .before .before .before .before .before .before .before .before .derive .result) (c .before .before .before .before .before .before .before .before .before .before .before .before .before .before .derive .ensures .0) (c .before .before .before .before .before .before .before .before .before .before .before .before .before .before .derive .ensures .1)) .few) (c .before .before .before .before .before .before .class-order .ensures .0) (c .before .before .before .before .before .before .class-order .ensures .1), omega (arith, (outs-many (c .before .before .before .before .before .before .before .before .before .before .before .before .before .before .before .before .before .before .before .before .before .before .before .before .before .before .before .before .args .tab .now) (c .before .before .before .before .before .before .before .before .before .before .before .before .before .before .before .before .before .before .before .before .before .before .before .before .before .before .before .before .args .scratch .now) (128 + 96 * c .before .before .before .before .before .before .before .before .before .before .before .before .before .before .before .before .before .before .before .before .before .before .before .before .before .before .before .before .args .state .0) (c .before .before .before .before .before .before .before .before .before .before .before .before .before .before .before .before .before .before .before .before .before .before .before .before .before .before .before .before .args .root .0) (c .before .before .before .before .before .before .before .before .before .before .before .before .before .before .before .before .before .before .before .before .before .before .before .before .before .before .before .before .args .symbol .0) (getD (c .before .before .before .before .before .before .before .before .before .before .before .before .before .before .before .before .before .before .before .before .before .before .before .before .before .before .before .before .args .scratch .now) (c .before .before .before .before .before .before .before .before .before .before .before .before .before .before .before .before .before .before .before .before .before .before .before .before .before .before .before .before .args .state .0) 0) (c .before .before .before .before .before .before .before .before .before .before .before .before .before .before .before .before .before .before .outputs .result) (omega (arith, c .before .before .before .before .before .before .before .before .before .before .before .before .before .before .before .before .before .before .before .before .before .before .before .before .before .before .before .before .pre .0 .counts (c .before .before .before .before .before .before .before .before .before .before .before .before .before .before .before .before .before .before .before .before .before .before .before .before .before .before .before .before .args .state .0) (c .before .before .before .before .before .before .before .before .before .before .before .before .before .before .before .before .before .before .before .before .before .before .before .before .before .before .before .before .pre .1))) (c .before .before .before .before .before .before .before .before .before .before .before .before .before .before .before .before .before .before .outputs .ensures .0)), outputs-few (c .before .before .before .before .before .before .before .before .before .before .before .before .before .before .before .before .before .before .before .before .before .before .before .before .before .before .before .before .args .tab .now) (c .before .before .before .before .before .before .before .before .before .before .before .before .before .before .before .before .before .before .before .before .before .before .before .before .before .before .before .before .args .root .0) (c .before .before .before .before .before .before .before .before .before .before .before .before .before .before .before .before .before .before .before .before .before .before .before .before .before .before .before .before .args .symbol .0) (stateIn (c .before .before .before .before .before .before .before .before .before .before .before .before .before .before .before .before .before .before .before .before .before .before .before .before .before .before .before .before .args .scratch .now) (c .before .before .before .before .before .before .before .before .before .before .before .before .before .before .before .before .before .before .before .before .before .before .before .before .before .before .before .before .args .state .0)) ((c .before .before .before .before .before .before .before .before .before .before .before .before .before .before .before .before .before .before .before .before .before .before .before .before .before .before .before .before .pre .2 (stateIn (c .before .before .before .before .before .before .before .before .before .before .before .before .before .before .before .before .before .before .before .before .before .before .before .before .before .before .before .before .args .scratch .now) (c .before .before .before .before .before .before .before .before .before .before .before .before .before .before .before .before .before .before .before .before .before .before .before .before .before .before .before .before .args .state .0)) (state-in (c .before .before .before .before .before .before .before .before .before .before .before .before .before .before .before .before .before .before .before .before .before .before .before .before .before .before .before .before .args .scratch .now) (c .before .before .before .before .before .before .before .before .before .before .before .before .before .before .before .before .before .before .before .before .before .before .before .before .before .before .before .before .args .m) (c .before .before .before .before .before .before .before .before .before .before .before .before .before .before .before .before .before .before .before .before .before .before .before .before .before .before .before .before .args .state .0) (c .before .before .before .before .before .before .before .before .before .before .before .before .before .before .before .before .before .before .before .before .before .before .before .before .before .before .before .before .pre .1))) .few)))
+meet-all-requires c κs =
+    let entry = c .before .before .before .before .before .before .before .before .before .before .before .before .before .before .before .before .before .before .before .before .before .before .before .before .before .before .before .before in
+    let at-outputs = c .before .before .before .before .before .before .before .before .before .before .before .before .before .before .before .before .before .before .outputs in
+    let at-derive = c .before .before .before .before .before .before .before .before .before .before .before .before .before .before .derive in
+    let at-dependency = c .before .before .before .before .before .before .before .before .before .before .dependency in
+    let at-class-order = c .before .before .before .before .before .before .class-order in
+    (entry .pre .0, (derived (entry .pre .2 (stateIn (entry .args .scratch .now) (entry .args .state .0)) (state-in (entry .args .scratch .now) (entry .args .m) (entry .args .state .0) (entry .pre .1))) (entry .args .root .0) (entry .args .symbol .0) (entry .pre .3) (entry .pre .4) _ (at-derive .result) (at-derive .ensures .0) (at-derive .ensures .1)) .few, omega (arith, (derived (entry .pre .2 (stateIn (entry .args .scratch .now) (entry .args .state .0)) (state-in (entry .args .scratch .now) (entry .args .m) (entry .args .state .0) (entry .pre .1))) (entry .args .root .0) (entry .args .symbol .0) (entry .pre .3) (entry .pre .4) _ (at-derive .result) (at-derive .ensures .0) (at-derive .ensures .1)) .few, at-derive .kept .1 .1 .1 .1 .1 .1 .1 .1 .0), at-dependency .ensures .0, part-few (begins (at-dependency .last .1 .1 .1 .0)) (λ x. classKey (entry .args .tab .now) (classAt (at-dependency .last .1 .1 .1 .0) (at-derive .last .1 .1 .1 .1 .1 .1 .1 .1 .0) (at-derive .result / 3) x)) (at-derive .result / 3) (replicate {A = ℕ} 96 0) _ (at-class-order .result) ((derived (entry .pre .2 (stateIn (entry .args .scratch .now) (entry .args .state .0)) (state-in (entry .args .scratch .now) (entry .args .m) (entry .args .state .0) (entry .pre .1))) (entry .args .root .0) (entry .args .symbol .0) (entry .pre .3) (entry .pre .4) _ (at-derive .result) (at-derive .ensures .0) (at-derive .ensures .1)) .few) ((derived (entry .pre .2 (stateIn (entry .args .scratch .now) (entry .args .state .0)) (state-in (entry .args .scratch .now) (entry .args .m) (entry .args .state .0) (entry .pre .1))) (entry .args .root .0) (entry .args .symbol .0) (entry .pre .3) (entry .pre .4) _ (at-derive .result) (at-derive .ensures .0) (at-derive .ensures .1)) .few) (at-class-order .ensures .0) (at-class-order .ensures .1), part-low (begins (at-dependency .last .1 .1 .1 .0)) (λ x. classKey (entry .args .tab .now) (classAt (at-dependency .last .1 .1 .1 .0) (at-derive .last .1 .1 .1 .1 .1 .1 .1 .1 .0) (at-derive .result / 3) x)) (at-derive .result / 3) (replicate {A = ℕ} 96 0) _ (at-class-order .result) ((derived (entry .pre .2 (stateIn (entry .args .scratch .now) (entry .args .state .0)) (state-in (entry .args .scratch .now) (entry .args .m) (entry .args .state .0) (entry .pre .1))) (entry .args .root .0) (entry .args .symbol .0) (entry .pre .3) (entry .pre .4) _ (at-derive .result) (at-derive .ensures .0) (at-derive .ensures .1)) .few) ((derived (entry .pre .2 (stateIn (entry .args .scratch .now) (entry .args .state .0)) (state-in (entry .args .scratch .now) (entry .args .m) (entry .args .state .0) (entry .pre .1))) (entry .args .root .0) (entry .args .symbol .0) (entry .pre .3) (entry .pre .4) _ (at-derive .result) (at-derive .ensures .0) (at-derive .ensures .1)) .few) (at-class-order .ensures .0) (at-class-order .ensures .1), omega (arith, (outs-many (entry .args .tab .now) (entry .args .scratch .now) (128 + 96 * entry .args .state .0) (entry .args .root .0) (entry .args .symbol .0) (getD (entry .args .scratch .now) (entry .args .state .0) 0) (at-outputs .result) (omega (arith, entry .pre .0 .counts (entry .args .state .0) (entry .pre .1))) (at-outputs .ensures .0)), outputs-few (entry .args .tab .now) (entry .args .root .0) (entry .args .symbol .0) (stateIn (entry .args .scratch .now) (entry .args .state .0)) ((entry .pre .2 (stateIn (entry .args .scratch .now) (entry .args .state .0)) (state-in (entry .args .scratch .now) (entry .args .m) (entry .args .state .0) (entry .pre .1))) .few)))
 
 same-length : tie.Need-same-length
 same-length c = c .before .before .meet-all .kept .0
 
 returns : tie.Need-returns
-returns c = let a = c .before .before .before .before .before .before .before .before .before .before .before .before .before .before .before .before .before .before .before .before .before .before .before .before .before .before .before .before .before .before .before .args in (
-  met-same (c .before .before .meet-all .result) _ _ _ _ _ (ap (λ k. 2 + 2 * k) (outs-many (c .before .before .before .before .before .before .before .before .before .before .before .before .before .before .before .before .before .before .before .before .before .before .before .before .before .before .before .before .before .before .before .args .tab .now) (c .before .before .before .before .before .before .before .before .before .before .before .before .before .before .before .before .before .before .before .before .before .before .before .before .before .before .before .before .before .before .before .args .scratch .now) (128 + 96 * c .before .before .before .before .before .before .before .before .before .before .before .before .before .before .before .before .before .before .before .before .before .before .before .before .before .before .before .before .before .before .before .args .state .0) (c .before .before .before .before .before .before .before .before .before .before .before .before .before .before .before .before .before .before .before .before .before .before .before .before .before .before .before .before .before .before .before .args .root .0) (c .before .before .before .before .before .before .before .before .before .before .before .before .before .before .before .before .before .before .before .before .before .before .before .before .before .before .before .before .before .before .before .args .symbol .0) (getD (c .before .before .before .before .before .before .before .before .before .before .before .before .before .before .before .before .before .before .before .before .before .before .before .before .before .before .before .before .before .before .before .args .scratch .now) (c .before .before .before .before .before .before .before .before .before .before .before .before .before .before .before .before .before .before .before .before .before .before .before .before .before .before .before .before .before .before .before .args .state .0) 0) (c .before .before .before .before .before .before .before .before .before .before .before .before .before .before .before .before .before .before .before .before .before .outputs .result) (omega (arith, c .before .before .before .before .before .before .before .before .before .before .before .before .before .before .before .before .before .before .before .before .before .before .before .before .before .before .before .before .before .before .before .pre .0 .counts (c .before .before .before .before .before .before .before .before .before .before .before .before .before .before .before .before .before .before .before .before .before .before .before .before .before .before .before .before .before .before .before .args .state .0) (c .before .before .before .before .before .before .before .before .before .before .before .before .before .before .before .before .before .before .before .before .before .before .before .before .before .before .before .before .before .before .before .pre .1))) (c .before .before .before .before .before .before .before .before .before .before .before .before .before .before .before .before .before .before .before .before .before .outputs .ensures .0)))
-      (ap (meets (words (a .tab .now) (a .shapes)) (statesIn (c .before .before .before .before .before .before .before .before .before .before .before .before .before .before .before .before .before .before .before .before .before .before .before .before .before .before .before .before .before .before .before .args .scratch .now) (a .m))) (ap (map (λ x. classAt (c .before .before .before .before .before .before .before .before .before .before .before .before .before .dependency .last .1 .1 .1 .0) (c .before .before .before .before .before .before .before .before .before .before .before .before .before .before .before .before .before .derive .last .1 .1 .1 .1 .1 .1 .1 .1 .0) (c .before .before .before .before .before .before .before .before .before .before .before .before .before .before .before .before .before .derive .result / 3) (x % 128))) (part-is (begins (c .before .before .before .before .before .before .before .before .before .before .before .before .before .dependency .last .1 .1 .1 .0)) (λ x. classKey (c .before .before .before .before .before .before .before .before .before .before .before .before .before .before .before .before .before .before .before .before .before .before .before .before .before .before .before .before .before .before .before .args .tab .now) (classAt (c .before .before .before .before .before .before .before .before .before .before .before .before .before .dependency .last .1 .1 .1 .0) (c .before .before .before .before .before .before .before .before .before .before .before .before .before .before .before .before .before .derive .last .1 .1 .1 .1 .1 .1 .1 .1 .0) (c .before .before .before .before .before .before .before .before .before .before .before .before .before .before .before .before .before .derive .result / 3) x)) (c .before .before .before .before .before .before .before .before .before .before .before .before .before .before .before .before .before .derive .result / 3) (replicate {A = ℕ} 96 0) _ (c .before .before .before .before .before .before .before .before .before .class-order .result) ((derived (c .before .before .before .before .before .before .before .before .before .before .before .before .before .before .before .before .before .before .before .before .before .before .before .before .before .before .before .before .before .before .before .pre .2 (stateIn (c .before .before .before .before .before .before .before .before .before .before .before .before .before .before .before .before .before .before .before .before .before .before .before .before .before .before .before .before .before .before .before .args .scratch .now) (c .before .before .before .before .before .before .before .before .before .before .before .before .before .before .before .before .before .before .before .before .before .before .before .before .before .before .before .before .before .before .before .args .state .0)) (state-in (c .before .before .before .before .before .before .before .before .before .before .before .before .before .before .before .before .before .before .before .before .before .before .before .before .before .before .before .before .before .before .before .args .scratch .now) (c .before .before .before .before .before .before .before .before .before .before .before .before .before .before .before .before .before .before .before .before .before .before .before .before .before .before .before .before .before .before .before .args .m) (c .before .before .before .before .before .before .before .before .before .before .before .before .before .before .before .before .before .before .before .before .before .before .before .before .before .before .before .before .before .before .before .args .state .0) (c .before .before .before .before .before .before .before .before .before .before .before .before .before .before .before .before .before .before .before .before .before .before .before .before .before .before .before .before .before .before .before .pre .1))) (c .before .before .before .before .before .before .before .before .before .before .before .before .before .before .before .before .before .before .before .before .before .before .before .before .before .before .before .before .before .before .before .args .root .0) (c .before .before .before .before .before .before .before .before .before .before .before .before .before .before .before .before .before .before .before .before .before .before .before .before .before .before .before .before .before .before .before .args .symbol .0) (c .before .before .before .before .before .before .before .before .before .before .before .before .before .before .before .before .before .before .before .before .before .before .before .before .before .before .before .before .before .before .before .pre .3) (c .before .before .before .before .before .before .before .before .before .before .before .before .before .before .before .before .before .before .before .before .before .before .before .before .before .before .before .before .before .before .before .pre .4) _ (c .before .before .before .before .before .before .before .before .before .before .before .before .before .before .before .before .before .derive .result) (c .before .before .before .before .before .before .before .before .before .before .before .before .before .before .before .before .before .derive .ensures .0) (c .before .before .before .before .before .before .before .before .before .before .before .before .before .before .before .before .before .derive .ensures .1)) .few) ((derived (c .before .before .before .before .before .before .before .before .before .before .before .before .before .before .before .before .before .before .before .before .before .before .before .before .before .before .before .before .before .before .before .pre .2 (stateIn (c .before .before .before .before .before .before .before .before .before .before .before .before .before .before .before .before .before .before .before .before .before .before .before .before .before .before .before .before .before .before .before .args .scratch .now) (c .before .before .before .before .before .before .before .before .before .before .before .before .before .before .before .before .before .before .before .before .before .before .before .before .before .before .before .before .before .before .before .args .state .0)) (state-in (c .before .before .before .before .before .before .before .before .before .before .before .before .before .before .before .before .before .before .before .before .before .before .before .before .before .before .before .before .before .before .before .args .scratch .now) (c .before .before .before .before .before .before .before .before .before .before .before .before .before .before .before .before .before .before .before .before .before .before .before .before .before .before .before .before .before .before .before .args .m) (c .before .before .before .before .before .before .before .before .before .before .before .before .before .before .before .before .before .before .before .before .before .before .before .before .before .before .before .before .before .before .before .args .state .0) (c .before .before .before .before .before .before .before .before .before .before .before .before .before .before .before .before .before .before .before .before .before .before .before .before .before .before .before .before .before .before .before .pre .1))) (c .before .before .before .before .before .before .before .before .before .before .before .before .before .before .before .before .before .before .before .before .before .before .before .before .before .before .before .before .before .before .before .args .root .0) (c .before .before .before .before .before .before .before .before .before .before .before .before .before .before .before .before .before .before .before .before .before .before .before .before .before .before .before .before .before .before .before .args .symbol .0) (c .before .before .before .before .before .before .before .before .before .before .before .before .before .before .before .before .before .before .before .before .before .before .before .before .before .before .before .before .before .before .before .pre .3) (c .before .before .before .before .before .before .before .before .before .before .before .before .before .before .before .before .before .before .before .before .before .before .before .before .before .before .before .before .before .before .before .pre .4) _ (c .before .before .before .before .before .before .before .before .before .before .before .before .before .before .before .before .before .derive .result) (c .before .before .before .before .before .before .before .before .before .before .before .before .before .before .before .before .before .derive .ensures .0) (c .before .before .before .before .before .before .before .before .before .before .before .before .before .before .before .before .before .derive .ensures .1)) .few) (c .before .before .before .before .before .before .before .before .before .class-order .ensures .0) (c .before .before .before .before .before .before .before .before .before .class-order .ensures .1)) ∙ classes-in-order (a .tab .now) (c .before .before .before .before .before .before .before .before .before .before .before .before .before .before .before .before .before .derive .last .1 .1 .1 .1 .1 .1 .1 .1 .0) (c .before .before .before .before .before .before .before .before .before .before .before .before .before .before .before .before .before .derive .result / 3) (c .before .before .before .before .before .before .before .before .before .before .before .before .before .dependency .last .1 .1 .1 .0) ((derived (c .before .before .before .before .before .before .before .before .before .before .before .before .before .before .before .before .before .before .before .before .before .before .before .before .before .before .before .before .before .before .before .pre .2 (stateIn (c .before .before .before .before .before .before .before .before .before .before .before .before .before .before .before .before .before .before .before .before .before .before .before .before .before .before .before .before .before .before .before .args .scratch .now) (c .before .before .before .before .before .before .before .before .before .before .before .before .before .before .before .before .before .before .before .before .before .before .before .before .before .before .before .before .before .before .before .args .state .0)) (state-in (c .before .before .before .before .before .before .before .before .before .before .before .before .before .before .before .before .before .before .before .before .before .before .before .before .before .before .before .before .before .before .before .args .scratch .now) (c .before .before .before .before .before .before .before .before .before .before .before .before .before .before .before .before .before .before .before .before .before .before .before .before .before .before .before .before .before .before .before .args .m) (c .before .before .before .before .before .before .before .before .before .before .before .before .before .before .before .before .before .before .before .before .before .before .before .before .before .before .before .before .before .before .before .args .state .0) (c .before .before .before .before .before .before .before .before .before .before .before .before .before .before .before .before .before .before .before .before .before .before .before .before .before .before .before .before .before .before .before .pre .1))) (c .before .before .before .before .before .before .before .before .before .before .before .before .before .before .before .before .before .before .before .before .before .before .before .before .before .before .before .before .before .before .before .args .root .0) (c .before .before .before .before .before .before .before .before .before .before .before .before .before .before .before .before .before .before .before .before .before .before .before .before .before .before .before .before .before .before .before .args .symbol .0) (c .before .before .before .before .before .before .before .before .before .before .before .before .before .before .before .before .before .before .before .before .before .before .before .before .before .before .before .before .before .before .before .pre .3) (c .before .before .before .before .before .before .before .before .before .before .before .before .before .before .before .before .before .before .before .before .before .before .before .before .before .before .before .before .before .before .before .pre .4) _ (c .before .before .before .before .before .before .before .before .before .before .before .before .before .before .before .before .before .derive .result) (c .before .before .before .before .before .before .before .before .before .before .before .before .before .before .before .before .before .derive .ensures .0) (c .before .before .before .before .before .before .before .before .before .before .before .before .before .before .before .before .before .derive .ensures .1)) .few) (c .before .before .before .before .before .before .before .before .before .before .before .before .before .dependency .ensures .1 .0) (c .before .before .before .before .before .before .before .before .before .before .before .before .before .dependency .ensures .1 .1) ∙ ap (classesW (a .tab .now)) ((derived (c .before .before .before .before .before .before .before .before .before .before .before .before .before .before .before .before .before .before .before .before .before .before .before .before .before .before .before .before .before .before .before .pre .2 (stateIn (c .before .before .before .before .before .before .before .before .before .before .before .before .before .before .before .before .before .before .before .before .before .before .before .before .before .before .before .before .before .before .before .args .scratch .now) (c .before .before .before .before .before .before .before .before .before .before .before .before .before .before .before .before .before .before .before .before .before .before .before .before .before .before .before .before .before .before .before .args .state .0)) (state-in (c .before .before .before .before .before .before .before .before .before .before .before .before .before .before .before .before .before .before .before .before .before .before .before .before .before .before .before .before .before .before .before .args .scratch .now) (c .before .before .before .before .before .before .before .before .before .before .before .before .before .before .before .before .before .before .before .before .before .before .before .before .before .before .before .before .before .before .before .args .m) (c .before .before .before .before .before .before .before .before .before .before .before .before .before .before .before .before .before .before .before .before .before .before .before .before .before .before .before .before .before .before .before .args .state .0) (c .before .before .before .before .before .before .before .before .before .before .before .before .before .before .before .before .before .before .before .before .before .before .before .before .before .before .before .before .before .before .before .pre .1))) (c .before .before .before .before .before .before .before .before .before .before .before .before .before .before .before .before .before .before .before .before .before .before .before .before .before .before .before .before .before .before .before .args .root .0) (c .before .before .before .before .before .before .before .before .before .before .before .before .before .before .before .before .before .before .before .before .before .before .before .before .before .before .before .before .before .before .before .args .symbol .0) (c .before .before .before .before .before .before .before .before .before .before .before .before .before .before .before .before .before .before .before .before .before .before .before .before .before .before .before .before .before .before .before .pre .3) (c .before .before .before .before .before .before .before .before .before .before .before .before .before .before .before .before .before .before .before .before .before .before .before .before .before .before .before .before .before .before .before .pre .4) _ (c .before .before .before .before .before .before .before .before .before .before .before .before .before .before .before .before .before .derive .result) (c .before .before .before .before .before .before .before .before .before .before .before .before .before .before .before .before .before .derive .ensures .0) (c .before .before .before .before .before .before .before .before .before .before .before .before .before .before .before .before .before .derive .ensures .1)) .is)))
-      (c .before .before .meet-all .ensures .0),
-  c .before .before .meet-all .ensures .1,
+returns c =
+    let entry = c .before .before .before .before .before .before .before .before .before .before .before .before .before .before .before .before .before .before .before .before .before .before .before .before .before .before .before .before .before .before .before in
+    let at-outputs = c .before .before .before .before .before .before .before .before .before .before .before .before .before .before .before .before .before .before .before .before .before .outputs in
+    let at-derive = c .before .before .before .before .before .before .before .before .before .before .before .before .before .before .before .before .before .derive in
+    let at-dependency = c .before .before .before .before .before .before .before .before .before .before .before .before .before .dependency in
+    let at-class-order = c .before .before .before .before .before .before .before .before .before .class-order in
+    let at-meet-all = c .before .before .meet-all in
+    let a = entry .args in (
+  met-same (at-meet-all .result) _ _ _ _ _ (ap (λ k. 2 + 2 * k) (outs-many (entry .args .tab .now) (entry .args .scratch .now) (128 + 96 * entry .args .state .0) (entry .args .root .0) (entry .args .symbol .0) (getD (entry .args .scratch .now) (entry .args .state .0) 0) (at-outputs .result) (omega (arith, entry .pre .0 .counts (entry .args .state .0) (entry .pre .1))) (at-outputs .ensures .0)))
+      (ap (meets (words (a .tab .now) (a .shapes)) (statesIn (entry .args .scratch .now) (a .m))) (ap (map (λ x. classAt (at-dependency .last .1 .1 .1 .0) (at-derive .last .1 .1 .1 .1 .1 .1 .1 .1 .0) (at-derive .result / 3) (x % 128))) (part-is (begins (at-dependency .last .1 .1 .1 .0)) (λ x. classKey (entry .args .tab .now) (classAt (at-dependency .last .1 .1 .1 .0) (at-derive .last .1 .1 .1 .1 .1 .1 .1 .1 .0) (at-derive .result / 3) x)) (at-derive .result / 3) (replicate {A = ℕ} 96 0) _ (at-class-order .result) ((derived (entry .pre .2 (stateIn (entry .args .scratch .now) (entry .args .state .0)) (state-in (entry .args .scratch .now) (entry .args .m) (entry .args .state .0) (entry .pre .1))) (entry .args .root .0) (entry .args .symbol .0) (entry .pre .3) (entry .pre .4) _ (at-derive .result) (at-derive .ensures .0) (at-derive .ensures .1)) .few) ((derived (entry .pre .2 (stateIn (entry .args .scratch .now) (entry .args .state .0)) (state-in (entry .args .scratch .now) (entry .args .m) (entry .args .state .0) (entry .pre .1))) (entry .args .root .0) (entry .args .symbol .0) (entry .pre .3) (entry .pre .4) _ (at-derive .result) (at-derive .ensures .0) (at-derive .ensures .1)) .few) (at-class-order .ensures .0) (at-class-order .ensures .1)) ∙ classes-in-order (a .tab .now) (at-derive .last .1 .1 .1 .1 .1 .1 .1 .1 .0) (at-derive .result / 3) (at-dependency .last .1 .1 .1 .0) ((derived (entry .pre .2 (stateIn (entry .args .scratch .now) (entry .args .state .0)) (state-in (entry .args .scratch .now) (entry .args .m) (entry .args .state .0) (entry .pre .1))) (entry .args .root .0) (entry .args .symbol .0) (entry .pre .3) (entry .pre .4) _ (at-derive .result) (at-derive .ensures .0) (at-derive .ensures .1)) .few) (at-dependency .ensures .1 .0) (at-dependency .ensures .1 .1) ∙ ap (classesW (a .tab .now)) ((derived (entry .pre .2 (stateIn (entry .args .scratch .now) (entry .args .state .0)) (state-in (entry .args .scratch .now) (entry .args .m) (entry .args .state .0) (entry .pre .1))) (entry .args .root .0) (entry .args .symbol .0) (entry .pre .3) (entry .pre .4) _ (at-derive .result) (at-derive .ensures .0) (at-derive .ensures .1)) .is)))
+      (at-meet-all .ensures .0),
+  at-meet-all .ensures .1,
 )
 
 pub explore-symbol-spec : {M : Type 1} → statement M

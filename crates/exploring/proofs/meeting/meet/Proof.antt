@@ -27,21 +27,29 @@ slice-aggregate-put-class : tie.Need-slice-aggregate-put-class
 slice-aggregate-put-class c = search needs
 
 put-class-requires : tie.Need-put-class-requires
-put-class-requires c κs = let h = class-room (c .before .before .before .args .dep .now) (c .before .before .before .args .goals .now) (c .before .before .before .args .n) (c .before .before .before .args .r) (c .before .before .before .pre .1) in (c .before .before .before .pre .1, c .before .before .before .pre .4, c .before .before .before .pre .3, c .before .before .before .pre .2, h)
+put-class-requires c κs =
+    let entry = c .before .before .before in
+    let h = class-room (entry .args .dep .now) (entry .args .goals .now) (entry .args .n) (entry .args .r) (entry .pre .1) in (entry .pre .1, entry .pre .4, entry .pre .3, entry .pre .2, h)
 
 returns : tie.Need-returns
-returns c = let K = classAt (c .before .before .before .before .before .before .args .dep .now) (c .before .before .before .before .before .before .args .goals .now) (c .before .before .before .before .before .before .args .n) (c .before .before .before .before .before .before .args .r) in
-    let e = flat-thirds K (c .before .before .put-class .result) (c .before .before .put-class .ensures .0) in
+returns c =
+    let entry = c .before .before .before .before .before .before in
+    let at-put-class = c .before .before .put-class in
+    let K = classAt (entry .args .dep .now) (entry .args .goals .now) (entry .args .n) (entry .args .r) in
+    let e = flat-thirds K (at-put-class .result) (at-put-class .ensures .0) in
     let h = c .if1 .taken in
-    (meet-big (words [] 0) (statesIn (c .before .before .before .before .before .before .args .scratch .now) (c .before .before .before .before .before .before .args .m)) K (omega (arith, h, e)), refl)
+    (meet-big (words [] 0) (statesIn (entry .args .scratch .now) (entry .args .m)) K (omega (arith, h, e)), refl)
 
 slice-aggregate-least : tie.Need-slice-aggregate-least
 slice-aggregate-least c = search needs
 
 least-requires : tie.Need-least-requires
-least-requires c κs = let K = classAt (c .before .before .before .before .before .before .before .args .dep .now) (c .before .before .before .before .before .before .before .args .goals .now) (c .before .before .before .before .before .before .before .args .n) (c .before .before .before .before .before .before .before .args .r) in
-    let e = flat-thirds K (c .before .before .before .put-class .result) (c .before .before .before .put-class .ensures .0) in
-    let f = class-few (c .before .before .before .before .before .before .before .args .dep .now) (c .before .before .before .before .before .before .before .args .goals .now) (c .before .before .before .before .before .before .before .args .n) (c .before .before .before .before .before .before .before .args .r) (c .before .before .before .before .before .before .before .pre .1) in
+least-requires c κs =
+    let entry = c .before .before .before .before .before .before .before in
+    let at-put-class = c .before .before .before .put-class in
+    let K = classAt (entry .args .dep .now) (entry .args .goals .now) (entry .args .n) (entry .args .r) in
+    let e = flat-thirds K (at-put-class .result) (at-put-class .ensures .0) in
+    let f = class-few (entry .args .dep .now) (entry .args .goals .now) (entry .args .n) (entry .args .r) (entry .pre .1) in
     search needs
 
 slice-aggregate-put-lifted : tie.Need-slice-aggregate-put-lifted
@@ -63,21 +71,32 @@ same-length : tie.Need-same-length
 same-length c = search needs
 
 returns-2 : tie.Need-returns-2
-returns-2 c = let a = c .before .before .before .before .before .before .before .before .before .before .before .before .before .before .before .before .args in let K = classAt (a .dep .now) (a .goals .now) (a .n) (a .r) in
-    let f = class-few (a .dep .now) (a .goals .now) (a .n) (a .r) (c .before .before .before .before .before .before .before .before .before .before .before .before .before .before .before .before .pre .1) in
-    let e = flat-thirds K (c .before .before .before .before .before .before .before .before .before .before .before .before .put-class .result) (c .before .before .before .before .before .before .before .before .before .before .before .before .put-class .ensures .0) in
-    let l = lifting K (replicate {A = ℕ} 288 0) _ (replicate {A = ℕ} 96 0) _ (c .before .before .before .before .before .before .before .before .before .before .before .before .put-class .result) _ (c .before .before .before .before .before .before .before .before .before .before .before .before .put-class .ensures .0) (c .before .before .before .before .before .before .before .before .before .before .before .before .put-class .ensures .1) (omega (arith, f)) (c .before .before .before .before .before .before .before .before .least .ensures) (c .before .before .before .before .before .put-lifted .ensures) (omega (arith, e, c .before .before .before .before .before .before .before .before .before .before .if1 .left)) in
-    (met-known (a .scratch .now) (a .m) (c .before .before .before .before .before .before .before .before .before .before .before .before .before .before .before .before .pre .0) K _ _ _ _ l (c .before .before .before .before .before .before .before .before .before .before .if1 .left) (c .before .find-state .ensures) (c .if2 .taken), refl)
+returns-2 c =
+    let entry = c .before .before .before .before .before .before .before .before .before .before .before .before .before .before .before .before in
+    let at-put-class = c .before .before .before .before .before .before .before .before .before .before .before .before .put-class in
+    let at-if1 = c .before .before .before .before .before .before .before .before .before .before .if1 in
+    let at-least = c .before .before .before .before .before .before .before .before .least in
+    let a = entry .args in let K = classAt (a .dep .now) (a .goals .now) (a .n) (a .r) in
+    let f = class-few (a .dep .now) (a .goals .now) (a .n) (a .r) (entry .pre .1) in
+    let e = flat-thirds K (at-put-class .result) (at-put-class .ensures .0) in
+    let l = lifting K (replicate {A = ℕ} 288 0) _ (replicate {A = ℕ} 96 0) _ (at-put-class .result) _ (at-put-class .ensures .0) (at-put-class .ensures .1) (omega (arith, f)) (at-least .ensures) (c .before .before .before .before .before .put-lifted .ensures) (omega (arith, e, at-if1 .left)) in
+    (met-known (a .scratch .now) (a .m) (entry .pre .0) K _ _ _ _ l (at-if1 .left) (c .before .find-state .ensures) (c .if2 .taken), refl)
 
 same-length-2 : tie.Need-same-length-2
 same-length-2 c = search needs
 
 returns-3 : tie.Need-returns-3
-returns-3 c = let a = c .before .before .before .before .before .before .before .before .before .before .before .before .before .before .before .before .before .args in let K = classAt (a .dep .now) (a .goals .now) (a .n) (a .r) in
-    let f = class-few (a .dep .now) (a .goals .now) (a .n) (a .r) (c .before .before .before .before .before .before .before .before .before .before .before .before .before .before .before .before .before .pre .1) in
-    let e = flat-thirds K (c .before .before .before .before .before .before .before .before .before .before .before .before .before .put-class .result) (c .before .before .before .before .before .before .before .before .before .before .before .before .before .put-class .ensures .0) in
-    let l = lifting K (replicate {A = ℕ} 288 0) _ (replicate {A = ℕ} 96 0) _ (c .before .before .before .before .before .before .before .before .before .before .before .before .before .put-class .result) _ (c .before .before .before .before .before .before .before .before .before .before .before .before .before .put-class .ensures .0) (c .before .before .before .before .before .before .before .before .before .before .before .before .before .put-class .ensures .1) (omega (arith, f)) (c .before .before .before .before .before .before .before .before .before .least .ensures) (c .before .before .before .before .before .before .put-lifted .ensures) (omega (arith, e, c .before .before .before .before .before .before .before .before .before .before .before .if1 .left)) in
-    (met-full (a .scratch .now) (a .m) (c .before .before .before .before .before .before .before .before .before .before .before .before .before .before .before .before .before .pre .0) K _ _ _ _ l (c .before .before .before .before .before .before .before .before .before .before .before .if1 .left) (c .before .before .find-state .ensures) (c .before .if2 .left) (c .if3 .taken), refl)
+returns-3 c =
+    let entry = c .before .before .before .before .before .before .before .before .before .before .before .before .before .before .before .before .before in
+    let at-put-class = c .before .before .before .before .before .before .before .before .before .before .before .before .before .put-class in
+    let at-if1 = c .before .before .before .before .before .before .before .before .before .before .before .if1 in
+    let at-least = c .before .before .before .before .before .before .before .before .before .least in
+    let at-put-lifted = c .before .before .before .before .before .before .put-lifted in
+    let a = entry .args in let K = classAt (a .dep .now) (a .goals .now) (a .n) (a .r) in
+    let f = class-few (a .dep .now) (a .goals .now) (a .n) (a .r) (entry .pre .1) in
+    let e = flat-thirds K (at-put-class .result) (at-put-class .ensures .0) in
+    let l = lifting K (replicate {A = ℕ} 288 0) _ (replicate {A = ℕ} 96 0) _ (at-put-class .result) _ (at-put-class .ensures .0) (at-put-class .ensures .1) (omega (arith, f)) (at-least .ensures) (at-put-lifted .ensures) (omega (arith, e, at-if1 .left)) in
+    (met-full (a .scratch .now) (a .m) (entry .pre .0) K _ _ _ _ l (at-if1 .left) (c .before .before .find-state .ensures) (c .before .if2 .left) (c .if3 .taken), refl)
 
 slice-aggregate-add-state : tie.Need-slice-aggregate-add-state
 slice-aggregate-add-state c = search needs
@@ -92,11 +111,19 @@ same-length-3 : tie.Need-same-length-3
 same-length-3 c = search needs
 
 returns-4 : tie.Need-returns-4
-returns-4 c = let a = c .before .before .before .before .before .before .before .before .before .before .before .before .before .before .before .before .before .before .before .before .before .before .args in let K = classAt (a .dep .now) (a .goals .now) (a .n) (a .r) in
-    let f = class-few (a .dep .now) (a .goals .now) (a .n) (a .r) (c .before .before .before .before .before .before .before .before .before .before .before .before .before .before .before .before .before .before .before .before .before .before .pre .1) in
-    let e = flat-thirds K (c .before .before .before .before .before .before .before .before .before .before .before .before .before .before .before .before .before .before .put-class .result) (c .before .before .before .before .before .before .before .before .before .before .before .before .before .before .before .before .before .before .put-class .ensures .0) in
-    let l = lifting K (replicate {A = ℕ} 288 0) _ (replicate {A = ℕ} 96 0) _ (c .before .before .before .before .before .before .before .before .before .before .before .before .before .before .before .before .before .before .put-class .result) _ (c .before .before .before .before .before .before .before .before .before .before .before .before .before .before .before .before .before .before .put-class .ensures .0) (c .before .before .before .before .before .before .before .before .before .before .before .before .before .before .before .before .before .before .put-class .ensures .1) (omega (arith, f)) (c .before .before .before .before .before .before .before .before .before .before .before .before .before .before .least .ensures) (c .before .before .before .before .before .before .before .before .before .before .before .put-lifted .ensures) (omega (arith, e, c .before .before .before .before .before .before .before .before .before .before .before .before .before .before .before .before .if1 .left)) in
-    met-new (a .scratch .now) (a .m) (c .before .before .before .before .before .before .before .before .before .before .before .before .before .before .before .before .before .before .before .before .before .before .pre .0) K _ _ _ _ l (c .before .before .before .before .before .before .before .before .before .before .before .before .before .before .before .before .if1 .left) (c .before .before .before .before .before .before .before .find-state .ensures) (c .before .before .before .before .before .before .if2 .left) (c .before .before .before .before .before .if3 .left) _ (c .before .before .add-state .ensures) (omega (arith, c .before .before .before .before .before .before .before .before .before .before .before .put-lifted .kept .1 .1 .1 .1 .0, c .before .before .before .before .before .before .before .before .before .before .before .before .before .before .before .before .if1 .left))
+returns-4 c =
+    let entry = c .before .before .before .before .before .before .before .before .before .before .before .before .before .before .before .before .before .before .before .before .before .before in
+    let at-put-class = c .before .before .before .before .before .before .before .before .before .before .before .before .before .before .before .before .before .before .put-class in
+    let at-if1 = c .before .before .before .before .before .before .before .before .before .before .before .before .before .before .before .before .if1 in
+    let at-least = c .before .before .before .before .before .before .before .before .before .before .before .before .before .before .least in
+    let at-put-lifted = c .before .before .before .before .before .before .before .before .before .before .before .put-lifted in
+    let at-find-state = c .before .before .before .before .before .before .before .find-state in
+    let at-if2 = c .before .before .before .before .before .before .if2 in
+    let a = entry .args in let K = classAt (a .dep .now) (a .goals .now) (a .n) (a .r) in
+    let f = class-few (a .dep .now) (a .goals .now) (a .n) (a .r) (entry .pre .1) in
+    let e = flat-thirds K (at-put-class .result) (at-put-class .ensures .0) in
+    let l = lifting K (replicate {A = ℕ} 288 0) _ (replicate {A = ℕ} 96 0) _ (at-put-class .result) _ (at-put-class .ensures .0) (at-put-class .ensures .1) (omega (arith, f)) (at-least .ensures) (at-put-lifted .ensures) (omega (arith, e, at-if1 .left)) in
+    met-new (a .scratch .now) (a .m) (entry .pre .0) K _ _ _ _ l (at-if1 .left) (at-find-state .ensures) (at-if2 .left) (c .before .before .before .before .before .if3 .left) _ (c .before .before .add-state .ensures) (omega (arith, at-put-lifted .kept .1 .1 .1 .1 .0, at-if1 .left))
 
 pub meet-spec : {M : Type 1} → statement M
 meet-spec =

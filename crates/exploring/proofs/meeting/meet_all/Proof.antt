@@ -18,7 +18,9 @@ abbrev μ-loop : tie.MeasureT-loop
 
 -- src/meeting.rt:110:5
 loop-holds : tie.Need-loop-holds Inv-loop μ-loop
-loop-holds c = meeting-begin (c .before .before .before .args .dep .now) (c .before .before .before .args .goals .now) (c .before .before .before .args .n) (c .before .before .before .args .order .now) (c .before .before .before .args .base) (c .before .before .before .args .scratch .now) (c .before .before .before .args .m) (c .before .before .before .pre .0)
+loop-holds c =
+    let entry = c .before .before .before in
+    meeting-begin (entry .args .dep .now) (entry .args .goals .now) (entry .args .n) (entry .args .order .now) (entry .args .base) (entry .args .scratch .now) (entry .args .m) (entry .pre .0)
 
 -- src/meeting.rt:111:53
 mul-meet : tie.Need-mul-meet Inv-loop μ-loop
@@ -34,7 +36,10 @@ cast-meet c = search needs
 
 -- src/meeting.rt:111:15
 meet-requires : tie.Need-meet-requires Inv-loop μ-loop
-meet-requires c κs = (c .before .before .before .loop .inv .kept, c .before .before .before .before .before .before .before .pre .1, c .before .before .before .before .before .before .before .pre .2, c .before .before .before .before .before .before .before .pre .3, c .before .before .before .before .before .before .before .pre .5 (c .before .before .before .loop .j) (c .before .before .loop-test .taken))
+meet-requires c κs =
+    let entry = c .before .before .before .before .before .before .before in
+    let at-loop = c .before .before .before .loop in
+    (at-loop .inv .kept, entry .pre .1, entry .pre .2, entry .pre .3, entry .pre .5 (at-loop .j) (c .before .before .loop-test .taken))
 
 -- src/meeting.rt:112:21
 enum-known-all : tie.Need-enum-known-all Inv-loop μ-loop
@@ -42,7 +47,12 @@ enum-known-all c = search needs
 
 -- src/meeting.rt:114:17
 add-words : tie.Need-add-words Inv-loop μ-loop
-add-words c = let s = meeting-on (c .before .before .before .before .before .before .before .before .before .before .before .before .before .args .dep .now) (c .before .before .before .before .before .before .before .before .before .before .before .before .before .args .goals .now) (c .before .before .before .before .before .before .before .before .before .before .before .before .before .args .n) (c .before .before .before .before .before .before .before .before .before .before .before .before .before .args .order .now) (c .before .before .before .before .before .before .before .before .before .before .before .before .before .args .base) (c .before .before .before .before .before .before .before .before .before .before .before .before .before .args .scratch .now) (c .before .before .before .before .before .before .before .before .before .before .before .before .before .args .m) (c .before .before .before .before .before .before .before .before .before .loop .inv) (c .before .before .before .before .before .before .before .before .loop-test .taken) _ (c .before .before .before .before .before .meet .result) _ _ (c .before .all .given .1) (c .before .before .before .before .before .meet .ensures .0) (c .before .before .before .before .before .meet .ensures .1) (c .before .before .before .before .before .meet .kept .0) in omega (arith, s .sum, s .below, c .before .before .before .before .before .before .before .before .before .before .before .before .before .pre .4, c .before .before .before .before .before .before .before .before .before .before .before .before .before .pre .6)
+add-words c =
+    let entry = c .before .before .before .before .before .before .before .before .before .before .before .before .before in
+    let at-loop = c .before .before .before .before .before .before .before .before .before .loop in
+    let at-loop-test = c .before .before .before .before .before .before .before .before .loop-test in
+    let at-meet = c .before .before .before .before .before .meet in
+    let s = meeting-on (entry .args .dep .now) (entry .args .goals .now) (entry .args .n) (entry .args .order .now) (entry .args .base) (entry .args .scratch .now) (entry .args .m) (at-loop .inv) (at-loop-test .taken) _ (at-meet .result) _ _ (c .before .all .given .1) (at-meet .ensures .0) (at-meet .ensures .1) (at-meet .kept .0) in omega (arith, s .sum, s .below, entry .pre .4, entry .pre .6)
 
 -- src/meeting.rt:116:26
 enum-known-reason : tie.Need-enum-known-reason Inv-loop μ-loop
@@ -50,11 +60,18 @@ enum-known-reason c = search needs
 
 -- src/meeting.rt:117:17
 same-length : tie.Need-same-length Inv-loop μ-loop
-same-length c = c .before .before .before .before .before .meet .kept .0 ∙ c .before .before .before .before .before .before .before .before .before .loop .inv .long
+same-length c =
+    let at-loop = c .before .before .before .before .before .before .before .before .before .loop in
+    c .before .before .before .before .before .meet .kept .0 ∙ at-loop .inv .long
 
 -- src/meeting.rt:117:17
 returns : tie.Need-returns Inv-loop μ-loop
-returns c = (meeting-stop (c .before .before .before .before .before .before .before .before .before .before .before .before .before .args .dep .now) (c .before .before .before .before .before .before .before .before .before .before .before .before .before .args .goals .now) (c .before .before .before .before .before .before .before .before .before .before .before .before .before .args .n) (c .before .before .before .before .before .before .before .before .before .before .before .before .before .args .order .now) (c .before .before .before .before .before .before .before .before .before .before .before .before .before .args .base) (c .before .before .before .before .before .before .before .before .before .before .before .before .before .args .scratch .now) (c .before .before .before .before .before .before .before .before .before .before .before .before .before .args .m) (c .before .before .before .before .before .before .before .before .before .loop .inv) (c .before .before .before .before .before .before .before .before .loop-test .taken) _ (c .before .before .before .before .before .meet .result) _ (c .before .reason .given .1) (c .before .before .before .before .before .meet .ensures .0), c .before .before .before .before .before .meet .ensures .1 ∙ c .before .before .before .before .before .before .before .before .before .loop .inv .behind)
+returns c =
+    let entry = c .before .before .before .before .before .before .before .before .before .before .before .before .before in
+    let at-loop = c .before .before .before .before .before .before .before .before .before .loop in
+    let at-loop-test = c .before .before .before .before .before .before .before .before .loop-test in
+    let at-meet = c .before .before .before .before .before .meet in
+    (meeting-stop (entry .args .dep .now) (entry .args .goals .now) (entry .args .n) (entry .args .order .now) (entry .args .base) (entry .args .scratch .now) (entry .args .m) (at-loop .inv) (at-loop-test .taken) _ (at-meet .result) _ (c .before .reason .given .1) (at-meet .ensures .0), at-meet .ensures .1 ∙ at-loop .inv .behind)
 
 -- src/meeting.rt:120:9
 add-j : tie.Need-add-j Inv-loop μ-loop
@@ -66,7 +83,12 @@ loop-less c = search needs
 
 -- src/meeting.rt:110:5
 loop-again : tie.Need-loop-again Inv-loop μ-loop
-loop-again c = meeting-on (c .before .before .before .before .before .before .before .before .before .before .before .before .before .args .dep .now) (c .before .before .before .before .before .before .before .before .before .before .before .before .before .args .goals .now) (c .before .before .before .before .before .before .before .before .before .before .before .before .before .args .n) (c .before .before .before .before .before .before .before .before .before .before .before .before .before .args .order .now) (c .before .before .before .before .before .before .before .before .before .before .before .before .before .args .base) (c .before .before .before .before .before .before .before .before .before .before .before .before .before .args .scratch .now) (c .before .before .before .before .before .before .before .before .before .before .before .before .before .args .m) (c .before .before .before .before .before .before .before .before .before .loop .inv) (c .before .before .before .before .before .before .before .before .loop-test .taken) _ (c .before .before .before .before .before .meet .result) _ _ (c .before .all .given .1) (c .before .before .before .before .before .meet .ensures .0) (c .before .before .before .before .before .meet .ensures .1) (c .before .before .before .before .before .meet .kept .0)
+loop-again c =
+    let entry = c .before .before .before .before .before .before .before .before .before .before .before .before .before in
+    let at-loop = c .before .before .before .before .before .before .before .before .before .loop in
+    let at-loop-test = c .before .before .before .before .before .before .before .before .loop-test in
+    let at-meet = c .before .before .before .before .before .meet in
+    meeting-on (entry .args .dep .now) (entry .args .goals .now) (entry .args .n) (entry .args .order .now) (entry .args .base) (entry .args .scratch .now) (entry .args .m) (at-loop .inv) (at-loop-test .taken) _ (at-meet .result) _ _ (c .before .all .given .1) (at-meet .ensures .0) (at-meet .ensures .1) (at-meet .kept .0)
 
 -- src/meeting.rt:102:1
 same-length-2 : tie.Need-same-length-2 Inv-loop μ-loop
@@ -74,7 +96,9 @@ same-length-2 c = c .before .loop .inv .long
 
 -- src/meeting.rt:102:1
 returns-2 : tie.Need-returns-2 Inv-loop μ-loop
-returns-2 c = (meeting-end (c .before .before .before .before .before .args .dep .now) (c .before .before .before .before .before .args .goals .now) (c .before .before .before .before .before .args .n) (c .before .before .before .before .before .args .order .now) (c .before .before .before .before .before .args .base) (c .before .before .before .before .before .args .scratch .now) (c .before .before .before .before .before .args .m) (c .before .loop .inv) (c .loop-test .left) (c .before .before .before .before .before .pre .4), c .before .loop .inv .behind)
+returns-2 c =
+    let entry = c .before .before .before .before .before in
+    (meeting-end (entry .args .dep .now) (entry .args .goals .now) (entry .args .n) (entry .args .order .now) (entry .args .base) (entry .args .scratch .now) (entry .args .m) (c .before .loop .inv) (c .loop-test .left) (entry .pre .4), c .before .loop .inv .behind)
 
 pub meet-all-spec : {M : Type 1} → statement M
 meet-all-spec =

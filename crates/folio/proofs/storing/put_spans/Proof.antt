@@ -17,7 +17,9 @@ abbrev μ-loop : tie.MeasureT-loop
 μ-loop arity words spans₀ n i₀ spans i = i
 
 loop-holds : tie.Need-loop-holds Inv-loop μ-loop
-loop-holds c = (omega arith, refl, write-start (c .before .before .before .args .arity .now) (c .before .before .before .args .words .now) (c .before .before .before .args .spans .now))
+loop-holds c =
+    let entry = c .before .before .before in
+    (omega arith, refl, write-start (entry .args .arity .now) (entry .args .words .now) (entry .args .spans .now))
 
 sub-i : tie.Need-sub-i Inv-loop μ-loop
 sub-i c = search needs
@@ -50,11 +52,14 @@ sub-spans : tie.Need-sub-spans Inv-loop μ-loop
 sub-spans c = search needs
 
 cast-spans : tie.Need-cast-spans Inv-loop μ-loop
-cast-spans c = let a = c .before .before .before .before .before .before .before .before .before .before .args in
-    let q : c .before .before .before .before .before .before .loop .i ≡ c .before .before .before .before .before .before .loop .i - 1 + 1 = omega arith in
-    let en = c .before .before .before .before .before .before .loop .inv .2 ∙ ap (λ (n : ℕ). sets (a .spans .now) n (spansOf (a .arity .now) (drop n (a .words .now)))) q in
-    let e = write-end (a .arity .now) (a .words .now) (a .spans .now) (c .before .before .before .before .before .before .loop .i - 1) (c .skip .result) (omega arith) (omega arith) _ _ _ (c .before .before .before .count .ensures) (sub-zero _) en (c .skip .ensures) in
-    omega (arith, write-fits (a .arity .now) (a .words .now) (a .spans .now) (c .before .before .before .before .before .before .loop .i - 1) (c .skip .result) (omega arith) (omega arith) e)
+cast-spans c =
+    let entry = c .before .before .before .before .before .before .before .before .before .before in
+    let at-loop = c .before .before .before .before .before .before .loop in
+    let a = entry .args in
+    let q : at-loop .i ≡ at-loop .i - 1 + 1 = omega arith in
+    let en = at-loop .inv .2 ∙ ap (λ (n : ℕ). sets (a .spans .now) n (spansOf (a .arity .now) (drop n (a .words .now)))) q in
+    let e = write-end (a .arity .now) (a .words .now) (a .spans .now) (at-loop .i - 1) (c .skip .result) (omega arith) (omega arith) _ _ _ (c .before .before .before .count .ensures) (sub-zero _) en (c .skip .ensures) in
+    omega (arith, write-fits (a .arity .now) (a .words .now) (a .spans .now) (at-loop .i - 1) (c .skip .result) (omega arith) (omega arith) e)
 
 mul-spans : tie.Need-mul-spans Inv-loop μ-loop
 mul-spans c = omega arith
@@ -66,21 +71,26 @@ loop-less : tie.Need-loop-less Inv-loop μ-loop
 loop-less c = search needs
 
 loop-again : tie.Need-loop-again Inv-loop μ-loop
-loop-again c = let a = c .before .before .before .before .before .before .before .before .before .before .args in
-    let q : c .before .before .before .before .before .before .loop .i ≡ c .before .before .before .before .before .before .loop .i - 1 + 1 = omega arith in
-    let en = c .before .before .before .before .before .before .loop .inv .2 ∙ ap (λ (n : ℕ). sets (a .spans .now) n (spansOf (a .arity .now) (drop n (a .words .now)))) q in
-    let e = write-end (a .arity .now) (a .words .now) (a .spans .now) (c .before .before .before .before .before .before .loop .i - 1) (c .skip .result) (omega arith) (omega arith) _ _ _ (c .before .before .before .count .ensures) (sub-zero _) en (c .skip .ensures) in (
+loop-again c =
+    let entry = c .before .before .before .before .before .before .before .before .before .before in
+    let at-loop = c .before .before .before .before .before .before .loop in
+    let a = entry .args in
+    let q : at-loop .i ≡ at-loop .i - 1 + 1 = omega arith in
+    let en = at-loop .inv .2 ∙ ap (λ (n : ℕ). sets (a .spans .now) n (spansOf (a .arity .now) (drop n (a .words .now)))) q in
+    let e = write-end (a .arity .now) (a .words .now) (a .spans .now) (at-loop .i - 1) (c .skip .result) (omega arith) (omega arith) _ _ _ (c .before .before .before .count .ensures) (sub-zero _) en (c .skip .ensures) in (
       omega arith,
-      simp length-set (c .before .before .before .before .before .before .loop .inv .1),
-      write-next (a .arity .now) (a .words .now) (a .spans .now) (c .before .before .before .before .before .before .loop .i - 1) (c .skip .result) (omega arith) (omega arith) _ en e,
+      simp length-set (at-loop .inv .1),
+      write-next (a .arity .now) (a .words .now) (a .spans .now) (at-loop .i - 1) (c .skip .result) (omega arith) (omega arith) _ en e,
     )
 
 same-length : tie.Need-same-length Inv-loop μ-loop
 same-length c = c .before .loop .inv .1
 
 returns : tie.Need-returns Inv-loop μ-loop
-returns c = let z : c .before .loop .i ≡ 0 = omega arith in
-    c .before .loop .inv .2 ∙ ap (λ (n : ℕ). sets (c .before .before .before .before .before .args .spans .now) n (spansOf (c .before .before .before .before .before .args .arity .now) (drop n (c .before .before .before .before .before .args .words .now)))) z
+returns c =
+    let entry = c .before .before .before .before .before in
+    let z : c .before .loop .i ≡ 0 = omega arith in
+    c .before .loop .inv .2 ∙ ap (λ (n : ℕ). sets (entry .args .spans .now) n (spansOf (entry .args .arity .now) (drop n (entry .args .words .now)))) z
 
 pub put-spans-spec : {M : Type 1} → statement M
 put-spans-spec =

@@ -33,10 +33,14 @@ shared-slice-read-result : tie.Need-shared-slice-read-result
 shared-slice-read-result c = search needs
 
 cast-result-2 : tie.Need-cast-result-2
-cast-result-2 c = omega (arith, c .shared-slice-known .given (256 + (16 * c .before .before .before .args .g .shape .0 + c .before .before .before .args .r)))
+cast-result-2 c =
+    let entry = c .before .before .before in
+    omega (arith, c .shared-slice-known .given (256 + (16 * entry .args .g .shape .0 + entry .args .r)))
 
 mul-result-2 : tie.Need-mul-result-2
-mul-result-2 c = omega (arith, word-mul (c .before .before .before .args .g .at .0) (getD (c .before .before .before .args .tab .now) (256 + (16 * c .before .before .before .args .g .shape .0 + c .before .before .before .args .r)) 0) (omega arith) (omega (arith, c .shared-slice-known .given (256 + (16 * c .before .before .before .args .g .shape .0 + c .before .before .before .args .r)))))
+mul-result-2 c =
+    let entry = c .before .before .before in
+    omega (arith, word-mul (entry .args .g .at .0) (getD (entry .args .tab .now) (256 + (16 * entry .args .g .shape .0 + entry .args .r)) 0) (omega arith) (omega (arith, c .shared-slice-known .given (256 + (16 * entry .args .g .shape .0 + entry .args .r)))))
 
 mul-result-3 : tie.Need-mul-result-3
 mul-result-3 c = search needs
@@ -45,10 +49,14 @@ shared-slice-read-result-2 : tie.Need-shared-slice-read-result-2
 shared-slice-read-result-2 c = search needs
 
 cast-result-3 : tie.Need-cast-result-3
-cast-result-3 c = omega (arith, c .shared-slice-known2 .given (16 * c .before .before .before .before .args .g .shape .0 + c .before .before .before .before .args .r))
+cast-result-3 c =
+    let entry = c .before .before .before .before in
+    omega (arith, c .shared-slice-known2 .given (16 * entry .args .g .shape .0 + entry .args .r))
 
 add-result-2 : tie.Need-add-result-2
-add-result-2 c = omega (arith, c .shared-slice-known2 .given (16 * c .before .before .before .before .args .g .shape .0 + c .before .before .before .before .args .r), word-mul (c .before .before .before .before .args .g .at .0) (getD (c .before .before .before .before .args .tab .now) (256 + (16 * c .before .before .before .before .args .g .shape .0 + c .before .before .before .before .args .r)) 0) (omega arith) (omega (arith, c .before .shared-slice-known .given (256 + (16 * c .before .before .before .before .args .g .shape .0 + c .before .before .before .before .args .r)))))
+add-result-2 c =
+    let entry = c .before .before .before .before in
+    omega (arith, c .shared-slice-known2 .given (16 * entry .args .g .shape .0 + entry .args .r), word-mul (entry .args .g .at .0) (getD (entry .args .tab .now) (256 + (16 * entry .args .g .shape .0 + entry .args .r)) 0) (omega arith) (omega (arith, c .before .shared-slice-known .given (256 + (16 * entry .args .g .shape .0 + entry .args .r)))))
 
 returns : tie.Need-returns
 returns c = refl

@@ -47,11 +47,14 @@ loop-less c = search needs
 
 loop-again : tie.Need-loop-again Inv-loop μ-loop
 loop-again c =
-    let a = c .before .before .before .before .before .before .before .args in
+    let entry = c .before .before .before .before .before .before .before in
+    let at-loop-test = c .before .before .before .before .loop-test in
+    let at-padded = c .before .before .padded in
+    let a = entry .args in
     let l = c .before .before .before .before .before .loop in
     ⊎-elim
-    (λ w. l .inv ∙ rw (w .2) (best-next (a .cs .now) (l .i) (l .found) (c .before .before .before .before .loop-test .taken) (omega (arith, w .0 .taken, c .before .before .padded .ensures, c .before .padded2 .ensures))))
-    (λ w. l .inv ∙ rw (w .1) (best-keep (a .cs .now) (l .i) (l .found) (c .before .before .before .before .loop-test .taken) (omega (arith, w .0 .left, c .before .before .padded .ensures, c .before .padded2 .ensures))))
+    (λ w. l .inv ∙ rw (w .2) (best-next (a .cs .now) (l .i) (l .found) (at-loop-test .taken) (omega (arith, w .0 .taken, at-padded .ensures, c .before .padded2 .ensures))))
+    (λ w. l .inv ∙ rw (w .1) (best-keep (a .cs .now) (l .i) (l .found) (at-loop-test .taken) (omega (arith, w .0 .left, at-padded .ensures, c .before .padded2 .ensures))))
     (c .if1 .came)
 
 returns : tie.Need-returns Inv-loop μ-loop

@@ -28,7 +28,10 @@ goal-at-requires : tie.Need-goal-at-requires Inv-loop μ-loop
 goal-at-requires c κs = search needs
 
 first-owed-requires : tie.Need-first-owed-requires Inv-loop μ-loop
-first-owed-requires c κs = rw (c .before .before .goal-at .ensures) (c .before .before .before .before .before .before .before .pre .0, low-next (c .before .before .before .before .before .before .before .args .ws .now) (c .before .before .before .before .loop .here) (c .before .before .before .before .loop .left) (c .before .before .before .loop-test .taken) (c .before .before .before .before .loop .inv .1) .0)
+first-owed-requires c κs =
+    let entry = c .before .before .before .before .before .before .before in
+    let at-loop = c .before .before .before .before .loop in
+    rw (c .before .before .goal-at .ensures) (entry .pre .0, low-next (entry .args .ws .now) (at-loop .here) (at-loop .left) (c .before .before .before .loop-test .taken) (at-loop .inv .1) .0)
 
 add-here : tie.Need-add-here Inv-loop μ-loop
 add-here c = search needs
@@ -40,12 +43,16 @@ loop-less : tie.Need-loop-less Inv-loop μ-loop
 loop-less c = search needs
 
 loop-again : tie.Need-loop-again Inv-loop μ-loop
-loop-again c = let a = c .before .before .before .before .before .before .before .args in let l = c .before .before .before .before .loop in
-    let low = low-next (a .ws .now) (l .here) (l .left) (c .before .before .before .loop-test .taken) (l .inv .1) .1 in
-    let at = ap (λ (x : Goal). x .at .0) (c .before .before .goal-at .ensures) in
+loop-again c =
+    let entry = c .before .before .before .before .before .before .before in
+    let at-loop-test = c .before .before .before .loop-test in
+    let at-goal-at = c .before .before .goal-at in
+    let a = entry .args in let l = c .before .before .before .before .loop in
+    let low = low-next (a .ws .now) (l .here) (l .left) (at-loop-test .taken) (l .inv .1) .1 in
+    let at = ap (λ (x : Goal). x .at .0) (at-goal-at .ensures) in
     ⊎-elim
-    (λ w. (omega arith, low, l .inv .2 ∙ label-on (a .tab .now) (a .ws .now) (l .here) (l .left) (l .best) (c .before .before .before .loop-test .taken) (sym at ∙ w .0 .taken) ∙ rw (w .2, w .1 .ensures, c .before .before .goal-at .ensures, sym at ∙ w .0 .taken) refl))
-    (λ w. (omega arith, low, l .inv .2 ∙ rw (w .1) (label-off (a .tab .now) (a .ws .now) (l .here) (l .left) (l .best) (c .before .before .before .loop-test .taken) (λ z. w .0 .left (at ∙ z)))))
+    (λ w. (omega arith, low, l .inv .2 ∙ label-on (a .tab .now) (a .ws .now) (l .here) (l .left) (l .best) (at-loop-test .taken) (sym at ∙ w .0 .taken) ∙ rw (w .2, w .1 .ensures, at-goal-at .ensures, sym at ∙ w .0 .taken) refl))
+    (λ w. (omega arith, low, l .inv .2 ∙ rw (w .1) (label-off (a .tab .now) (a .ws .now) (l .here) (l .left) (l .best) (at-loop-test .taken) (λ z. w .0 .left (at ∙ z)))))
     (c .if1 .came)
 
 returns : tie.Need-returns Inv-loop μ-loop

@@ -41,7 +41,9 @@ loop-holds : tie.Need-loop-holds Inv-loop μ-loop
 loop-holds c = (omega arith, refl)
 
 code-at-requires : tie.Need-code-at-requires Inv-loop μ-loop
-code-at-requires c κs = (c .before .before .before .before .before .before .pre .0, c .before .before .before .before .before .before .pre .1, omega (arith, c .before .before .before .before .before .before .pre .0 .sizes (c .before .before .before .before .before .before .args .g .shape .0) (c .before .before .before .before .before .before .pre .1)))
+code-at-requires c κs =
+    let entry = c .before .before .before .before .before .before in
+    (entry .pre .0, entry .pre .1, omega (arith, entry .pre .0 .sizes (entry .args .g .shape .0) (entry .pre .1)))
 
 cast-if2 : tie.Need-cast-if2 Inv-loop μ-loop
 cast-if2 c = search needs
@@ -50,7 +52,9 @@ returns : tie.Need-returns Inv-loop μ-loop
 returns c = sym (c .before .before .before .before .before .loop .inv .1 ∙ node-here _ _ _ _ _ _ _ (c .before .before .before .before .loop-test .taken) (c .before .before .before .if1 .taken) (sym (c .before .before .code-at .ensures) ∙ c .if2 .taken))
 
 add-r : tie.Need-add-r Inv-loop μ-loop
-add-r c = omega (arith, c .before .before .before .before .before .before .pre .0 .sizes (c .before .before .before .before .before .before .args .g .shape .0) (c .before .before .before .before .before .before .pre .1))
+add-r c =
+    let entry = c .before .before .before .before .before .before in
+    omega (arith, entry .pre .0 .sizes (entry .args .g .shape .0) (entry .pre .1))
 
 sub-left : tie.Need-sub-left Inv-loop μ-loop
 sub-left c = search needs
@@ -60,7 +64,8 @@ loop-less c = search needs
 
 loop-again : tie.Need-loop-again Inv-loop μ-loop
 loop-again c =
-    let a = c .before .before .before .before .before .before .args in
+    let entry = c .before .before .before .before .before .before in
+    let a = entry .args in
     let l = c .before .before .loop in
     ⊎-elim
     (λ w. (omega arith, l .inv .1 ∙ node-other (a .tab .now) (a .g .shape .0) (a .g .at .0) (a .here .0) (l .left) (l .r) (l .mask) (c .before .loop-test .taken) (w .0 .taken) (λ e. w .3 .left (w .1 .ensures ∙ e))))

@@ -45,19 +45,29 @@ loop-holds : tie.Need-loop-holds Inv-loop μ-loop
 loop-holds c = (refl, omega arith, omega arith, omega arith, refl)
 
 code-at-requires : tie.Need-code-at-requires Inv-loop μ-loop
-code-at-requires c κs = (c .before .before .before .before .before .before .before .pre .0, c .before .before .before .before .before .before .before .pre .1, omega (arith, c .before .before .before .before .before .before .before .pre .0 .sizes (c .before .before .before .before .before .before .before .args .g .shape .0) (c .before .before .before .before .before .before .before .pre .1)))
+code-at-requires c κs =
+    let entry = c .before .before .before .before .before .before .before in
+    (entry .pre .0, entry .pre .1, omega (arith, entry .pre .0 .sizes (entry .args .g .shape .0) (entry .pre .1)))
 
 mul-out : tie.Need-mul-out Inv-loop μ-loop
-mul-out c = omega (arith, c .before .before .before .before .before .before .before .before .pre .0 .sizes (c .before .before .before .before .before .before .before .before .args .g .shape .0) (c .before .before .before .before .before .before .before .before .pre .1))
+mul-out c =
+    let entry = c .before .before .before .before .before .before .before .before in
+    omega (arith, entry .pre .0 .sizes (entry .args .g .shape .0) (entry .pre .1))
 
 slice-write-out : tie.Need-slice-write-out Inv-loop μ-loop
-slice-write-out c = omega (arith, c .before .before .before .before .before .before .before .before .pre .0 .sizes (c .before .before .before .before .before .before .before .before .args .g .shape .0) (c .before .before .before .before .before .before .before .before .pre .1))
+slice-write-out c =
+    let entry = c .before .before .before .before .before .before .before .before in
+    omega (arith, entry .pre .0 .sizes (entry .args .g .shape .0) (entry .pre .1))
 
 add-k : tie.Need-add-k Inv-loop μ-loop
-add-k c = omega (arith, c .before .before .before .before .before .before .before .before .pre .0 .sizes (c .before .before .before .before .before .before .before .before .args .g .shape .0) (c .before .before .before .before .before .before .before .before .pre .1))
+add-k c =
+    let entry = c .before .before .before .before .before .before .before .before in
+    omega (arith, entry .pre .0 .sizes (entry .args .g .shape .0) (entry .pre .1))
 
 add-r : tie.Need-add-r Inv-loop μ-loop
-add-r c = omega (arith, c .before .before .before .before .before .before .before .pre .0 .sizes (c .before .before .before .before .before .before .before .args .g .shape .0) (c .before .before .before .before .before .before .before .pre .1))
+add-r c =
+    let entry = c .before .before .before .before .before .before .before in
+    omega (arith, entry .pre .0 .sizes (entry .args .g .shape .0) (entry .pre .1))
 
 sub-left : tie.Need-sub-left Inv-loop μ-loop
 sub-left c = search needs
@@ -67,7 +77,8 @@ loop-less c = search needs
 
 loop-again : tie.Need-loop-again Inv-loop μ-loop
 loop-again c =
-    let a = c .before .before .before .before .before .before .before .args in
+    let entry = c .before .before .before .before .before .before .before in
+    let a = entry .args in
     let l = c .before .before .loop in
     ⊎-elim
     (λ w. let e = owed-on (a .tab .now) (a .g .shape .0) (a .g .at .0) (l .left) (l .r) (l .mask) (c .before .loop-test .taken) (w .0 .taken) in (
@@ -91,7 +102,8 @@ same-length c = search needs
 
 returns : tie.Need-returns Inv-loop μ-loop
 returns c =
-    let a = c .before .before .before .before .before .before .args in
+    let entry = c .before .before .before .before .before .before in
+    let a = entry .args in
     let l = c .before .loop in
     let e = owed-end (a .tab .now) (a .g .shape .0) (a .g .at .0) (l .left) (l .r) (l .mask) (c .loop-test .left) in
     (omega (arith, ap length e), sym (l .inv .4 ∙ ap (sets (l .out) (l .k)) e))

@@ -35,7 +35,10 @@ part-common-start : tie.Need-part-common-start
 part-common-start c = search needs
 
 part-common-end : tie.Need-part-common-end
-part-common-end c = let a = c .before .before .before .before .before .before .before .before .args in omega (arith, c .before .before .before .before .before .owed .ensures .0, owed-short (a .tab .now) (a .g .shape .0) (a .g .at .0) (sizeOf (a .tab .now) (a .g .shape .0)) 0 (a .g .mask), c .before .before .before .before .before .before .before .before .pre .0 .sizes (a .g .shape .0) (c .before .before .before .before .before .before .before .before .pre .1), c .before .before .before .before .before .owed .kept .1 .1 .0)
+part-common-end c =
+    let entry = c .before .before .before .before .before .before .before .before in
+    let at-owed = c .before .before .before .before .before .owed in
+    let a = entry .args in omega (arith, at-owed .ensures .0, owed-short (a .tab .now) (a .g .shape .0) (a .g .at .0) (sizeOf (a .tab .now) (a .g .shape .0)) 0 (a .g .mask), entry .pre .0 .sizes (a .g .shape .0) (entry .pre .1), at-owed .kept .1 .1 .0)
 
 sub-common-2 : tie.Need-sub-common-2
 sub-common-2 c = search needs
@@ -44,19 +47,26 @@ part-common-start-2 : tie.Need-part-common-start-2
 part-common-start-2 c = search needs
 
 part-common-end-2 : tie.Need-part-common-end-2
-part-common-end-2 c = let a = c .before .before .before .before .before .before .before .before .before .before .args in omega (arith, c .before .before .before .before .owed2 .ensures .0, owed-short (a .tab .now) (a .h .shape .0) (a .h .at .0) (sizeOf (a .tab .now) (a .h .shape .0)) 0 (a .h .mask), c .before .before .before .before .before .before .before .before .before .before .pre .0 .sizes (a .h .shape .0) (c .before .before .before .before .before .before .before .before .before .before .pre .2), c .before .before .before .before .owed2 .kept .1 .1 .0)
+part-common-end-2 c =
+    let entry = c .before .before .before .before .before .before .before .before .before .before in
+    let at-owed2 = c .before .before .before .before .owed2 in
+    let a = entry .args in omega (arith, at-owed2 .ensures .0, owed-short (a .tab .now) (a .h .shape .0) (a .h .at .0) (sizeOf (a .tab .now) (a .h .shape .0)) 0 (a .h .mask), entry .pre .0 .sizes (a .h .shape .0) (entry .pre .2), at-owed2 .kept .1 .1 .0)
 
 common-requires : tie.Need-common-requires
 common-requires c κs = search needs
 
 returns : tie.Need-returns
-returns c = let a = c .before .before .before .before .before .before .before .before .before .before .before .before .args in
+returns c =
+    let entry = c .before .before .before .before .before .before .before .before .before .before .before .before in
+    let at-owed = c .before .before .before .before .before .before .before .before .before .owed in
+    let at-owed2 = c .before .before .before .before .before .before .owed2 in
+    let a = entry .args in
     let zs = replicate {A = ℕ} 16 0 in
     let xs = owedCodes (a .tab .now) (a .g .shape .0) (a .g .at .0) (a .g .mask) in
     let ys = owedCodes (a .tab .now) (a .h .shape .0) (a .h .at .0) (a .h .mask) in
     c .common .ensures ∙ ap₂ firstShared
-    (ap (λ l. take (c .before .before .before .before .before .before .before .before .before .owed .result - 0) (drop 0 l)) (c .before .before .before .before .before .before .before .before .before .owed .ensures .1) ∙ front zs xs (c .before .before .before .before .before .before .before .before .before .owed .result) (omega (arith, owed-short (a .tab .now) (a .g .shape .0) (a .g .at .0) (sizeOf (a .tab .now) (a .g .shape .0)) 0 (a .g .mask), c .before .before .before .before .before .before .before .before .before .before .before .before .pre .0 .sizes (a .g .shape .0) (c .before .before .before .before .before .before .before .before .before .before .before .before .pre .1))) (c .before .before .before .before .before .before .before .before .before .owed .ensures .0))
-    (ap (λ l. take (c .before .before .before .before .before .before .owed2 .result - 0) (drop 0 l)) (c .before .before .before .before .before .before .owed2 .ensures .1) ∙ front zs ys (c .before .before .before .before .before .before .owed2 .result) (omega (arith, owed-short (a .tab .now) (a .h .shape .0) (a .h .at .0) (sizeOf (a .tab .now) (a .h .shape .0)) 0 (a .h .mask), c .before .before .before .before .before .before .before .before .before .before .before .before .pre .0 .sizes (a .h .shape .0) (c .before .before .before .before .before .before .before .before .before .before .before .before .pre .2))) (c .before .before .before .before .before .before .owed2 .ensures .0))
+    (ap (λ l. take (at-owed .result - 0) (drop 0 l)) (at-owed .ensures .1) ∙ front zs xs (at-owed .result) (omega (arith, owed-short (a .tab .now) (a .g .shape .0) (a .g .at .0) (sizeOf (a .tab .now) (a .g .shape .0)) 0 (a .g .mask), entry .pre .0 .sizes (a .g .shape .0) (entry .pre .1))) (at-owed .ensures .0))
+    (ap (λ l. take (at-owed2 .result - 0) (drop 0 l)) (at-owed2 .ensures .1) ∙ front zs ys (at-owed2 .result) (omega (arith, owed-short (a .tab .now) (a .h .shape .0) (a .h .at .0) (sizeOf (a .tab .now) (a .h .shape .0)) 0 (a .h .mask), entry .pre .0 .sizes (a .h .shape .0) (entry .pre .2))) (at-owed2 .ensures .0))
 
 pub share-spec : {M : Type 1} → statement M
 share-spec =

@@ -9,7 +9,9 @@ returns : tie.Need-returns
 returns c = sym (child-none (c .before .args .self) (c .before .args .i) (omega arith))
 
 returns-2 : tie.Need-returns-2
-returns-2 c = sym (child-many (c .before .before .args .self) (c .before .before .args .i) (c .if2 .taken))
+returns-2 c =
+    let entry = c .before .before in
+    sym (child-many (entry .args .self) (entry .args .i) (c .if2 .taken))
 
 cast-code : tie.Need-cast-code
 cast-code c = search needs
@@ -24,13 +26,17 @@ cast-top : tie.Need-cast-top
 cast-top c = search needs
 
 returns-3 : tie.Need-returns-3
-returns-3 c = sym (child-far (c .before .before .before .before .before .args .self) (c .before .before .before .before .before .args .i) (omega arith) (c .before .before .before .if2 .left) (c .if3 .taken))
+returns-3 c =
+    let entry = c .before .before .before .before .before in
+    sym (child-far (entry .args .self) (entry .args .i) (omega arith) (c .before .before .before .if2 .left) (c .if3 .taken))
 
 cast-t10 : tie.Need-cast-t10
 cast-t10 c = search needs
 
 returns-4 : tie.Need-returns-4
-returns-4 c = sym (child-at (c .before .before .before .before .before .args .self) (c .before .before .before .before .before .args .i) (omega arith) (c .before .before .before .if2 .left) (c .if3 .left))
+returns-4 c =
+    let entry = c .before .before .before .before .before in
+    sym (child-at (entry .args .self) (entry .args .i) (omega arith) (c .before .before .before .if2 .left) (c .if3 .left))
 
 pub child-spec : {M : Type 1} → statement M
 child-spec =

@@ -19,13 +19,17 @@ loop-holds : tie.Need-loop-holds Inv-loop μ-loop
 loop-holds c = (omega arith, good-near (c .before .before .before .args .self .0) (c .if1 .left))
 
 returns-2 : tie.Need-returns-2 Inv-loop μ-loop
-returns-2 c = sym (c .before .before .loop .inv .1 ∙ zero-stop (c .before .before .loop .rest) (c .before .loop-test .taken) (omega arith) (c .if2 .taken))
+returns-2 c =
+    let at-loop = c .before .before .loop in
+    sym (at-loop .inv .1 ∙ zero-stop (at-loop .rest) (c .before .loop-test .taken) (omega arith) (c .if2 .taken))
 
 loop-less : tie.Need-loop-less Inv-loop μ-loop
 loop-less c = omega arith
 
 loop-again : tie.Need-loop-again Inv-loop μ-loop
-loop-again c = (omega arith, c .before .before .loop .inv .1 ∙ zero-next (c .before .before .loop .rest) (c .before .loop-test .taken) (omega arith) (c .if2 .left))
+loop-again c =
+    let at-loop = c .before .before .loop in
+    (omega arith, at-loop .inv .1 ∙ zero-next (at-loop .rest) (c .before .loop-test .taken) (omega arith) (c .if2 .left))
 
 returns-3 : tie.Need-returns-3 Inv-loop μ-loop
 returns-3 c = sym (c .before .loop .inv .1 ∙ zero-end (c .before .loop .rest) (c .loop-test .left))

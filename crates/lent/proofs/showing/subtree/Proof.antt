@@ -20,7 +20,9 @@ part-result-end : tie.Need-part-result-end
 part-result-end c = search needs
 
 returns : tie.Need-returns
-returns c = sym (subtree-none _ _ _ (c .before .before .before .before .before .before .before .before .args .score .now) (sym (c .before .before .before .before .test-symbols .ensures) ∙ c .before .before .why .given .1))
+returns c =
+    let entry = c .before .before .before .before .before .before .before .before in
+    sym (subtree-none _ _ _ (entry .args .score .now) (sym (c .before .before .before .before .test-symbols .ensures) ∙ c .before .before .why .given .1))
 
 enum-told : tie.Need-enum-told
 enum-told c = search needs
@@ -41,10 +43,16 @@ piece-requires-2 : tie.Need-piece-requires-2
 piece-requires-2 c κs = search needs
 
 returns-2 : tie.Need-returns-2
-returns-2 c = c .piece .ensures ∙ sym (subtree-some (c .before .before .before .before .before .before .before .before .before .before .args .asked) (c .before .before .before .before .before .before .before .before .before .before .args .arity .now) (c .before .before .before .before .before .before .before .before .before .before .args .shapes .now) (c .before .before .before .before .before .before .before .before .before .before .args .score .now) (sym (c .before .before .before .before .before .before .test-symbols .ensures) ∙ c .before .before .before .before .enum-told .given .1) (c .before .before .asked .given .1))
+returns-2 c =
+    let entry = c .before .before .before .before .before .before .before .before .before .before in
+    let at-test-symbols = c .before .before .before .before .before .before .test-symbols in
+    c .piece .ensures ∙ sym (subtree-some (entry .args .asked) (entry .args .arity .now) (entry .args .shapes .now) (entry .args .score .now) (sym (at-test-symbols .ensures) ∙ c .before .before .before .before .enum-told .given .1) (c .before .before .asked .given .1))
 
 returns-3 : tie.Need-returns-3
-returns-3 c = c .piece2 .ensures ∙ sym (subtree-some (c .before .before .before .before .before .before .before .before .before .before .before .args .asked) (c .before .before .before .before .before .before .before .before .before .before .before .args .arity .now) (c .before .before .before .before .before .before .before .before .before .before .before .args .shapes .now) (c .before .before .before .before .before .before .before .before .before .before .before .args .score .now) (sym (c .before .before .before .before .before .before .before .test-symbols .ensures) ∙ c .before .before .before .before .before .enum-told .given .1) (c .before .before .before .asked2 .given .1))
+returns-3 c =
+    let entry = c .before .before .before .before .before .before .before .before .before .before .before in
+    let at-test-symbols = c .before .before .before .before .before .before .before .test-symbols in
+    c .piece2 .ensures ∙ sym (subtree-some (entry .args .asked) (entry .args .arity .now) (entry .args .shapes .now) (entry .args .score .now) (sym (at-test-symbols .ensures) ∙ c .before .before .before .before .before .enum-told .given .1) (c .before .before .before .asked2 .given .1))
 
 pub subtree-spec : {M : Type 1} → statement M
 subtree-spec =

@@ -23,7 +23,9 @@ shapes-good-requires c κs = search needs
 
 -- src/building.rt:25:13
 returns : tie.Need-returns
-returns c = let w = built-short (c .before .before .before .before .before .before .before .before .args .symbols .now) (c .before .before .before .before .before .before .before .before .args .words .now) (c .before .before .before .before .before .before .before .before .args .starts .now) (c .before .before .before .before .before .before .before .before .args .plan .now) (c .before .before .before .before .before .before .before .before .args .scratch .now) (sym (c .before .before .shapes-good .ensures) ∙ c .before .if1 .taken) (c .if2 .taken) in (sym (ap (λ (o : Out). o .answer) w), (sym (ap (λ (o : Out). o .plan) w), sym (ap (λ (o : Out). o .scratch) w)))
+returns c =
+    let entry = c .before .before .before .before .before .before .before .before in
+    let w = built-short (entry .args .symbols .now) (entry .args .words .now) (entry .args .starts .now) (entry .args .plan .now) (entry .args .scratch .now) (sym (c .before .before .shapes-good .ensures) ∙ c .before .if1 .taken) (c .if2 .taken) in (sym (ap (λ (o : Out). o .answer) w), (sym (ap (λ (o : Out). o .plan) w), sym (ap (λ (o : Out). o .scratch) w)))
 
 -- src/building.rt:28:45
 slice-aggregate-fill-tables : tie.Need-slice-aggregate-fill-tables
@@ -39,28 +41,49 @@ slice-aggregate-make c = search needs
 
 -- src/building.rt:29:13
 make-requires : tie.Need-make-requires
-make-requires c κs = (ready (c .before .before .before .before .before .before .before .before .before .before .before .before .before .before .args .symbols .now) (c .before .before .before .before .before .before .before .before .before .before .before .before .before .before .args .words .now) (c .before .before .before .before .before .before .before .before .before .before .before .before .before .before .args .starts .now) (replicate {A = ℕ} 1280 0) (c .before .before .before .before .fill-tables .last .1 .1 .1 .0) (sym (c .before .before .before .before .before .before .before .before .shapes-good .ensures) ∙ c .before .before .before .before .before .before .before .if1 .taken) (omega arith) (c .before .before .before .before .fill-tables .ensures), c .before .before .before .before .before .before .if2 .left)
+make-requires c κs =
+    let entry = c .before .before .before .before .before .before .before .before .before .before .before .before .before .before in
+    let at-shapes-good = c .before .before .before .before .before .before .before .before .shapes-good in
+    let at-if1 = c .before .before .before .before .before .before .before .if1 in
+    let at-if2 = c .before .before .before .before .before .before .if2 in
+    let at-fill-tables = c .before .before .before .before .fill-tables in
+    (ready (entry .args .symbols .now) (entry .args .words .now) (entry .args .starts .now) (replicate {A = ℕ} 1280 0) (at-fill-tables .last .1 .1 .1 .0) (sym (at-shapes-good .ensures) ∙ at-if1 .taken) (omega arith) (at-fill-tables .ensures), at-if2 .left)
 
 -- src/building.rt:30:9
 clear-requires : tie.Need-clear-requires
-clear-requires c κs = omega (arith, c .before .before .before .before .before .before .before .before .before .before .before .before .if2 .left, c .before .before .before .before .before .make .kept .1 .1 .1 .1 .0)
+clear-requires c κs =
+    let at-if2 = c .before .before .before .before .before .before .before .before .before .before .before .before .if2 in
+    omega (arith, at-if2 .left, c .before .before .before .before .before .make .kept .1 .1 .1 .1 .0)
 
 -- src/building.rt:31:9
 same-length : tie.Need-same-length
-same-length c = c .before .before .before .before .before .before .before .before .make .kept .1 .1 .1 .0
+same-length c =
+    let at-make = c .before .before .before .before .before .before .before .before .make in
+    at-make .kept .1 .1 .1 .0
 
 -- src/building.rt:31:9
 same-length-2 : tie.Need-same-length-2
-same-length-2 c = c .before .before .clear .kept .0 ∙ c .before .before .before .before .before .before .before .before .make .kept .1 .1 .1 .1 .0
+same-length-2 c =
+    let at-make = c .before .before .before .before .before .before .before .before .make in
+    c .before .before .clear .kept .0 ∙ at-make .kept .1 .1 .1 .1 .0
 
 -- src/building.rt:31:9
 returns-2 : tie.Need-returns-2
-returns-2 c = let w = (built-on (c .before .before .before .before .before .before .before .before .before .before .before .before .before .before .before .before .before .before .before .before .before .before .before .args .symbols .now) (c .before .before .before .before .before .before .before .before .before .before .before .before .before .before .before .before .before .before .before .before .before .before .before .args .words .now) (c .before .before .before .before .before .before .before .before .before .before .before .before .before .before .before .before .before .before .before .before .before .before .before .args .starts .now) (c .before .before .before .before .before .before .before .before .before .before .before .before .before .before .before .before .before .before .before .before .before .before .before .args .plan .now) (c .before .before .before .before .before .before .before .before .before .before .before .before .before .before .before .before .before .before .before .before .before .before .before .args .scratch .now) (sym (c .before .before .before .before .before .before .before .before .before .before .before .before .before .before .before .before .before .shapes-good .ensures) ∙ c .before .before .before .before .before .before .before .before .before .before .before .before .before .before .before .before .if1 .taken) (c .before .before .before .before .before .before .before .before .before .before .before .before .before .before .before .if2 .left) (planned (words (c .before .before .before .before .before .before .before .before .before .before .before .before .before .fill-tables .last .1 .1 .1 .0) (length (c .before .before .before .before .before .before .before .before .before .before .before .before .before .before .before .before .before .before .before .before .before .before .before .args .starts .now))) (c .before .before .before .before .before .before .before .before .before .before .before .before .before .before .before .before .before .before .before .before .before .before .before .args .symbols .now) (length (c .before .before .before .before .before .before .before .before .before .before .before .before .before .before .before .before .before .before .before .before .before .before .before .args .starts .now)) (length (c .before .before .before .before .before .before .before .before .before .before .before .before .before .before .before .before .before .before .before .before .before .before .before .args .plan .now))) (plan-of-tables (c .before .before .before .before .before .before .before .before .before .before .before .before .before .before .before .before .before .before .before .before .before .before .before .args .symbols .now) (c .before .before .before .before .before .before .before .before .before .before .before .before .before .before .before .before .before .before .before .before .before .before .before .args .words .now) (c .before .before .before .before .before .before .before .before .before .before .before .before .before .before .before .before .before .before .before .before .before .before .before .args .starts .now) (replicate {A = ℕ} 1280 0) (c .before .before .before .before .before .before .before .before .before .before .before .before .before .fill-tables .last .1 .1 .1 .0) (length (c .before .before .before .before .before .before .before .before .before .before .before .before .before .before .before .before .before .before .before .before .before .before .before .args .plan .now)) (sym (c .before .before .before .before .before .before .before .before .before .before .before .before .before .before .before .before .before .shapes-good .ensures) ∙ c .before .before .before .before .before .before .before .before .before .before .before .before .before .before .before .before .if1 .taken) (omega arith) (c .before .before .before .before .before .before .before .before .before .before .before .before .before .fill-tables .ensures))) in
-    (c .before .before .before .before .before .before .before .before .make .ensures .0 ∙ sym (ap (λ (o : Out). o .answer) w), (c .before .before .before .before .before .before .before .before .make .ensures .1 .0 ∙ sym (ap (λ (o : Out). o .plan) w), c .before .before .clear .ensures ∙ cleared-again _ _ (c .before .before .before .before .before .before .before .before .make .ensures .1 .1) ∙ sym (written-clears (planned (words (c .before .before .before .before .before .before .before .before .before .before .before .before .before .fill-tables .last .1 .1 .1 .0) (length (c .before .before .before .before .before .before .before .before .before .before .before .before .before .before .before .before .before .before .before .before .before .before .before .args .starts .now))) (c .before .before .before .before .before .before .before .before .before .before .before .before .before .before .before .before .before .before .before .before .before .before .before .args .symbols .now) (length (c .before .before .before .before .before .before .before .before .before .before .before .before .before .before .before .before .before .before .before .before .before .before .before .args .starts .now)) (length (c .before .before .before .before .before .before .before .before .before .before .before .before .before .before .before .before .before .before .before .before .before .before .before .args .plan .now))) (c .before .before .before .before .before .before .before .before .before .before .before .before .before .before .before .before .before .before .before .before .before .before .before .args .plan .now) (c .before .before .before .before .before .before .before .before .before .before .before .before .before .before .before .before .before .before .before .before .before .before .before .args .scratch .now)) ∙ sym (ap (λ (o : Out). o .scratch) w)))
+returns-2 c =
+    let entry = c .before .before .before .before .before .before .before .before .before .before .before .before .before .before .before .before .before .before .before .before .before .before .before in
+    let at-shapes-good = c .before .before .before .before .before .before .before .before .before .before .before .before .before .before .before .before .before .shapes-good in
+    let at-if1 = c .before .before .before .before .before .before .before .before .before .before .before .before .before .before .before .before .if1 in
+    let at-if2 = c .before .before .before .before .before .before .before .before .before .before .before .before .before .before .before .if2 in
+    let at-fill-tables = c .before .before .before .before .before .before .before .before .before .before .before .before .before .fill-tables in
+    let at-make = c .before .before .before .before .before .before .before .before .make in
+    let w = (built-on (entry .args .symbols .now) (entry .args .words .now) (entry .args .starts .now) (entry .args .plan .now) (entry .args .scratch .now) (sym (at-shapes-good .ensures) ∙ at-if1 .taken) (at-if2 .left) (planned (words (at-fill-tables .last .1 .1 .1 .0) (length (entry .args .starts .now))) (entry .args .symbols .now) (length (entry .args .starts .now)) (length (entry .args .plan .now))) (plan-of-tables (entry .args .symbols .now) (entry .args .words .now) (entry .args .starts .now) (replicate {A = ℕ} 1280 0) (at-fill-tables .last .1 .1 .1 .0) (length (entry .args .plan .now)) (sym (at-shapes-good .ensures) ∙ at-if1 .taken) (omega arith) (at-fill-tables .ensures))) in
+    (at-make .ensures .0 ∙ sym (ap (λ (o : Out). o .answer) w), (at-make .ensures .1 .0 ∙ sym (ap (λ (o : Out). o .plan) w), c .before .before .clear .ensures ∙ cleared-again _ _ (at-make .ensures .1 .1) ∙ sym (written-clears (planned (words (at-fill-tables .last .1 .1 .1 .0) (length (entry .args .starts .now))) (entry .args .symbols .now) (length (entry .args .starts .now)) (length (entry .args .plan .now))) (entry .args .plan .now) (entry .args .scratch .now)) ∙ sym (ap (λ (o : Out). o .scratch) w)))
 
 -- src/building.rt:18:1
 returns-3 : tie.Need-returns-3
-returns-3 c = let w = built-bad (c .before .before .before .before .before .before .before .args .symbols .now) (c .before .before .before .before .before .before .before .args .words .now) (c .before .before .before .before .before .before .before .args .starts .now) (c .before .before .before .before .before .before .before .args .plan .now) (c .before .before .before .before .before .before .before .args .scratch .now) (sym (c .before .shapes-good .ensures) ∙ c .if1 .left) in (sym (ap (λ (o : Out). o .answer) w), (sym (ap (λ (o : Out). o .plan) w), sym (ap (λ (o : Out). o .scratch) w)))
+returns-3 c =
+    let entry = c .before .before .before .before .before .before .before in
+    let w = built-bad (entry .args .symbols .now) (entry .args .words .now) (entry .args .starts .now) (entry .args .plan .now) (entry .args .scratch .now) (sym (c .before .shapes-good .ensures) ∙ c .if1 .left) in (sym (ap (λ (o : Out). o .answer) w), (sym (ap (λ (o : Out). o .plan) w), sym (ap (λ (o : Out). o .scratch) w)))
 
 pub build-spec : {M : Type 1} → statement M
 build-spec =

@@ -45,7 +45,9 @@ same-length c = c .before .loop .inv .long
 
 -- src/building.rt:63:1
 returns : tie.Need-returns Inv-loop μ-loop
-returns c = clearing-done (c .before .before .args .scratch .now) (c .before .loop .scratch) (clearing-end (c .before .loop .inv) (c .loop-test .left) (c .before .before .pre))
+returns c =
+    let entry = c .before .before in
+    clearing-done (entry .args .scratch .now) (c .before .loop .scratch) (clearing-end (c .before .loop .inv) (c .loop-test .left) (entry .pre))
 
 pub clear-spec : {M : Type 1} → statement M
 clear-spec =

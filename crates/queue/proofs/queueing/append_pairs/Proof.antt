@@ -19,7 +19,9 @@ abbrev μ-loop : tie.MeasureT-loop
 μ-loop plan nodes spans items₀ from at count end here₀ there₀ left₀ items here there left = left
 
 loop-holds : tie.Need-loop-holds Inv-loop μ-loop
-loop-holds c = (c .before .before .before .pre .0, c .before .before .before .pre .1, refl, refl)
+loop-holds c =
+    let entry = c .before .before .before in
+    (entry .pre .0, entry .pre .1, refl, refl)
 
 mul-items : tie.Need-mul-items Inv-loop μ-loop
 mul-items c = search needs
@@ -67,7 +69,9 @@ loop-less : tie.Need-loop-less Inv-loop μ-loop
 loop-less c = search needs
 
 loop-again : tie.Need-loop-again Inv-loop μ-loop
-loop-again c = (omega arith, simp length-set (omega arith), simp length-set (c .before .before .before .before .loop .inv .2), c .before .before .before .before .loop .inv .3 ∙ law.items-next _ _ _ _ _ _ _ (c .before .before .before .loop-test .taken) (c .aim .ensures))
+loop-again c =
+    let at-loop = c .before .before .before .before .loop in
+    (omega arith, simp length-set (omega arith), simp length-set (at-loop .inv .2), at-loop .inv .3 ∙ law.items-next _ _ _ _ _ _ _ (c .before .before .before .loop-test .taken) (c .aim .ensures))
 
 same-length : tie.Need-same-length Inv-loop μ-loop
 same-length c = c .before .loop .inv .2

@@ -42,7 +42,9 @@ loop-less : tie.Need-loop-less Inv-loop μ-loop
 loop-less c = search needs
 
 loop-again : tie.Need-loop-again Inv-loop μ-loop
-loop-again c = (omega arith, simp length-set (c .before .before .loop .inv .1), c .before .before .loop .inv .2 ∙ law.next-up _ _ _ (c .before .loop-test .taken) (omega arith))
+loop-again c =
+    let at-loop = c .before .before .loop in
+    (omega arith, simp length-set (at-loop .inv .1), at-loop .inv .2 ∙ law.next-up _ _ _ (c .before .loop-test .taken) (omega arith))
 
 same-length : tie.Need-same-length Inv-loop μ-loop
 same-length c = search needs

@@ -20,7 +20,9 @@ abbrev μ-loop : tie.MeasureT-loop
 μ-loop plan nodes spans marks₀ from at count here₀ left₀ marks here left = left
 
 loop-holds : tie.Need-loop-holds Inv-loop μ-loop
-loop-holds c = (c .before .before .before .pre .0, refl, c .before .before .before .pre .1, refl)
+loop-holds c =
+    let entry = c .before .before .before in
+    (entry .pre .0, refl, entry .pre .1, refl)
 
 add-with-bit : tie.Need-add-with-bit Inv-loop μ-loop
 add-with-bit c = search needs
@@ -53,10 +55,14 @@ with-bit-requires : tie.Need-with-bit-requires Inv-loop μ-loop
 with-bit-requires c κs = law.first-number _ _ _ _ _ _ (c .before .before .before .before .loop-test .taken) (c .before .before .before .before .before .loop .inv .2)
 
 mul-marks : tie.Need-mul-marks Inv-loop μ-loop
-mul-marks c = omega (arith, c .before .before .before .aim .ensures, law.first-room _ _ _ _ _ _ (c .before .before .before .before .before .loop-test .taken) (c .before .before .before .before .before .before .loop .inv .2))
+mul-marks c =
+    let at-loop = c .before .before .before .before .before .before .loop in
+    omega (arith, c .before .before .before .aim .ensures, law.first-room _ _ _ _ _ _ (c .before .before .before .before .before .loop-test .taken) (at-loop .inv .2))
 
 slice-write-marks : tie.Need-slice-write-marks Inv-loop μ-loop
-slice-write-marks c = omega (arith, c .before .before .before .aim .ensures, law.first-room _ _ _ _ _ _ (c .before .before .before .before .before .loop-test .taken) (c .before .before .before .before .before .before .loop .inv .2))
+slice-write-marks c =
+    let at-loop = c .before .before .before .before .before .before .loop in
+    omega (arith, c .before .before .before .aim .ensures, law.first-room _ _ _ _ _ _ (c .before .before .before .before .before .loop-test .taken) (at-loop .inv .2))
 
 add-here : tie.Need-add-here Inv-loop μ-loop
 add-here c = search needs
@@ -68,7 +74,10 @@ loop-less : tie.Need-loop-less Inv-loop μ-loop
 loop-less c = search needs
 
 loop-again : tie.Need-loop-again Inv-loop μ-loop
-loop-again c = (omega arith, simp length-set (c .before .before .before .before .before .before .loop .inv .1), law.all-tail _ _ _ _ (c .before .before .before .before .before .loop-test .taken) (c .before .before .before .before .before .before .loop .inv .2), c .before .before .before .before .before .before .loop .inv .3 ∙ law.marks-next _ _ _ _ _ _ _ (c .before .before .before .before .before .loop-test .taken) (c .before .before .before .aim .ensures) (c .with-bit .ensures))
+loop-again c =
+    let at-loop = c .before .before .before .before .before .before .loop in
+    let at-loop-test = c .before .before .before .before .before .loop-test in
+    (omega arith, simp length-set (at-loop .inv .1), law.all-tail _ _ _ _ (at-loop-test .taken) (at-loop .inv .2), at-loop .inv .3 ∙ law.marks-next _ _ _ _ _ _ _ (at-loop-test .taken) (c .before .before .before .aim .ensures) (c .with-bit .ensures))
 
 same-length : tie.Need-same-length Inv-loop μ-loop
 same-length c = c .before .loop .inv .1

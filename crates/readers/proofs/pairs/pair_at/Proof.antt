@@ -50,16 +50,22 @@ shared-slice-read-t11 : tie.Need-shared-slice-read-t11
 shared-slice-read-t11 c = search needs
 
 returns-2 : tie.Need-returns-2
-returns-2 c = sym (law.pair-number (c .before .before .before .before .before .before .args .plan .now) (c .before .before .before .before .before .before .args .at + 1) (c .before .before .before .before .before .before .args .limit) (getD (c .before .before .before .before .before .before .args .plan .now) (c .before .before .before .before .before .before .args .at) 0) (c .before .before .before .before .before .before .args .i) _ _ (c .before .before .before .if1 .left) refl (ap (λ (k : ℕ). getD (c .before .before .before .before .before .before .args .plan .now) k 0) (law.second (c .before .before .before .before .before .before .args .at) (c .before .before .before .before .before .before .args .i))) (c .if2 .taken))
+returns-2 c =
+    let entry = c .before .before .before .before .before .before in
+    sym (law.pair-number (entry .args .plan .now) (entry .args .at + 1) (entry .args .limit) (getD (entry .args .plan .now) (entry .args .at) 0) (entry .args .i) _ _ (c .before .before .before .if1 .left) refl (ap (λ (k : ℕ). getD (entry .args .plan .now) k 0) (law.second (entry .args .at) (entry .args .i))) (c .if2 .taken))
 
 is-good-requires : tie.Need-is-good-requires
 is-good-requires c κs = search needs
 
 returns-3 : tie.Need-returns-3
-returns-3 c = sym (law.pair-code (c .before .before .before .before .before .before .before .before .args .plan .now) (c .before .before .before .before .before .before .before .before .args .at + 1) (c .before .before .before .before .before .before .before .before .args .limit) (getD (c .before .before .before .before .before .before .before .before .args .plan .now) (c .before .before .before .before .before .before .before .before .args .at) 0) (c .before .before .before .before .before .before .before .before .args .i) _ _ (c .before .before .before .before .before .if1 .left) refl (ap (λ (k : ℕ). getD (c .before .before .before .before .before .before .before .before .args .plan .now) k 0) (law.second (c .before .before .before .before .before .before .before .before .args .at) (c .before .before .before .before .before .before .before .before .args .i))) (c .before .before .if2 .left) (sym (c .before .is-good .ensures) ∙ not-true _ (c .if3 .taken)))
+returns-3 c =
+    let entry = c .before .before .before .before .before .before .before .before in
+    sym (law.pair-code (entry .args .plan .now) (entry .args .at + 1) (entry .args .limit) (getD (entry .args .plan .now) (entry .args .at) 0) (entry .args .i) _ _ (c .before .before .before .before .before .if1 .left) refl (ap (λ (k : ℕ). getD (entry .args .plan .now) k 0) (law.second (entry .args .at) (entry .args .i))) (c .before .before .if2 .left) (sym (c .before .is-good .ensures) ∙ not-true _ (c .if3 .taken)))
 
 returns-4 : tie.Need-returns-4
-returns-4 c = sym (law.pair-some (c .before .before .before .before .before .before .before .before .args .plan .now) (c .before .before .before .before .before .before .before .before .args .at + 1) (c .before .before .before .before .before .before .before .before .args .limit) (getD (c .before .before .before .before .before .before .before .before .args .plan .now) (c .before .before .before .before .before .before .before .before .args .at) 0) (c .before .before .before .before .before .before .before .before .args .i) _ _ (c .before .before .before .before .before .if1 .left) refl (ap (λ (k : ℕ). getD (c .before .before .before .before .before .before .before .before .args .plan .now) k 0) (law.second (c .before .before .before .before .before .before .before .before .args .at) (c .before .before .before .before .before .before .before .before .args .i))) (c .before .before .if2 .left) (sym (c .before .is-good .ensures) ∙ not-false _ (c .if3 .left)))
+returns-4 c =
+    let entry = c .before .before .before .before .before .before .before .before in
+    sym (law.pair-some (entry .args .plan .now) (entry .args .at + 1) (entry .args .limit) (getD (entry .args .plan .now) (entry .args .at) 0) (entry .args .i) _ _ (c .before .before .before .before .before .if1 .left) refl (ap (λ (k : ℕ). getD (entry .args .plan .now) k 0) (law.second (entry .args .at) (entry .args .i))) (c .before .before .if2 .left) (sym (c .before .is-good .ensures) ∙ not-false _ (c .if3 .left)))
 
 pub pair-at-spec : {M : Type 1} → statement M
 pair-at-spec =

@@ -40,13 +40,19 @@ shared-slice-read-result : tie.Need-shared-slice-read-result
 shared-slice-read-result c = search needs
 
 cast-result : tie.Need-cast-result
-cast-result c = omega (arith, c .shared-slice-known2 .given (middle (c .before .before .before .before .args .plan .now) (c .before .before .before .before .args .b)))
+cast-result c =
+    let entry = c .before .before .before .before in
+    omega (arith, c .shared-slice-known2 .given (middle (entry .args .plan .now) (entry .args .b)))
 
 mul-result-2 : tie.Need-mul-result-2
-mul-result-2 c = omega (arith, c .shared-slice-known2 .given (middle (c .before .before .before .before .args .plan .now) (c .before .before .before .before .args .b)))
+mul-result-2 c =
+    let entry = c .before .before .before .before in
+    omega (arith, c .shared-slice-known2 .given (middle (entry .args .plan .now) (entry .args .b)))
 
 add-result-2 : tie.Need-add-result-2
-add-result-2 c = omega (arith, c .shared-slice-known2 .given (middle (c .before .before .before .before .args .plan .now) (c .before .before .before .before .args .b)))
+add-result-2 c =
+    let entry = c .before .before .before .before in
+    omega (arith, c .shared-slice-known2 .given (middle (entry .args .plan .now) (entry .args .b)))
 
 returns-3 : tie.Need-returns-3
 returns-3 c = sym (law.fits-is _ _)

@@ -20,16 +20,22 @@ cast-place : tie.Need-cast-place
 cast-place c = search needs
 
 mul-place : tie.Need-mul-place
-mul-place c = omega (arith, law.product (c .before .before .before .before .before .before .args .state .0) (c .before .before .before .before .before .before .args .symbols) (omega arith))
+mul-place c =
+    let entry = c .before .before .before .before .before .before in
+    omega (arith, law.product (entry .args .state .0) (entry .args .symbols) (omega arith))
 
 cast-place-2 : tie.Need-cast-place-2
 cast-place-2 c = search needs
 
 add-place-2 : tie.Need-add-place-2
-add-place-2 c = omega (arith, law.product (c .before .before .before .before .before .before .before .args .state .0) (c .before .before .before .before .before .before .before .args .symbols) (omega arith))
+add-place-2 c =
+    let entry = c .before .before .before .before .before .before .before in
+    omega (arith, law.product (entry .args .state .0) (entry .args .symbols) (omega arith))
 
 add-place-3 : tie.Need-add-place-3
-add-place-3 c = omega (arith, law.product (c .before .before .before .before .before .before .before .args .state .0) (c .before .before .before .before .before .before .before .args .symbols) (omega arith))
+add-place-3 c =
+    let entry = c .before .before .before .before .before .before .before in
+    omega (arith, law.product (entry .args .state .0) (entry .args .symbols) (omega arith))
 
 returns-3 : tie.Need-returns-3
 returns-3 c = sym (law.start-out _ _ _ _ _ (c .before .before .before .before .before .if1 .left) (c .before .before .before .if2 .left) (c .if3 .taken))
@@ -41,16 +47,25 @@ shared-slice-read-b : tie.Need-shared-slice-read-b
 shared-slice-read-b c = search needs
 
 cast-b : tie.Need-cast-b
-cast-b c = omega (arith, c .before .before .before .before .before .before .before .before .shared-slice-known .given (4 + c .before .before .before .before .before .before .before .before .before .args .states + (c .before .before .before .before .before .before .before .before .before .args .state .0 * c .before .before .before .before .before .before .before .before .before .args .symbols + c .before .before .before .before .before .before .before .before .before .args .symbol .0)))
+cast-b c =
+    let entry = c .before .before .before .before .before .before .before .before .before in
+    let at-shared-slice-known = c .before .before .before .before .before .before .before .before .shared-slice-known in
+    omega (arith, at-shared-slice-known .given (4 + entry .args .states + (entry .args .state .0 * entry .args .symbols + entry .args .symbol .0)))
 
 block-fits-requires : tie.Need-block-fits-requires
 block-fits-requires c κs = search needs
 
 returns-4 : tie.Need-returns-4
-returns-4 c = sym (law.start-cut _ _ _ _ _ (c .before .before .before .before .before .before .before .before .if1 .left) (c .before .before .before .before .before .before .if2 .left) (c .before .before .before .if3 .left) (sym (c .before .block-fits .ensures) ∙ not-true _ (c .if4 .taken)))
+returns-4 c =
+    let at-if1 = c .before .before .before .before .before .before .before .before .if1 in
+    let at-if2 = c .before .before .before .before .before .before .if2 in
+    sym (law.start-cut _ _ _ _ _ (at-if1 .left) (at-if2 .left) (c .before .before .before .if3 .left) (sym (c .before .block-fits .ensures) ∙ not-true _ (c .if4 .taken)))
 
 returns-5 : tie.Need-returns-5
-returns-5 c = sym (law.start-at _ _ _ _ _ (c .before .before .before .before .before .before .before .before .if1 .left) (c .before .before .before .before .before .before .if2 .left) (c .before .before .before .if3 .left) (sym (c .before .block-fits .ensures) ∙ not-false _ (c .if4 .left)))
+returns-5 c =
+    let at-if1 = c .before .before .before .before .before .before .before .before .if1 in
+    let at-if2 = c .before .before .before .before .before .before .if2 in
+    sym (law.start-at _ _ _ _ _ (at-if1 .left) (at-if2 .left) (c .before .before .before .if3 .left) (sym (c .before .block-fits .ensures) ∙ not-false _ (c .if4 .left)))
 
 pub block-start-spec : {M : Type 1} → statement M
 block-start-spec =

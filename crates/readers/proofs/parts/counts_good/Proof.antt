@@ -24,25 +24,39 @@ shared-slice-read-if4 : tie.Need-shared-slice-read-if4
 shared-slice-read-if4 c = search needs
 
 returns-4 : tie.Need-returns-4
-returns-4 c = sym (simp (le-leb _ _ (c .before .before .before .before .before .before .if1 .left), law.not-zero _ (c .before .before .before .before .if2 .left), le-leb _ _ (c .before .before .if3 .left), law.is-zero _ (c .if4 .taken)))
+returns-4 c =
+    let at-if1 = c .before .before .before .before .before .before .if1 in
+    sym (simp (le-leb _ _ (at-if1 .left), law.not-zero _ (c .before .before .before .before .if2 .left), le-leb _ _ (c .before .before .if3 .left), law.is-zero _ (c .if4 .taken)))
 
 shared-slice-read-if5 : tie.Need-shared-slice-read-if5
 shared-slice-read-if5 c = search needs
 
 returns-5 : tie.Need-returns-5
-returns-5 c = sym (simp (le-leb _ _ (c .before .before .before .before .before .before .before .before .if1 .left), law.not-zero _ (c .before .before .before .before .before .before .if2 .left), le-leb _ _ (c .before .before .before .before .if3 .left), law.not-zero _ (c .before .before .if4 .left), lt-leb _ _ (c .if5 .taken)))
+returns-5 c =
+    let at-if1 = c .before .before .before .before .before .before .before .before .if1 in
+    let at-if2 = c .before .before .before .before .before .before .if2 in
+    sym (simp (le-leb _ _ (at-if1 .left), law.not-zero _ (at-if2 .left), le-leb _ _ (c .before .before .before .before .if3 .left), law.not-zero _ (c .before .before .if4 .left), lt-leb _ _ (c .if5 .taken)))
 
 shared-slice-read-if6 : tie.Need-shared-slice-read-if6
 shared-slice-read-if6 c = search needs
 
 returns-6 : tie.Need-returns-6
-returns-6 c = sym (simp (le-leb _ _ (c .before .before .before .before .before .before .before .before .before .before .if1 .left), law.not-zero _ (c .before .before .before .before .before .before .before .before .if2 .left), le-leb _ _ (c .before .before .before .before .before .before .if3 .left), law.not-zero _ (c .before .before .before .before .if4 .left), le-leb _ _ (c .before .before .if5 .left), law.is-zero _ (c .if6 .taken)))
+returns-6 c =
+    let at-if1 = c .before .before .before .before .before .before .before .before .before .before .if1 in
+    let at-if2 = c .before .before .before .before .before .before .before .before .if2 in
+    let at-if3 = c .before .before .before .before .before .before .if3 in
+    sym (simp (le-leb _ _ (at-if1 .left), law.not-zero _ (at-if2 .left), le-leb _ _ (at-if3 .left), law.not-zero _ (c .before .before .before .before .if4 .left), le-leb _ _ (c .before .before .if5 .left), law.is-zero _ (c .if6 .taken)))
 
 shared-slice-read-result : tie.Need-shared-slice-read-result
 shared-slice-read-result c = search needs
 
 returns-7 : tie.Need-returns-7
-returns-7 c = sym (law.counts-last (c .before .before .before .before .before .before .before .before .before .before .before .before .args .plan .now) (c .before .before .before .before .before .before .before .before .before .before .before .if1 .left) (c .before .before .before .before .before .before .before .before .before .if2 .left) (c .before .before .before .before .before .before .before .if3 .left) (c .before .before .before .before .before .if4 .left) (c .before .before .before .if5 .left) (c .before .if6 .left))
+returns-7 c =
+    let entry = c .before .before .before .before .before .before .before .before .before .before .before .before in
+    let at-if1 = c .before .before .before .before .before .before .before .before .before .before .before .if1 in
+    let at-if2 = c .before .before .before .before .before .before .before .before .before .if2 in
+    let at-if3 = c .before .before .before .before .before .before .before .if3 in
+    sym (law.counts-last (entry .args .plan .now) (at-if1 .left) (at-if2 .left) (at-if3 .left) (c .before .before .before .before .before .if4 .left) (c .before .before .before .if5 .left) (c .before .if6 .left))
 
 pub counts-good-spec : {M : Type 1} → statement M
 counts-good-spec =

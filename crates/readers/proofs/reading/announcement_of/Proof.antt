@@ -27,10 +27,16 @@ enum-known-b : tie.Need-enum-known-b
 enum-known-b c = search needs
 
 shared-slice-read-pair-at : tie.Need-shared-slice-read-pair-at
-shared-slice-read-pair-at c = omega (arith, law.counts-of (c .before .before .before .before .before .before .before .before .args .words .now) (law.view-is (c .before .before .before .before .before .before .before .before .args .words .now) (c .before .before .before .before .before .before .before .before .args .states) (c .before .before .before .before .before .before .before .before .args .symbols) (sym (c .before .before .before .before .before .before .view-good .ensures) ∙ not-false _ (c .before .before .before .before .before .if1 .left))) .0)
+shared-slice-read-pair-at c =
+    let entry = c .before .before .before .before .before .before .before .before in
+    let at-view-good = c .before .before .before .before .before .before .view-good in
+    omega (arith, law.counts-of (entry .args .words .now) (law.view-is (entry .args .words .now) (entry .args .states) (entry .args .symbols) (sym (at-view-good .ensures) ∙ not-false _ (c .before .before .before .before .before .if1 .left))) .0)
 
 pair-at-requires : tie.Need-pair-at-requires
-pair-at-requires c κs = omega (arith, pairs.fits-in (c .before .before .before .before .before .before .before .before .args .words .now) (c .before .before .b .given .0 .0) (law.start-fits _ _ _ _ _ (sym (c .before .before .before .before .block-start .ensures) ∙ ap begins (c .before .before .b .given .1))))
+pair-at-requires c κs =
+    let entry = c .before .before .before .before .before .before .before .before in
+    let at-b = c .before .before .b in
+    omega (arith, pairs.fits-in (entry .args .words .now) (at-b .given .0 .0) (law.start-fits _ _ _ _ _ (sym (c .before .before .before .before .block-start .ensures) ∙ ap begins (at-b .given .1))))
 
 enum-told-2 : tie.Need-enum-told-2
 enum-told-2 c = search needs
@@ -39,10 +45,19 @@ enum-known-j : tie.Need-enum-known-j
 enum-known-j c = search needs
 
 returns-3 : tie.Need-returns-3
-returns-3 c = sym (law.announcement-pair _ _ _ (sym (c .before .before .before .before .before .before .before .before .before .view-good .ensures) ∙ not-false _ (c .before .before .before .before .before .before .before .before .if1 .left)) _ _ _ (sym (c .before .before .before .before .before .before .before .block-start .ensures) ∙ ap begins (c .before .before .before .before .before .b .given .1)) _ (sym (c .before .before .pair-at .ensures) ∙ ap pairOf (c .enum-told2 .given .1)))
+returns-3 c =
+    let at-view-good = c .before .before .before .before .before .before .before .before .before .view-good in
+    let at-if1 = c .before .before .before .before .before .before .before .before .if1 in
+    let at-block-start = c .before .before .before .before .before .before .before .block-start in
+    sym (law.announcement-pair _ _ _ (sym (at-view-good .ensures) ∙ not-false _ (at-if1 .left)) _ _ _ (sym (at-block-start .ensures) ∙ ap begins (c .before .before .before .before .before .b .given .1)) _ (sym (c .before .before .pair-at .ensures) ∙ ap pairOf (c .enum-told2 .given .1)))
 
 returns-4 : tie.Need-returns-4
-returns-4 c = sym (law.announcement-some _ _ _ (sym (c .before .before .before .before .before .before .before .before .before .before .view-good .ensures) ∙ not-false _ (c .before .before .before .before .before .before .before .before .before .if1 .left)) _ _ _ (sym (c .before .before .before .before .before .before .before .before .block-start .ensures) ∙ ap begins (c .before .before .before .before .before .before .b .given .1)) _ _ _ (sym (c .before .before .before .pair-at .ensures) ∙ ap pairOf (c .before .j .given .1)))
+returns-4 c =
+    let at-view-good = c .before .before .before .before .before .before .before .before .before .before .view-good in
+    let at-if1 = c .before .before .before .before .before .before .before .before .before .if1 in
+    let at-block-start = c .before .before .before .before .before .before .before .before .block-start in
+    let at-b = c .before .before .before .before .before .before .b in
+    sym (law.announcement-some _ _ _ (sym (at-view-good .ensures) ∙ not-false _ (at-if1 .left)) _ _ _ (sym (at-block-start .ensures) ∙ ap begins (at-b .given .1)) _ _ _ (sym (c .before .before .before .pair-at .ensures) ∙ ap pairOf (c .before .j .given .1)))
 
 pub announcement-of-spec : {M : Type 1} → statement M
 announcement-of-spec =

@@ -27,25 +27,43 @@ enum-known-b : tie.Need-enum-known-b
 enum-known-b c = search needs
 
 add-mid : tie.Need-add-mid
-add-mid c = omega (arith, pairs.fits-in (c .before .before .before .before .before .before .before .args .words .now) (c .before .b .given .0 .0) (law.start-fits _ _ _ _ _ (sym (c .before .before .before .block-start .ensures) ∙ ap begins (c .before .b .given .1))))
+add-mid c =
+    let entry = c .before .before .before .before .before .before .before in
+    omega (arith, pairs.fits-in (entry .args .words .now) (c .before .b .given .0 .0) (law.start-fits _ _ _ _ _ (sym (c .before .before .before .block-start .ensures) ∙ ap begins (c .before .b .given .1))))
 
 mul-mid : tie.Need-mul-mid
-mul-mid c = omega (arith, pairs.fits-in (c .before .before .before .before .before .before .before .args .words .now) (c .before .b .given .0 .0) (law.start-fits _ _ _ _ _ (sym (c .before .before .before .block-start .ensures) ∙ ap begins (c .before .b .given .1))))
+mul-mid c =
+    let entry = c .before .before .before .before .before .before .before in
+    omega (arith, pairs.fits-in (entry .args .words .now) (c .before .b .given .0 .0) (law.start-fits _ _ _ _ _ (sym (c .before .before .before .block-start .ensures) ∙ ap begins (c .before .b .given .1))))
 
 shared-slice-read-mid : tie.Need-shared-slice-read-mid
-shared-slice-read-mid c = omega (arith, pairs.fits-in (c .before .before .before .before .before .before .before .before .args .words .now) (c .before .before .b .given .0 .0) (law.start-fits _ _ _ _ _ (sym (c .before .before .before .before .block-start .ensures) ∙ ap begins (c .before .before .b .given .1))))
+shared-slice-read-mid c =
+    let entry = c .before .before .before .before .before .before .before .before in
+    let at-b = c .before .before .b in
+    omega (arith, pairs.fits-in (entry .args .words .now) (at-b .given .0 .0) (law.start-fits _ _ _ _ _ (sym (c .before .before .before .before .block-start .ensures) ∙ ap begins (at-b .given .1))))
 
 cast-mid : tie.Need-cast-mid
-cast-mid c = omega (arith, c .before .before .before .before .before .before .before .shared-slice-known .given (c .before .before .b .given .0 .0))
+cast-mid c =
+    let at-shared-slice-known = c .before .before .before .before .before .before .before .shared-slice-known in
+    omega (arith, at-shared-slice-known .given (c .before .before .b .given .0 .0))
 
 mul-mid-2 : tie.Need-mul-mid-2
-mul-mid-2 c = omega (arith, pairs.fits-in (c .before .before .before .before .before .before .before .before .args .words .now) (c .before .before .b .given .0 .0) (law.start-fits _ _ _ _ _ (sym (c .before .before .before .before .block-start .ensures) ∙ ap begins (c .before .before .b .given .1))))
+mul-mid-2 c =
+    let entry = c .before .before .before .before .before .before .before .before in
+    let at-b = c .before .before .b in
+    omega (arith, pairs.fits-in (entry .args .words .now) (at-b .given .0 .0) (law.start-fits _ _ _ _ _ (sym (c .before .before .before .before .block-start .ensures) ∙ ap begins (at-b .given .1))))
 
 add-mid-2 : tie.Need-add-mid-2
-add-mid-2 c = omega (arith, pairs.fits-in (c .before .before .before .before .before .before .before .before .args .words .now) (c .before .before .b .given .0 .0) (law.start-fits _ _ _ _ _ (sym (c .before .before .before .before .block-start .ensures) ∙ ap begins (c .before .before .b .given .1))))
+add-mid-2 c =
+    let entry = c .before .before .before .before .before .before .before .before in
+    let at-b = c .before .before .b in
+    omega (arith, pairs.fits-in (entry .args .words .now) (at-b .given .0 .0) (law.start-fits _ _ _ _ _ (sym (c .before .before .before .before .block-start .ensures) ∙ ap begins (at-b .given .1))))
 
 pair-at-requires : tie.Need-pair-at-requires
-pair-at-requires c κs = omega (arith, pairs.fits-in (c .before .before .before .before .before .before .before .before .args .words .now) (c .before .before .b .given .0 .0) (law.start-fits _ _ _ _ _ (sym (c .before .before .before .before .block-start .ensures) ∙ ap begins (c .before .before .b .given .1))))
+pair-at-requires c κs =
+    let entry = c .before .before .before .before .before .before .before .before in
+    let at-b = c .before .before .b in
+    omega (arith, pairs.fits-in (entry .args .words .now) (at-b .given .0 .0) (law.start-fits _ _ _ _ _ (sym (c .before .before .before .before .block-start .ensures) ∙ ap begins (at-b .given .1))))
 
 enum-told-2 : tie.Need-enum-told-2
 enum-told-2 c = search needs
@@ -54,10 +72,19 @@ enum-known-s : tie.Need-enum-known-s
 enum-known-s c = search needs
 
 returns-3 : tie.Need-returns-3
-returns-3 c = sym (law.successor-pair _ _ _ (sym (c .before .before .before .before .before .before .before .before .before .view-good .ensures) ∙ not-false _ (c .before .before .before .before .before .before .before .before .if1 .left)) _ _ _ (sym (c .before .before .before .before .before .before .before .block-start .ensures) ∙ ap begins (c .before .before .before .before .before .b .given .1)) _ (sym (c .before .before .pair-at .ensures) ∙ ap pairOf (c .enum-told2 .given .1)))
+returns-3 c =
+    let at-view-good = c .before .before .before .before .before .before .before .before .before .view-good in
+    let at-if1 = c .before .before .before .before .before .before .before .before .if1 in
+    let at-block-start = c .before .before .before .before .before .before .before .block-start in
+    sym (law.successor-pair _ _ _ (sym (at-view-good .ensures) ∙ not-false _ (at-if1 .left)) _ _ _ (sym (at-block-start .ensures) ∙ ap begins (c .before .before .before .before .before .b .given .1)) _ (sym (c .before .before .pair-at .ensures) ∙ ap pairOf (c .enum-told2 .given .1)))
 
 returns-4 : tie.Need-returns-4
-returns-4 c = sym (law.successor-some _ _ _ (sym (c .before .before .before .before .before .before .before .before .before .before .view-good .ensures) ∙ not-false _ (c .before .before .before .before .before .before .before .before .before .if1 .left)) _ _ _ (sym (c .before .before .before .before .before .before .before .before .block-start .ensures) ∙ ap begins (c .before .before .before .before .before .before .b .given .1)) _ _ _ (sym (c .before .before .before .pair-at .ensures) ∙ ap pairOf (c .before .s .given .1)))
+returns-4 c =
+    let at-view-good = c .before .before .before .before .before .before .before .before .before .before .view-good in
+    let at-if1 = c .before .before .before .before .before .before .before .before .before .if1 in
+    let at-block-start = c .before .before .before .before .before .before .before .before .block-start in
+    let at-b = c .before .before .before .before .before .before .b in
+    sym (law.successor-some _ _ _ (sym (at-view-good .ensures) ∙ not-false _ (at-if1 .left)) _ _ _ (sym (at-block-start .ensures) ∙ ap begins (at-b .given .1)) _ _ _ (sym (c .before .before .before .pair-at .ensures) ∙ ap pairOf (c .before .s .given .1)))
 
 pub successor-of-spec : {M : Type 1} → statement M
 successor-of-spec =

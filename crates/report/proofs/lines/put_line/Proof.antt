@@ -39,7 +39,9 @@ put-path-requires c κs = search needs
 
 -- src/lines.rt:25:9
 put-digits-requires : tie.Need-put-digits-requires
-put-digits-requires c κs = omega (arith, c .before .before .before .before .before .before .if1 .left)
+put-digits-requires c κs =
+    let at-if1 = c .before .before .before .before .before .before .if1 in
+    omega (arith, at-if1 .left)
 
 -- src/lines.rt:26:22
 slice-aggregate-put-text : tie.Need-slice-aggregate-put-text
@@ -47,11 +49,20 @@ slice-aggregate-put-text c = search needs
 
 -- src/lines.rt:26:9
 put-text-requires : tie.Need-put-text-requires
-put-text-requires c κs = let a : c .before .before .before .before .put-digits .result ≤ 20 = omega (arith, number-end (c .before .before .before .before .before .before .before .before .before .before .before .before .before .before .args .node .0) _ _ (c .before .before .before .before .put-digits .ensures .0)) in omega (arith, a, c .before .before .before .before .before .before .before .before .before .before .before .if1 .left, (c .before .before .before .before .put-digits .kept .1 .1 .0))
+put-text-requires c κs =
+    let entry = c .before .before .before .before .before .before .before .before .before .before .before .before .before .before in
+    let at-if1 = c .before .before .before .before .before .before .before .before .before .before .before .if1 in
+    let at-put-digits = c .before .before .before .before .put-digits in
+    let a : at-put-digits .result ≤ 20 = omega (arith, number-end (entry .args .node .0) _ _ (at-put-digits .ensures .0)) in omega (arith, a, at-if1 .left, (at-put-digits .kept .1 .1 .0))
 
 -- src/lines.rt:27:9
 put-digits-requires-2 : tie.Need-put-digits-requires-2
-put-digits-requires-2 c κs = let a : c .before .before .before .before .before .before .before .before .put-digits .result ≤ 20 = omega (arith, number-end (c .before .before .before .before .before .before .before .before .before .before .before .before .before .before .before .before .before .before .args .node .0) _ _ (c .before .before .before .before .before .before .before .before .put-digits .ensures .0)) in let b : c .before .before .before .put-text .result ≤ 21 = omega (arith, c .before .before .before .put-text .ensures .0, a) in omega (arith, b, c .before .before .before .before .before .before .before .before .before .before .before .before .before .before .before .if1 .left, (c .before .before .before .put-text .kept .1 .0 ∙ c .before .before .before .before .before .before .before .before .put-digits .kept .1 .1 .0))
+put-digits-requires-2 c κs =
+    let entry = c .before .before .before .before .before .before .before .before .before .before .before .before .before .before .before .before .before .before in
+    let at-if1 = c .before .before .before .before .before .before .before .before .before .before .before .before .before .before .before .if1 in
+    let at-put-digits = c .before .before .before .before .before .before .before .before .put-digits in
+    let at-put-text = c .before .before .before .put-text in
+    let a : at-put-digits .result ≤ 20 = omega (arith, number-end (entry .args .node .0) _ _ (at-put-digits .ensures .0)) in let b : at-put-text .result ≤ 21 = omega (arith, at-put-text .ensures .0, a) in omega (arith, b, at-if1 .left, (at-put-text .kept .1 .0 ∙ at-put-digits .kept .1 .1 .0))
 
 -- src/lines.rt:28:22
 slice-aggregate-put-text-2 : tie.Need-slice-aggregate-put-text-2
@@ -59,7 +70,13 @@ slice-aggregate-put-text-2 c = search needs
 
 -- src/lines.rt:28:9
 put-text-requires-2 : tie.Need-put-text-requires-2
-put-text-requires-2 c κs = let a : c .before .before .before .before .before .before .before .before .before .before .before .before .before .put-digits .result ≤ 20 = omega (arith, number-end (c .before .before .before .before .before .before .before .before .before .before .before .before .before .before .before .before .before .before .before .before .before .before .before .args .node .0) _ _ (c .before .before .before .before .before .before .before .before .before .before .before .before .before .put-digits .ensures .0)) in let b : c .before .before .before .before .before .before .before .before .put-text .result ≤ 21 = omega (arith, c .before .before .before .before .before .before .before .before .put-text .ensures .0, a) in let d : c .before .before .before .before .put-digits2 .result ≤ 41 = omega (arith, number-end (c .before .before .before .before .before .before .before .before .before .before .before .before .before .before .before .before .before .before .before .before .before .before .before .args .shape .0) _ _ (c .before .before .before .before .put-digits2 .ensures .0), b) in omega (arith, d, c .before .before .before .before .before .before .before .before .before .before .before .before .before .before .before .before .before .before .before .before .if1 .left, (c .before .before .before .before .put-digits2 .kept .1 .1 .0 ∙ c .before .before .before .before .before .before .before .before .put-text .kept .1 .0 ∙ c .before .before .before .before .before .before .before .before .before .before .before .before .before .put-digits .kept .1 .1 .0))
+put-text-requires-2 c κs =
+    let entry = c .before .before .before .before .before .before .before .before .before .before .before .before .before .before .before .before .before .before .before .before .before .before .before in
+    let at-if1 = c .before .before .before .before .before .before .before .before .before .before .before .before .before .before .before .before .before .before .before .before .if1 in
+    let at-put-digits = c .before .before .before .before .before .before .before .before .before .before .before .before .before .put-digits in
+    let at-put-text = c .before .before .before .before .before .before .before .before .put-text in
+    let at-put-digits2 = c .before .before .before .before .put-digits2 in
+    let a : at-put-digits .result ≤ 20 = omega (arith, number-end (entry .args .node .0) _ _ (at-put-digits .ensures .0)) in let b : at-put-text .result ≤ 21 = omega (arith, at-put-text .ensures .0, a) in let d : at-put-digits2 .result ≤ 41 = omega (arith, number-end (entry .args .shape .0) _ _ (at-put-digits2 .ensures .0), b) in omega (arith, d, at-if1 .left, (at-put-digits2 .kept .1 .1 .0 ∙ at-put-text .kept .1 .0 ∙ at-put-digits .kept .1 .1 .0))
 
 -- src/lines.rt:29:24
 sub-put-dotted : tie.Need-sub-put-dotted
@@ -71,11 +88,22 @@ part-put-dotted-start c = search needs
 
 -- src/lines.rt:29:24
 part-put-dotted-end : tie.Need-part-put-dotted-end
-part-put-dotted-end c = omega (arith, c .before .before .before .before .before .before .before .before .before .before .before .before .before .before .before .before .before .before .before .before .put-path .ensures .0, path-few 64 (c .before .before .before .before .before .before .before .before .before .before .before .before .before .before .before .before .before .before .before .before .before .before .before .before .before .before .before .args .spans .now) (c .before .before .before .before .before .before .before .before .before .before .before .before .before .before .before .before .before .before .before .before .before .before .before .before .before .before .before .args .node .0) 0, c .before .before .before .before .before .before .before .before .before .before .before .before .before .before .before .before .before .before .before .before .put-path .kept .1 .1 .0)
+part-put-dotted-end c =
+    let entry = c .before .before .before .before .before .before .before .before .before .before .before .before .before .before .before .before .before .before .before .before .before .before .before .before .before .before .before in
+    let at-put-path = c .before .before .before .before .before .before .before .before .before .before .before .before .before .before .before .before .before .before .before .before .put-path in
+    omega (arith, at-put-path .ensures .0, path-few 64 (entry .args .spans .now) (entry .args .node .0) 0, at-put-path .kept .1 .1 .0)
 
 -- src/lines.rt:29:9
 put-dotted-requires : tie.Need-put-dotted-requires
-put-dotted-requires c κs = let a : c .before .before .before .before .before .before .before .before .before .before .before .before .before .before .before .before .before .before .before .put-digits .result ≤ 20 = omega (arith, number-end (c .before .before .before .before .before .before .before .before .before .before .before .before .before .before .before .before .before .before .before .before .before .before .before .before .before .before .before .before .before .args .node .0) _ _ (c .before .before .before .before .before .before .before .before .before .before .before .before .before .before .before .before .before .before .before .put-digits .ensures .0)) in let b : c .before .before .before .before .before .before .before .before .before .before .before .before .before .before .put-text .result ≤ 21 = omega (arith, c .before .before .before .before .before .before .before .before .before .before .before .before .before .before .put-text .ensures .0, a) in let d : c .before .before .before .before .before .before .before .before .before .before .put-digits2 .result ≤ 41 = omega (arith, number-end (c .before .before .before .before .before .before .before .before .before .before .before .before .before .before .before .before .before .before .before .before .before .before .before .before .before .before .before .before .before .args .shape .0) _ _ (c .before .before .before .before .before .before .before .before .before .before .put-digits2 .ensures .0), b) in let e : c .before .before .before .before .before .put-text2 .result ≤ 42 = omega (arith, c .before .before .before .before .before .put-text2 .ensures .0, d) in let q = ap length (run-whole (replicate 64 0) _ (pathTo 64 (c .before .before .before .before .before .before .before .before .before .before .before .before .before .before .before .before .before .before .before .before .before .before .before .before .before .before .before .before .before .args .spans .now) (c .before .before .before .before .before .before .before .before .before .before .before .before .before .before .before .before .before .before .before .before .before .before .before .before .before .before .before .before .before .args .node .0) 0) _ (c .before .before .before .before .before .before .before .before .before .before .before .before .before .before .before .before .before .before .before .before .before .before .put-path .ensures .0) (rw (length-replicate {A = ℕ} 64 0) (path-few 64 (c .before .before .before .before .before .before .before .before .before .before .before .before .before .before .before .before .before .before .before .before .before .before .before .before .before .before .before .before .before .args .spans .now) (c .before .before .before .before .before .before .before .before .before .before .before .before .before .before .before .before .before .before .before .before .before .before .before .before .before .before .before .before .before .args .node .0) 0)) (c .before .before .before .before .before .before .before .before .before .before .before .before .before .before .before .before .before .before .before .before .before .before .put-path .ensures .1)) in omega (arith, e, q, path-few 64 (c .before .before .before .before .before .before .before .before .before .before .before .before .before .before .before .before .before .before .before .before .before .before .before .before .before .before .before .before .before .args .spans .now) (c .before .before .before .before .before .before .before .before .before .before .before .before .before .before .before .before .before .before .before .before .before .before .before .before .before .before .before .before .before .args .node .0) 0, c .before .before .before .before .before .before .before .before .before .before .before .before .before .before .before .before .before .before .before .before .before .before .before .before .before .before .if1 .left, (c .before .before .before .before .before .put-text2 .kept .1 .0 ∙ c .before .before .before .before .before .before .before .before .before .before .put-digits2 .kept .1 .1 .0 ∙ c .before .before .before .before .before .before .before .before .before .before .before .before .before .before .put-text .kept .1 .0 ∙ c .before .before .before .before .before .before .before .before .before .before .before .before .before .before .before .before .before .before .before .put-digits .kept .1 .1 .0))
+put-dotted-requires c κs =
+    let entry = c .before .before .before .before .before .before .before .before .before .before .before .before .before .before .before .before .before .before .before .before .before .before .before .before .before .before .before .before .before in
+    let at-if1 = c .before .before .before .before .before .before .before .before .before .before .before .before .before .before .before .before .before .before .before .before .before .before .before .before .before .before .if1 in
+    let at-put-path = c .before .before .before .before .before .before .before .before .before .before .before .before .before .before .before .before .before .before .before .before .before .before .put-path in
+    let at-put-digits = c .before .before .before .before .before .before .before .before .before .before .before .before .before .before .before .before .before .before .before .put-digits in
+    let at-put-text = c .before .before .before .before .before .before .before .before .before .before .before .before .before .before .put-text in
+    let at-put-digits2 = c .before .before .before .before .before .before .before .before .before .before .put-digits2 in
+    let at-put-text2 = c .before .before .before .before .before .put-text2 in
+    let a : at-put-digits .result ≤ 20 = omega (arith, number-end (entry .args .node .0) _ _ (at-put-digits .ensures .0)) in let b : at-put-text .result ≤ 21 = omega (arith, at-put-text .ensures .0, a) in let d : at-put-digits2 .result ≤ 41 = omega (arith, number-end (entry .args .shape .0) _ _ (at-put-digits2 .ensures .0), b) in let e : at-put-text2 .result ≤ 42 = omega (arith, at-put-text2 .ensures .0, d) in let q = ap length (run-whole (replicate 64 0) _ (pathTo 64 (entry .args .spans .now) (entry .args .node .0) 0) _ (at-put-path .ensures .0) (rw (length-replicate {A = ℕ} 64 0) (path-few 64 (entry .args .spans .now) (entry .args .node .0) 0)) (at-put-path .ensures .1)) in omega (arith, e, q, path-few 64 (entry .args .spans .now) (entry .args .node .0) 0, at-if1 .left, (at-put-text2 .kept .1 .0 ∙ at-put-digits2 .kept .1 .1 .0 ∙ at-put-text .kept .1 .0 ∙ at-put-digits .kept .1 .1 .0))
 
 -- src/lines.rt:30:24
 slice-aggregate-put-text-3 : tie.Need-slice-aggregate-put-text-3
@@ -83,15 +111,39 @@ slice-aggregate-put-text-3 c = search needs
 
 -- src/lines.rt:30:9
 put-text-requires-3 : tie.Need-put-text-requires-3
-put-text-requires-3 c κs = let a : c .before .before .before .before .before .before .before .before .before .before .before .before .before .before .before .before .before .before .before .before .before .before .before .before .put-digits .result ≤ 20 = omega (arith, number-end (c .before .before .before .before .before .before .before .before .before .before .before .before .before .before .before .before .before .before .before .before .before .before .before .before .before .before .before .before .before .before .before .before .before .before .args .node .0) _ _ (c .before .before .before .before .before .before .before .before .before .before .before .before .before .before .before .before .before .before .before .before .before .before .before .before .put-digits .ensures .0)) in let b : c .before .before .before .before .before .before .before .before .before .before .before .before .before .before .before .before .before .before .before .put-text .result ≤ 21 = omega (arith, c .before .before .before .before .before .before .before .before .before .before .before .before .before .before .before .before .before .before .before .put-text .ensures .0, a) in let d : c .before .before .before .before .before .before .before .before .before .before .before .before .before .before .before .put-digits2 .result ≤ 41 = omega (arith, number-end (c .before .before .before .before .before .before .before .before .before .before .before .before .before .before .before .before .before .before .before .before .before .before .before .before .before .before .before .before .before .before .before .before .before .before .args .shape .0) _ _ (c .before .before .before .before .before .before .before .before .before .before .before .before .before .before .before .put-digits2 .ensures .0), b) in let e : c .before .before .before .before .before .before .before .before .before .before .put-text2 .result ≤ 42 = omega (arith, c .before .before .before .before .before .before .before .before .before .before .put-text2 .ensures .0, d) in let q = ap length (run-whole (replicate 64 0) _ (pathTo 64 (c .before .before .before .before .before .before .before .before .before .before .before .before .before .before .before .before .before .before .before .before .before .before .before .before .before .before .before .before .before .before .before .before .before .before .args .spans .now) (c .before .before .before .before .before .before .before .before .before .before .before .before .before .before .before .before .before .before .before .before .before .before .before .before .before .before .before .before .before .before .before .before .before .before .args .node .0) 0) _ (c .before .before .before .before .before .before .before .before .before .before .before .before .before .before .before .before .before .before .before .before .before .before .before .before .before .before .before .put-path .ensures .0) (rw (length-replicate {A = ℕ} 64 0) (path-few 64 (c .before .before .before .before .before .before .before .before .before .before .before .before .before .before .before .before .before .before .before .before .before .before .before .before .before .before .before .before .before .before .before .before .before .before .args .spans .now) (c .before .before .before .before .before .before .before .before .before .before .before .before .before .before .before .before .before .before .before .before .before .before .before .before .before .before .before .before .before .before .before .before .before .before .args .node .0) 0)) (c .before .before .before .before .before .before .before .before .before .before .before .before .before .before .before .before .before .before .before .before .before .before .before .before .before .before .before .put-path .ensures .1)) in let z = path-end _ _ _ (omega (arith, q, path-few 64 (c .before .before .before .before .before .before .before .before .before .before .before .before .before .before .before .before .before .before .before .before .before .before .before .before .before .before .before .before .before .before .before .before .before .before .args .spans .now) (c .before .before .before .before .before .before .before .before .before .before .before .before .before .before .before .before .before .before .before .before .before .before .before .before .before .before .before .before .before .before .before .before .before .before .args .node .0) 0)) (c .before .before .before .before .put-dotted .ensures .0) in omega (arith, e, z, c .before .before .before .before .before .before .before .before .before .before .before .before .before .before .before .before .before .before .before .before .before .before .before .before .before .before .before .before .before .before .before .if1 .left, (c .before .before .before .before .put-dotted .kept .1 .0 ∙ c .before .before .before .before .before .before .before .before .before .before .put-text2 .kept .1 .0 ∙ c .before .before .before .before .before .before .before .before .before .before .before .before .before .before .before .put-digits2 .kept .1 .1 .0 ∙ c .before .before .before .before .before .before .before .before .before .before .before .before .before .before .before .before .before .before .before .put-text .kept .1 .0 ∙ c .before .before .before .before .before .before .before .before .before .before .before .before .before .before .before .before .before .before .before .before .before .before .before .before .put-digits .kept .1 .1 .0))
+put-text-requires-3 c κs =
+    let entry = c .before .before .before .before .before .before .before .before .before .before .before .before .before .before .before .before .before .before .before .before .before .before .before .before .before .before .before .before .before .before .before .before .before .before in
+    let at-if1 = c .before .before .before .before .before .before .before .before .before .before .before .before .before .before .before .before .before .before .before .before .before .before .before .before .before .before .before .before .before .before .before .if1 in
+    let at-put-path = c .before .before .before .before .before .before .before .before .before .before .before .before .before .before .before .before .before .before .before .before .before .before .before .before .before .before .before .put-path in
+    let at-put-digits = c .before .before .before .before .before .before .before .before .before .before .before .before .before .before .before .before .before .before .before .before .before .before .before .before .put-digits in
+    let at-put-text = c .before .before .before .before .before .before .before .before .before .before .before .before .before .before .before .before .before .before .before .put-text in
+    let at-put-digits2 = c .before .before .before .before .before .before .before .before .before .before .before .before .before .before .before .put-digits2 in
+    let at-put-text2 = c .before .before .before .before .before .before .before .before .before .before .put-text2 in
+    let at-put-dotted = c .before .before .before .before .put-dotted in
+    let a : at-put-digits .result ≤ 20 = omega (arith, number-end (entry .args .node .0) _ _ (at-put-digits .ensures .0)) in let b : at-put-text .result ≤ 21 = omega (arith, at-put-text .ensures .0, a) in let d : at-put-digits2 .result ≤ 41 = omega (arith, number-end (entry .args .shape .0) _ _ (at-put-digits2 .ensures .0), b) in let e : at-put-text2 .result ≤ 42 = omega (arith, at-put-text2 .ensures .0, d) in let q = ap length (run-whole (replicate 64 0) _ (pathTo 64 (entry .args .spans .now) (entry .args .node .0) 0) _ (at-put-path .ensures .0) (rw (length-replicate {A = ℕ} 64 0) (path-few 64 (entry .args .spans .now) (entry .args .node .0) 0)) (at-put-path .ensures .1)) in let z = path-end _ _ _ (omega (arith, q, path-few 64 (entry .args .spans .now) (entry .args .node .0) 0)) (at-put-dotted .ensures .0) in omega (arith, e, z, at-if1 .left, (at-put-dotted .kept .1 .0 ∙ at-put-text2 .kept .1 .0 ∙ at-put-digits2 .kept .1 .1 .0 ∙ at-put-text .kept .1 .0 ∙ at-put-digits .kept .1 .1 .0))
 
 -- src/lines.rt:15:1
 same-length : tie.Need-same-length
-same-length c = c .before .before .put-text3 .kept .1 .0 ∙ c .before .before .before .before .before .before .before .put-dotted .kept .1 .0 ∙ c .before .before .before .before .before .before .before .before .before .before .before .before .before .put-text2 .kept .1 .0 ∙ c .before .before .before .before .before .before .before .before .before .before .before .before .before .before .before .before .before .before .put-digits2 .kept .1 .1 .0 ∙ c .before .before .before .before .before .before .before .before .before .before .before .before .before .before .before .before .before .before .before .before .before .before .put-text .kept .1 .0 ∙ c .before .before .before .before .before .before .before .before .before .before .before .before .before .before .before .before .before .before .before .before .before .before .before .before .before .before .before .put-digits .kept .1 .1 .0
+same-length c =
+    let at-put-digits = c .before .before .before .before .before .before .before .before .before .before .before .before .before .before .before .before .before .before .before .before .before .before .before .before .before .before .before .put-digits in
+    let at-put-text = c .before .before .before .before .before .before .before .before .before .before .before .before .before .before .before .before .before .before .before .before .before .before .put-text in
+    let at-put-digits2 = c .before .before .before .before .before .before .before .before .before .before .before .before .before .before .before .before .before .before .put-digits2 in
+    let at-put-text2 = c .before .before .before .before .before .before .before .before .before .before .before .before .before .put-text2 in
+    let at-put-dotted = c .before .before .before .before .before .before .before .put-dotted in
+    c .before .before .put-text3 .kept .1 .0 ∙ at-put-dotted .kept .1 .0 ∙ at-put-text2 .kept .1 .0 ∙ at-put-digits2 .kept .1 .1 .0 ∙ at-put-text .kept .1 .0 ∙ at-put-digits .kept .1 .1 .0
 
 -- src/lines.rt:15:1
 returns-2 : tie.Need-returns-2
-returns-2 c = match-is (c .before .before .before .before .before .before .before .before .before .before .before .before .before .before .before .before .before .before .before .before .before .before .before .before .before .before .before .before .before .before .before .before .before .before .before .before .before .args .spans .now) (c .before .before .before .before .before .before .before .before .before .before .before .before .before .before .before .before .before .before .before .before .before .before .before .before .before .before .before .before .before .before .before .before .before .before .before .before .before .args .node .0) (c .before .before .before .before .before .before .before .before .before .before .before .before .before .before .before .before .before .before .before .before .before .before .before .before .before .before .before .before .before .before .before .before .before .before .before .before .before .args .shape .0) (c .before .before .before .before .before .before .before .before .before .before .before .before .before .before .before .before .before .before .before .before .before .before .before .before .before .before .before .before .before .before .before .before .before .before .before .before .before .args .out .now) _ (c .before .before .before .before .before .before .before .before .before .before .before .before .before .before .before .before .before .before .before .before .before .before .before .before .before .before .before .before .before .before .before .before .before .before .if1 .left) (run-whole (replicate 64 0) _ (pathTo 64 (c .before .before .before .before .before .before .before .before .before .before .before .before .before .before .before .before .before .before .before .before .before .before .before .before .before .before .before .before .before .before .before .before .before .before .before .before .before .args .spans .now) (c .before .before .before .before .before .before .before .before .before .before .before .before .before .before .before .before .before .before .before .before .before .before .before .before .before .before .before .before .before .before .before .before .before .before .before .before .before .args .node .0) 0) _ (c .before .before .before .before .before .before .before .before .before .before .before .before .before .before .before .before .before .before .before .before .before .before .before .before .before .before .before .before .before .before .put-path .ensures .0) (rw (length-replicate {A = ℕ} 64 0) (path-few 64 (c .before .before .before .before .before .before .before .before .before .before .before .before .before .before .before .before .before .before .before .before .before .before .before .before .before .before .before .before .before .before .before .before .before .before .before .before .before .args .spans .now) (c .before .before .before .before .before .before .before .before .before .before .before .before .before .before .before .before .before .before .before .before .before .before .before .before .before .before .before .before .before .before .before .before .before .before .before .before .before .args .node .0) 0)) (c .before .before .before .before .before .before .before .before .before .before .before .before .before .before .before .before .before .before .before .before .before .before .before .before .before .before .before .before .before .before .put-path .ensures .1)) (c .before .before .before .before .before .before .before .before .before .before .before .before .before .before .before .before .before .before .before .before .before .before .before .before .before .before .before .put-digits .ensures) (c .before .before .before .before .before .before .before .before .before .before .before .before .before .before .before .before .before .before .before .before .before .before .put-text .ensures) (c .before .before .before .before .before .before .before .before .before .before .before .before .before .before .before .before .before .before .put-digits2 .ensures) (c .before .before .before .before .before .before .before .before .before .before .before .before .before .put-text2 .ensures) (c .before .before .before .before .before .before .before .put-dotted .ensures) (c .before .before .put-text3 .ensures)
+returns-2 c =
+    let entry = c .before .before .before .before .before .before .before .before .before .before .before .before .before .before .before .before .before .before .before .before .before .before .before .before .before .before .before .before .before .before .before .before .before .before .before .before .before in
+    let at-if1 = c .before .before .before .before .before .before .before .before .before .before .before .before .before .before .before .before .before .before .before .before .before .before .before .before .before .before .before .before .before .before .before .before .before .before .if1 in
+    let at-put-path = c .before .before .before .before .before .before .before .before .before .before .before .before .before .before .before .before .before .before .before .before .before .before .before .before .before .before .before .before .before .before .put-path in
+    let at-put-digits = c .before .before .before .before .before .before .before .before .before .before .before .before .before .before .before .before .before .before .before .before .before .before .before .before .before .before .before .put-digits in
+    let at-put-text = c .before .before .before .before .before .before .before .before .before .before .before .before .before .before .before .before .before .before .before .before .before .before .put-text in
+    let at-put-digits2 = c .before .before .before .before .before .before .before .before .before .before .before .before .before .before .before .before .before .before .put-digits2 in
+    let at-put-text2 = c .before .before .before .before .before .before .before .before .before .before .before .before .before .put-text2 in
+    let at-put-dotted = c .before .before .before .before .before .before .before .put-dotted in
+    match-is (entry .args .spans .now) (entry .args .node .0) (entry .args .shape .0) (entry .args .out .now) _ (at-if1 .left) (run-whole (replicate 64 0) _ (pathTo 64 (entry .args .spans .now) (entry .args .node .0) 0) _ (at-put-path .ensures .0) (rw (length-replicate {A = ℕ} 64 0) (path-few 64 (entry .args .spans .now) (entry .args .node .0) 0)) (at-put-path .ensures .1)) (at-put-digits .ensures) (at-put-text .ensures) (at-put-digits2 .ensures) (at-put-text2 .ensures) (at-put-dotted .ensures) (c .before .before .put-text3 .ensures)
 
 pub put-line-spec : {M : Type 1} → statement M
 put-line-spec =

@@ -34,7 +34,9 @@ put-text-requires c κs = omega arith
 
 -- src/lines.rt:43:9
 put-digits-requires : tie.Need-put-digits-requires
-put-digits-requires c κs = omega (arith, c .before .before .before .put-text .ensures .0, (c .before .before .before .put-text .kept .1 .0))
+put-digits-requires c κs =
+    let at-put-text = c .before .before .before .put-text in
+    omega (arith, at-put-text .ensures .0, (at-put-text .kept .1 .0))
 
 -- src/lines.rt:44:22
 slice-aggregate-put-text-2 : tie.Need-slice-aggregate-put-text-2
@@ -42,11 +44,20 @@ slice-aggregate-put-text-2 c = search needs
 
 -- src/lines.rt:44:9
 put-text-requires-2 : tie.Need-put-text-requires-2
-put-text-requires-2 c κs = omega (arith, c .before .before .before .before .before .before .before .before .put-text .ensures .0, number-end (c .before .before .before .before .before .before .before .before .before .before .before .number .result) _ _ (c .before .before .before .before .put-digits .ensures .0), (c .before .before .before .before .put-digits .kept .1 .1 .0 ∙ c .before .before .before .before .before .before .before .before .put-text .kept .1 .0))
+put-text-requires-2 c κs =
+    let at-number = c .before .before .before .before .before .before .before .before .before .before .before .number in
+    let at-put-text = c .before .before .before .before .before .before .before .before .put-text in
+    let at-put-digits = c .before .before .before .before .put-digits in
+    omega (arith, at-put-text .ensures .0, number-end (at-number .result) _ _ (at-put-digits .ensures .0), (at-put-digits .kept .1 .1 .0 ∙ at-put-text .kept .1 .0))
 
 -- src/lines.rt:45:9
 put-digits-requires-2 : tie.Need-put-digits-requires-2
-put-digits-requires-2 c κs = omega (arith, c .before .before .before .before .before .before .before .before .before .before .before .before .put-text .ensures .0, number-end (c .before .before .before .before .before .before .before .before .before .before .before .before .before .before .before .number .result) _ _ (c .before .before .before .before .before .before .before .before .put-digits .ensures .0), c .before .before .before .put-text2 .ensures .0, (c .before .before .before .put-text2 .kept .1 .0 ∙ c .before .before .before .before .before .before .before .before .put-digits .kept .1 .1 .0 ∙ c .before .before .before .before .before .before .before .before .before .before .before .before .put-text .kept .1 .0))
+put-digits-requires-2 c κs =
+    let at-number = c .before .before .before .before .before .before .before .before .before .before .before .before .before .before .before .number in
+    let at-put-text = c .before .before .before .before .before .before .before .before .before .before .before .before .put-text in
+    let at-put-digits = c .before .before .before .before .before .before .before .before .put-digits in
+    let at-put-text2 = c .before .before .before .put-text2 in
+    omega (arith, at-put-text .ensures .0, number-end (at-number .result) _ _ (at-put-digits .ensures .0), at-put-text2 .ensures .0, (at-put-text2 .kept .1 .0 ∙ at-put-digits .kept .1 .1 .0 ∙ at-put-text .kept .1 .0))
 
 -- src/lines.rt:46:24
 slice-aggregate-put-text-3 : tie.Need-slice-aggregate-put-text-3
@@ -54,15 +65,29 @@ slice-aggregate-put-text-3 c = search needs
 
 -- src/lines.rt:46:9
 put-text-requires-3 : tie.Need-put-text-requires-3
-put-text-requires-3 c κs = omega (arith, c .before .before .before .before .before .before .before .before .before .before .before .before .before .before .before .before .before .put-text .ensures .0, number-end (c .before .before .before .before .before .before .before .before .before .before .before .before .before .before .before .before .before .before .before .before .number .result) _ _ (c .before .before .before .before .before .before .before .before .before .before .before .before .before .put-digits .ensures .0), c .before .before .before .before .before .before .before .before .put-text2 .ensures .0, number-end (c .before .before .before .before .before .before .before .before .before .before .before .before .before .before .before .before .before .before .before .before .before .before .before .args .place) _ _ (c .before .before .before .before .put-digits2 .ensures .0), (c .before .before .before .before .put-digits2 .kept .1 .1 .0 ∙ c .before .before .before .before .before .before .before .before .put-text2 .kept .1 .0 ∙ c .before .before .before .before .before .before .before .before .before .before .before .before .before .put-digits .kept .1 .1 .0 ∙ c .before .before .before .before .before .before .before .before .before .before .before .before .before .before .before .before .before .put-text .kept .1 .0))
+put-text-requires-3 c κs = -- plain
+    omega (arith, c .before .before .before .before .before .before .before .before .before .before .before .before .before .before .before .before .before .put-text .ensures .0, number-end (c .before .before .before .before .before .before .before .before .before .before .before .before .before .before .before .before .before .before .before .before .number .result) _ _ (c .before .before .before .before .before .before .before .before .before .before .before .before .before .put-digits .ensures .0), c .before .before .before .before .before .before .before .before .put-text2 .ensures .0, number-end (c .before .before .before .before .before .before .before .before .before .before .before .before .before .before .before .before .before .before .before .before .before .before .before .args .place) _ _ (c .before .before .before .before .put-digits2 .ensures .0), (c .before .before .before .before .put-digits2 .kept .1 .1 .0 ∙ c .before .before .before .before .before .before .before .before .put-text2 .kept .1 .0 ∙ c .before .before .before .before .before .before .before .before .before .before .before .before .before .put-digits .kept .1 .1 .0 ∙ c .before .before .before .before .before .before .before .before .before .before .before .before .before .before .before .before .before .put-text .kept .1 .0))
 
 -- src/lines.rt:35:1
 same-length : tie.Need-same-length
-same-length c = c .before .before .put-text3 .kept .1 .0 ∙ c .before .before .before .before .before .before .before .put-digits2 .kept .1 .1 .0 ∙ c .before .before .before .before .before .before .before .before .before .before .before .put-text2 .kept .1 .0 ∙ c .before .before .before .before .before .before .before .before .before .before .before .before .before .before .before .before .put-digits .kept .1 .1 .0 ∙ c .before .before .before .before .before .before .before .before .before .before .before .before .before .before .before .before .before .before .before .before .put-text .kept .1 .0
+same-length c =
+    let at-put-text = c .before .before .before .before .before .before .before .before .before .before .before .before .before .before .before .before .before .before .before .before .put-text in
+    let at-put-digits = c .before .before .before .before .before .before .before .before .before .before .before .before .before .before .before .before .put-digits in
+    let at-put-text2 = c .before .before .before .before .before .before .before .before .before .before .before .put-text2 in
+    let at-put-digits2 = c .before .before .before .before .before .before .before .put-digits2 in
+    c .before .before .put-text3 .kept .1 .0 ∙ at-put-digits2 .kept .1 .1 .0 ∙ at-put-text2 .kept .1 .0 ∙ at-put-digits .kept .1 .1 .0 ∙ at-put-text .kept .1 .0
 
 -- src/lines.rt:35:1
 returns-2 : tie.Need-returns-2
-returns-2 c = refusal-is (c .before .before .before .before .before .before .before .before .before .before .before .before .before .before .before .before .before .before .before .before .before .before .before .before .before .before .args .reason) (c .before .before .before .before .before .before .before .before .before .before .before .before .before .before .before .before .before .before .before .before .before .before .before .before .before .before .args .place) (c .before .before .before .before .before .before .before .before .before .before .before .before .before .before .before .before .before .before .before .before .before .before .before .before .before .before .args .out .now) (c .before .before .before .before .before .before .before .before .before .before .before .before .before .before .before .before .before .before .before .before .before .before .before .before .if1 .left) (c .before .before .before .before .before .before .before .before .before .before .before .before .before .before .before .before .before .before .before .before .before .before .before .number .ensures) (c .before .before .before .before .before .before .before .before .before .before .before .before .before .before .before .before .before .before .before .before .put-text .ensures) (c .before .before .before .before .before .before .before .before .before .before .before .before .before .before .before .before .put-digits .ensures) (c .before .before .before .before .before .before .before .before .before .before .before .put-text2 .ensures) (c .before .before .before .before .before .before .before .put-digits2 .ensures) (c .before .before .put-text3 .ensures)
+returns-2 c =
+    let entry = c .before .before .before .before .before .before .before .before .before .before .before .before .before .before .before .before .before .before .before .before .before .before .before .before .before .before in
+    let at-if1 = c .before .before .before .before .before .before .before .before .before .before .before .before .before .before .before .before .before .before .before .before .before .before .before .before .if1 in
+    let at-number = c .before .before .before .before .before .before .before .before .before .before .before .before .before .before .before .before .before .before .before .before .before .before .before .number in
+    let at-put-text = c .before .before .before .before .before .before .before .before .before .before .before .before .before .before .before .before .before .before .before .before .put-text in
+    let at-put-digits = c .before .before .before .before .before .before .before .before .before .before .before .before .before .before .before .before .put-digits in
+    let at-put-text2 = c .before .before .before .before .before .before .before .before .before .before .before .put-text2 in
+    let at-put-digits2 = c .before .before .before .before .before .before .before .put-digits2 in
+    refusal-is (entry .args .reason) (entry .args .place) (entry .args .out .now) (at-if1 .left) (at-number .ensures) (at-put-text .ensures) (at-put-digits .ensures) (at-put-text2 .ensures) (at-put-digits2 .ensures) (c .before .before .put-text3 .ensures)
 
 pub put-refusal-spec : {M : Type 1} → statement M
 put-refusal-spec =

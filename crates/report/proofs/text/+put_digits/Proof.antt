@@ -30,7 +30,9 @@ put-digits-returns :
     (put-digits-below t, put-digits.Post)
     (put-digits-at t)
     put-digits.Post
-put-digits-returns t c = digits-none (c .before .before .args .n) (c .before .before .args .left) (c .before .before .args .out .now) (c .before .before .args .at) (c .if1 .taken)
+put-digits-returns t c =
+    let entry = c .before .before in
+    digits-none (entry .args .n) (entry .args .left) (entry .args .out .now) (entry .args .at) (c .if1 .taken)
 
 put-digits-add-out :
     (t : ℕ) →
@@ -70,7 +72,9 @@ put-digits-returns-2 : (t : ℕ) → put-digits-lts.Need-returns-2 (
   put-digits-below t,
   put-digits.Post,
 ) (put-digits-at t) put-digits.Post
-put-digits-returns-2 t c = digits-single (c .before .before .before .args .n) (c .before .before .before .args .left) (c .before .before .before .args .out .now) (c .before .before .before .args .at) (c .before .if1 .left) (c .if2 .taken)
+put-digits-returns-2 t c =
+    let entry = c .before .before .before in
+    digits-single (entry .args .n) (entry .args .left) (entry .args .out .now) (entry .args .at) (c .before .if1 .left) (c .if2 .taken)
 
 put-digits-sub-put-digits : (t : ℕ) → put-digits-lts.Need-sub-put-digits (
   put-digits-below t,
@@ -100,13 +104,18 @@ put-digits-slice-write-out-2 : (t : ℕ) → put-digits-lts.Need-slice-write-out
   put-digits-below t,
   put-digits.Post,
 ) (put-digits-at t) put-digits.Post
-put-digits-slice-write-out-2 t c = omega (arith, c .before .before .put-digits .ensures .0, digits-few (c .before .before .before .before .before .before .before .args .left - 1) (c .before .before .before .before .before .before .before .args .n / 10), c .before .before .put-digits .kept .1 .1 .0)
+put-digits-slice-write-out-2 t c =
+    let entry = c .before .before .before .before .before .before .before in
+    let at-put-digits = c .before .before .put-digits in
+    omega (arith, at-put-digits .ensures .0, digits-few (entry .args .left - 1) (entry .args .n / 10), at-put-digits .kept .1 .1 .0)
 
 put-digits-add-result-2 : (t : ℕ) → put-digits-lts.Need-add-result-2 (
   put-digits-below t,
   put-digits.Post,
 ) (put-digits-at t) put-digits.Post
-put-digits-add-result-2 t c = omega (arith, c .before .before .put-digits .ensures .0, digits-few (c .before .before .before .before .before .before .before .args .left - 1) (c .before .before .before .before .before .before .before .args .n / 10))
+put-digits-add-result-2 t c =
+    let entry = c .before .before .before .before .before .before .before in
+    omega (arith, c .before .before .put-digits .ensures .0, digits-few (entry .args .left - 1) (entry .args .n / 10))
 
 put-digits-same-length-2 : (t : ℕ) → put-digits-lts.Need-same-length-2 (
   put-digits-below t,
@@ -118,7 +127,9 @@ put-digits-returns-3 : (t : ℕ) → put-digits-lts.Need-returns-3 (
   put-digits-below t,
   put-digits.Post,
 ) (put-digits-at t) put-digits.Post
-put-digits-returns-3 t c = digits-more (c .before .before .before .before .before .before .before .args .n) (c .before .before .before .before .before .before .before .args .left) (c .before .before .before .before .before .before .before .args .out .now) (c .before .before .before .before .before .before .before .args .at) _ _ (c .before .before .before .before .before .if1 .left) (c .before .before .before .before .if2 .left) (c .before .before .put-digits .ensures)
+put-digits-returns-3 t c =
+    let entry = c .before .before .before .before .before .before .before in
+    digits-more (entry .args .n) (entry .args .left) (entry .args .out .now) (entry .args .at) _ _ (c .before .before .before .before .before .if1 .left) (c .before .before .before .before .if2 .left) (c .before .before .put-digits .ensures)
 
 pub +put-digits-spec : {M : Type 1} → statement M
 +put-digits-spec = close μ-put-digits λ t. put-digits-lts.spec (

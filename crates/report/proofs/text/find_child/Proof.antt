@@ -46,7 +46,10 @@ add-t12 c = search needs
 
 -- src/text.rt:23:13
 returns-2 : tie.Need-returns-2 Inv-loop μ-loop
-returns-2 c = sym (c .before .before .before .before .loop .inv .1 ∙ child-here (c .before .before .before .before .before .args .spans .now) (c .before .before .before .before .before .args .x) (c .before .before .before .before .loop .k) (c .before .before .before .before .loop .here) (c .before .before .before .loop-test .taken) (c .before .before .if1 .left) (c .if2 .taken))
+returns-2 c =
+    let entry = c .before .before .before .before .before in
+    let at-loop = c .before .before .before .before .loop in
+    sym (at-loop .inv .1 ∙ child-here (entry .args .spans .now) (entry .args .x) (at-loop .k) (at-loop .here) (c .before .before .before .loop-test .taken) (c .before .before .if1 .left) (c .if2 .taken))
 
 -- src/text.rt:26:9
 add-k : tie.Need-add-k Inv-loop μ-loop
@@ -58,7 +61,10 @@ loop-less c = search needs
 
 -- src/text.rt:17:5
 loop-again : tie.Need-loop-again Inv-loop μ-loop
-loop-again c = (omega arith, c .before .before .before .before .loop .inv .1 ∙ child-next (c .before .before .before .before .before .args .spans .now) (c .before .before .before .before .before .args .x) (c .before .before .before .before .loop .k) (c .before .before .before .before .loop .here) (c .before .before .before .loop-test .taken) (c .before .before .if1 .left) (c .if2 .left))
+loop-again c =
+    let entry = c .before .before .before .before .before in
+    let at-loop = c .before .before .before .before .loop in
+    (omega arith, at-loop .inv .1 ∙ child-next (entry .args .spans .now) (entry .args .x) (at-loop .k) (at-loop .here) (c .before .before .before .loop-test .taken) (c .before .before .if1 .left) (c .if2 .left))
 
 -- src/text.rt:12:1
 returns-3 : tie.Need-returns-3 Inv-loop μ-loop

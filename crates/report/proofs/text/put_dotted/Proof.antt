@@ -34,7 +34,9 @@ same-length c = c .before .before .put-text .kept .1 .0
 
 -- src/text.rt:96:9
 returns : tie.Need-returns Inv-loop μ-loop
-returns c = path-root (c .before .before .before .before .before .before .before .before .args .path .now) _ _ _ _ (c .before .before .before .before .before .if1 .taken) (c .before .before .put-text .ensures)
+returns c =
+    let entry = c .before .before .before .before .before .before .before .before in
+    path-root (entry .args .path .now) _ _ _ _ (c .before .before .before .before .before .if1 .taken) (c .before .before .put-text .ensures)
 
 -- src/text.rt:98:31
 shared-slice-read-put-digits : tie.Need-shared-slice-read-put-digits Inv-loop μ-loop
@@ -54,7 +56,10 @@ loop-holds c = dots-begin _ _ _ (omega arith)
 
 -- src/text.rt:101:9
 slice-write-out : tie.Need-slice-write-out Inv-loop μ-loop
-slice-write-out c = omega (arith, c .before .loop .inv .room, c .before .loop .inv .long, digits-few 20 (getD (c .before .before .before .before .before .before .before .before .before .before .args .path .now) 0 0), c .before .before .before .before .put-digits .ensures .0, c .before .before .before .before .put-digits .kept .1 .1 .0)
+slice-write-out c =
+    let entry = c .before .before .before .before .before .before .before .before .before .before in
+    let at-put-digits = c .before .before .before .before .put-digits in
+    omega (arith, c .before .loop .inv .room, c .before .loop .inv .long, digits-few 20 (getD (entry .args .path .now) 0 0), at-put-digits .ensures .0, at-put-digits .kept .1 .1 .0)
 
 -- src/text.rt:102:27
 mul-put-digits : tie.Need-mul-put-digits Inv-loop μ-loop
@@ -66,15 +71,25 @@ shared-slice-read-put-digits-2 c = search needs
 
 -- src/text.rt:102:27
 cast-put-digits-2 : tie.Need-cast-put-digits-2 Inv-loop μ-loop
-cast-put-digits-2 c = omega (arith, c .before .before .before .before .before .before .before .shared-slice-known2 .given (c .before .before .loop .i))
+cast-put-digits-2 c =
+    let at-shared-slice-known2 = c .before .before .before .before .before .before .before .shared-slice-known2 in
+    omega (arith, at-shared-slice-known2 .given (c .before .before .loop .i))
 
 -- src/text.rt:102:54
 add-put-digits : tie.Need-add-put-digits Inv-loop μ-loop
-add-put-digits c = omega (arith, c .before .before .before .loop .inv .room, c .before .before .before .loop .inv .long, digits-few 20 (getD (c .before .before .before .before .before .before .before .before .before .before .before .before .args .path .now) 0 0), c .before .before .before .before .before .before .put-digits .ensures .0, c .before .before .before .before .before .before .put-digits .kept .1 .1 .0)
+add-put-digits c =
+    let entry = c .before .before .before .before .before .before .before .before .before .before .before .before in
+    let at-put-digits = c .before .before .before .before .before .before .put-digits in
+    let at-loop = c .before .before .before .loop in
+    omega (arith, at-loop .inv .room, at-loop .inv .long, digits-few 20 (getD (entry .args .path .now) 0 0), at-put-digits .ensures .0, at-put-digits .kept .1 .1 .0)
 
 -- src/text.rt:102:9
 put-digits-requires-2 : tie.Need-put-digits-requires-2 Inv-loop μ-loop
-put-digits-requires-2 c κs = omega (arith, c .before .before .before .loop .inv .room, c .before .before .before .loop .inv .long, digits-few 20 (getD (c .before .before .before .before .before .before .before .before .before .before .before .before .args .path .now) 0 0), c .before .before .before .before .before .before .put-digits .ensures .0, c .before .before .before .before .before .before .put-digits .kept .1 .1 .0, length-set {A = ℕ} (c .before .before .before .loop .out) (c .before .before .before .loop .here) 46)
+put-digits-requires-2 c κs =
+    let entry = c .before .before .before .before .before .before .before .before .before .before .before .before in
+    let at-put-digits = c .before .before .before .before .before .before .put-digits in
+    let at-loop = c .before .before .before .loop in
+    omega (arith, at-loop .inv .room, at-loop .inv .long, digits-few 20 (getD (entry .args .path .now) 0 0), at-put-digits .ensures .0, at-put-digits .kept .1 .1 .0, length-set {A = ℕ} (at-loop .out) (at-loop .here) 46)
 
 -- src/text.rt:103:9
 add-i : tie.Need-add-i Inv-loop μ-loop
@@ -86,7 +101,10 @@ loop-less c = search needs
 
 -- src/text.rt:100:5
 loop-again : tie.Need-loop-again Inv-loop μ-loop
-loop-again c = dots-next _ _ (c .before .before .before .before .before .before .loop .inv) (c .before .before .before .before .before .loop-test .taken) (c .before .before .put-digits2 .ensures .0) (c .before .before .put-digits2 .ensures .1)
+loop-again c =
+    let at-loop = c .before .before .before .before .before .before .loop in
+    let at-put-digits2 = c .before .before .put-digits2 in
+    dots-next _ _ (at-loop .inv) (c .before .before .before .before .before .loop-test .taken) (at-put-digits2 .ensures .0) (at-put-digits2 .ensures .1)
 
 -- src/text.rt:90:1
 same-length-2 : tie.Need-same-length-2 Inv-loop μ-loop
@@ -94,7 +112,9 @@ same-length-2 c = search needs
 
 -- src/text.rt:90:1
 returns-2 : tie.Need-returns-2 Inv-loop μ-loop
-returns-2 c = dots-end _ _ (c .before .loop .inv) (c .loop-test .left) (c .before .before .before .before .put-digits .ensures .0) (c .before .before .before .before .put-digits .ensures .1)
+returns-2 c =
+    let at-put-digits = c .before .before .before .before .put-digits in
+    dots-end _ _ (c .before .loop .inv) (c .loop-test .left) (at-put-digits .ensures .0) (at-put-digits .ensures .1)
 
 pub put-dotted-spec : {M : Type 1} → statement M
 put-dotted-spec =

@@ -73,7 +73,11 @@ loop-less c = search needs
 
 -- src/text.rt:39:5
 loop-again : tie.Need-loop-again Inv-loop μ-loop
-loop-again c = (omega arith, simp length-set (c .before .before .before .before .before .before .loop .inv .1), written-next _ _ (c .before .before .before .before .before .before .loop .inv .2) (place-next _ _ _ _ _ _ (c .before .before .before .before .before .loop-test .taken) (c .before .before .before .before .if1 .left) (sym (c .before .before .before .find-child .ensures) ∙ ap stepOf (c .before .i .given .1))), omega (arith, child-in (c .before .before .before .before .before .before .before .before .before .args .spans .now) (c .before .before .before .before .before .before .before .before .before .args .x) 4 (c .before .before .before .before .before .before .loop .at + 1) 1 _ _ (sym (c .before .before .before .find-child .ensures) ∙ ap stepOf (c .before .i .given .1))))
+loop-again c =
+    let entry = c .before .before .before .before .before .before .before .before .before in
+    let at-loop = c .before .before .before .before .before .before .loop in
+    let at-find-child = c .before .before .before .find-child in
+    (omega arith, simp length-set (at-loop .inv .1), written-next _ _ (at-loop .inv .2) (place-next _ _ _ _ _ _ (c .before .before .before .before .before .loop-test .taken) (c .before .before .before .before .if1 .left) (sym (at-find-child .ensures) ∙ ap stepOf (c .before .i .given .1))), omega (arith, child-in (entry .args .spans .now) (entry .args .x) 4 (at-loop .at + 1) 1 _ _ (sym (at-find-child .ensures) ∙ ap stepOf (c .before .i .given .1))))
 
 -- src/text.rt:32:1
 same-length-3 : tie.Need-same-length-3 Inv-loop μ-loop

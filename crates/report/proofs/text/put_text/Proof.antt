@@ -43,7 +43,10 @@ loop-less c = search needs
 
 -- src/text.rt:82:5
 loop-again : tie.Need-loop-again Inv-loop μ-loop
-loop-again c = (omega arith, simp length-set (c .before .before .loop .inv .1), c .before .before .loop .inv .2 ∙ text-next _ (c .before .before .before .args .text .now) (c .before .before .before .args .at) (c .before .before .loop .i) (c .before .loop-test .taken))
+loop-again c =
+    let entry = c .before .before .before in
+    let at-loop = c .before .before .loop in
+    (omega arith, simp length-set (at-loop .inv .1), at-loop .inv .2 ∙ text-next _ (entry .args .text .now) (entry .args .at) (at-loop .i) (c .before .loop-test .taken))
 
 -- src/text.rt:86:5
 add-result : tie.Need-add-result Inv-loop μ-loop
@@ -55,7 +58,9 @@ same-length c = c .before .loop .inv .1
 
 -- src/text.rt:76:1
 returns : tie.Need-returns Inv-loop μ-loop
-returns c = (omega arith, sym (c .before .loop .inv .2 ∙ text-end _ (c .before .before .args .text .now) (c .before .before .args .at) (c .before .loop .i) (c .loop-test .left)))
+returns c =
+    let entry = c .before .before in
+    (omega arith, sym (c .before .loop .inv .2 ∙ text-end _ (entry .args .text .now) (entry .args .at) (c .before .loop .i) (c .loop-test .left)))
 
 pub put-text-spec : {M : Type 1} → statement M
 put-text-spec =

@@ -34,13 +34,19 @@ shared-slice-read-words-2 : tie.Need-shared-slice-read-words-2 Inv-loop μ-loop
 shared-slice-read-words-2 c = search needs
 
 cast-words-2 : tie.Need-cast-words-2 Inv-loop μ-loop
-cast-words-2 c = omega (arith, c .before .shared-slice-known .given (c .before .before .before .loop .i), c .shared-slice-known2 .given (c .before .before .before .loop .i + 1))
+cast-words-2 c =
+    let at-loop = c .before .before .before .loop in
+    omega (arith, c .before .shared-slice-known .given (at-loop .i), c .shared-slice-known2 .given (at-loop .i + 1))
 
 mul-words : tie.Need-mul-words Inv-loop μ-loop
-mul-words c = omega (arith, c .before .shared-slice-known .given (c .before .before .before .loop .i), c .shared-slice-known2 .given (c .before .before .before .loop .i + 1))
+mul-words c =
+    let at-loop = c .before .before .before .loop in
+    omega (arith, c .before .shared-slice-known .given (at-loop .i), c .shared-slice-known2 .given (at-loop .i + 1))
 
 add-words-2 : tie.Need-add-words-2 Inv-loop μ-loop
-add-words-2 c = omega (arith, c .before .shared-slice-known .given (c .before .before .before .loop .i), c .shared-slice-known2 .given (c .before .before .before .loop .i + 1))
+add-words-2 c =
+    let at-loop = c .before .before .before .loop in
+    omega (arith, c .before .shared-slice-known .given (at-loop .i), c .shared-slice-known2 .given (at-loop .i + 1))
 
 mul-words-2 : tie.Need-mul-words-2 Inv-loop μ-loop
 mul-words-2 c = omega arith
@@ -58,7 +64,9 @@ loop-less : tie.Need-loop-less Inv-loop μ-loop
 loop-less c = omega arith
 
 loop-again : tie.Need-loop-again Inv-loop μ-loop
-loop-again c = (omega arith, omega arith, simp length-set (c .before .before .before .loop .inv .2), c .before .before .before .loop .inv .3 ∙ fill-next _ _ _ _ (c .before .before .loop-test .taken))
+loop-again c =
+    let at-loop = c .before .before .before .loop in
+    (omega arith, omega arith, simp length-set (at-loop .inv .2), at-loop .inv .3 ∙ fill-next _ _ _ _ (c .before .before .loop-test .taken))
 
 same-length : tie.Need-same-length Inv-loop μ-loop
 same-length c = c .before .loop .inv .2

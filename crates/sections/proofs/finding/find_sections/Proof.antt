@@ -40,10 +40,18 @@ returns : tie.Need-returns
 returns c = sym (sections-trailer _ (sym (c .before .before .before .trailer .ensures) ∙ c .before .reason .given .1))
 
 returns-2 : tie.Need-returns-2
-returns-2 c = sym (sections-good _ _ (sym (c .before .before .before .before .before .before .before .trailer .ensures) ∙ c .before .before .before .before .before .p .given .1) (ap (λ (n : ℕ). symbolsOf (take n (c .before .before .before .before .before .before .before .before .before .args .file .now))) (sym (sub-zero (c .before .before .before .before .before .p .given .0 .0 .shapes))) ∙ sym (c .before .before .test-symbols .ensures) ∙ c .enum-told .given .1))
+returns-2 c =
+    let entry = c .before .before .before .before .before .before .before .before .before in
+    let at-trailer = c .before .before .before .before .before .before .before .trailer in
+    let at-p = c .before .before .before .before .before .p in
+    sym (sections-good _ _ (sym (at-trailer .ensures) ∙ at-p .given .1) (ap (λ (n : ℕ). symbolsOf (take n (entry .args .file .now))) (sym (sub-zero (at-p .given .0 .0 .shapes))) ∙ sym (c .before .before .test-symbols .ensures) ∙ c .enum-told .given .1))
 
 returns-3 : tie.Need-returns-3
-returns-3 c = sym (sections-symbols _ _ (sym (c .before .before .before .before .before .before .before .before .trailer .ensures) ∙ c .before .before .before .before .before .before .p .given .1) (ap (λ (n : ℕ). symbolsOf (take n (c .before .before .before .before .before .before .before .before .before .before .args .file .now))) (sym (sub-zero (c .before .before .before .before .before .before .p .given .0 .0 .shapes))) ∙ sym (c .before .before .before .test-symbols .ensures) ∙ c .before .reason2 .given .1))
+returns-3 c =
+    let entry = c .before .before .before .before .before .before .before .before .before .before in
+    let at-trailer = c .before .before .before .before .before .before .before .before .trailer in
+    let at-p = c .before .before .before .before .before .before .p in
+    sym (sections-symbols _ _ (sym (at-trailer .ensures) ∙ at-p .given .1) (ap (λ (n : ℕ). symbolsOf (take n (entry .args .file .now))) (sym (sub-zero (at-p .given .0 .0 .shapes))) ∙ sym (c .before .before .before .test-symbols .ensures) ∙ c .before .reason2 .given .1))
 
 pub find-sections-spec : {M : Type 1} → statement M
 find-sections-spec =

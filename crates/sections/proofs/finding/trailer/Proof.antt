@@ -32,7 +32,9 @@ sub-t16 : tie.Need-sub-t16
 sub-t16 c = search needs
 
 returns-4 : tie.Need-returns-4
-returns-4 c = sym (trailer-second (c .before .before .before .before .before .before .before .args .file .now) (c .before .before .before .before .before .if1 .left) (c .before .before .before .before .if2 .left) (c .before .before .if3 .left) (c .if4 .taken))
+returns-4 c =
+    let entry = c .before .before .before .before .before .before .before in
+    sym (trailer-second (entry .args .file .now) (c .before .before .before .before .before .if1 .left) (c .before .before .before .before .if2 .left) (c .before .before .if3 .left) (c .if4 .taken))
 
 word-requires : tie.Need-word-requires
 word-requires c κs = search needs
@@ -53,7 +55,12 @@ distances-requires : tie.Need-distances-requires
 distances-requires c κs = search needs
 
 returns-5 : tie.Need-returns-5
-returns-5 c = c .distances .ensures ∙ sym (trailer-to (c .before .before .before .before .before .before .before .before .before .before .before .args .file .now) (c .before .before .before .before .before .before .before .before .before .if1 .left) (c .before .before .before .before .before .before .before .before .if2 .left) (c .before .before .before .before .before .before .if3 .left) (c .before .before .before .before .if4 .left) (c .before .before .before .word .ensures) (c .before .before .word2 .ensures) (c .before .word3 .ensures))
+returns-5 c =
+    let entry = c .before .before .before .before .before .before .before .before .before .before .before in
+    let at-if1 = c .before .before .before .before .before .before .before .before .before .if1 in
+    let at-if2 = c .before .before .before .before .before .before .before .before .if2 in
+    let at-if3 = c .before .before .before .before .before .before .if3 in
+    c .distances .ensures ∙ sym (trailer-to (entry .args .file .now) (at-if1 .left) (at-if2 .left) (at-if3 .left) (c .before .before .before .before .if4 .left) (c .before .before .before .word .ensures) (c .before .before .word2 .ensures) (c .before .word3 .ensures))
 
 pub trailer-spec : {M : Type 1} → statement M
 trailer-spec =

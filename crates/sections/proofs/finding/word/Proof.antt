@@ -17,13 +17,19 @@ shared-slice-read-result-2 : tie.Need-shared-slice-read-result-2
 shared-slice-read-result-2 c = search needs
 
 cast-result-2 : tie.Need-cast-result-2
-cast-result-2 c = omega (arith, c .before .shared-slice-known .given (c .before .before .args .at), c .shared-slice-known2 .given (c .before .before .args .at + 1))
+cast-result-2 c =
+    let entry = c .before .before in
+    omega (arith, c .before .shared-slice-known .given (entry .args .at), c .shared-slice-known2 .given (entry .args .at + 1))
 
 mul-result : tie.Need-mul-result
-mul-result c = omega (arith, c .before .shared-slice-known .given (c .before .before .args .at), c .shared-slice-known2 .given (c .before .before .args .at + 1))
+mul-result c =
+    let entry = c .before .before in
+    omega (arith, c .before .shared-slice-known .given (entry .args .at), c .shared-slice-known2 .given (entry .args .at + 1))
 
 add-result-2 : tie.Need-add-result-2
-add-result-2 c = omega (arith, c .before .shared-slice-known .given (c .before .before .args .at), c .shared-slice-known2 .given (c .before .before .args .at + 1))
+add-result-2 c =
+    let entry = c .before .before in
+    omega (arith, c .before .shared-slice-known .given (entry .args .at), c .shared-slice-known2 .given (entry .args .at + 1))
 
 returns : tie.Need-returns
 returns c = search needs

@@ -59,11 +59,15 @@ add-scratch-2 c = search needs
 
 -- src/keeping.rt:33:9
 mul-scratch-4 : tie.Need-mul-scratch-4 Inv-loop μ-loop
-mul-scratch-4 c = omega (arith, length-set (c .before .before .before .args .scratch .now) (c .before .before .before .args .m) (c .before .before .before .args .n))
+mul-scratch-4 c =
+    let entry = c .before .before .before in
+    omega (arith, length-set (entry .args .scratch .now) (entry .args .m) (entry .args .n))
 
 -- src/keeping.rt:33:9
 slice-write-scratch-2 : tie.Need-slice-write-scratch-2 Inv-loop μ-loop
-slice-write-scratch-2 c = omega (arith, length-set (c .before .before .before .args .scratch .now) (c .before .before .before .args .m) (c .before .before .before .args .n))
+slice-write-scratch-2 c =
+    let entry = c .before .before .before in
+    omega (arith, length-set (entry .args .scratch .now) (entry .args .m) (entry .args .n))
 
 -- src/keeping.rt:34:9
 add-i : tie.Need-add-i Inv-loop μ-loop
@@ -75,15 +79,21 @@ loop-less c = search needs
 
 -- src/keeping.rt:32:5
 loop-again : tie.Need-loop-again Inv-loop μ-loop
-loop-again c = let l = c .before .before .loop in (omega arith, length-set (l .scratch) (128 + 96 * c .before .before .before .args .m + l .i) _ ∙ l .inv .1, l .inv .2 ∙ store-next (l .scratch) (c .before .before .before .args .ws .now) (128 + 96 * c .before .before .before .args .m) (3 * c .before .before .before .args .n) (l .i) (c .before .loop-test .taken) (c .before .before .before .pre .3))
+loop-again c =
+    let entry = c .before .before .before in
+    let l = c .before .before .loop in (omega arith, length-set (l .scratch) (128 + 96 * entry .args .m + l .i) _ ∙ l .inv .1, l .inv .2 ∙ store-next (l .scratch) (entry .args .ws .now) (128 + 96 * entry .args .m) (3 * entry .args .n) (l .i) (c .before .loop-test .taken) (entry .pre .3))
 
 -- src/keeping.rt:26:1
 same-length : tie.Need-same-length Inv-loop μ-loop
-same-length c = c .before .loop .inv .1 ∙ length-set (c .before .before .args .scratch .now) (c .before .before .args .m) (c .before .before .args .n)
+same-length c =
+    let entry = c .before .before in
+    c .before .loop .inv .1 ∙ length-set (entry .args .scratch .now) (entry .args .m) (entry .args .n)
 
 -- src/keeping.rt:26:1
 returns : tie.Need-returns Inv-loop μ-loop
-returns c = let l = c .before .loop in sym (l .inv .2 ∙ store-end (l .scratch) (c .before .before .args .ws .now) (128 + 96 * c .before .before .args .m) (3 * c .before .before .args .n) (l .i) (c .loop-test .left))
+returns c =
+    let entry = c .before .before in
+    let l = c .before .loop in sym (l .inv .2 ∙ store-end (l .scratch) (entry .args .ws .now) (128 + 96 * entry .args .m) (3 * entry .args .n) (l .i) (c .loop-test .left))
 
 pub add-state-spec : {M : Type 1} → statement M
 add-state-spec =

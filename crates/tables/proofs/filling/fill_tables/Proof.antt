@@ -36,14 +36,18 @@ loop-less : tie.Need-loop-less Inv-loop μ-loop
 loop-less c = search needs
 
 loop-again : tie.Need-loop-again Inv-loop μ-loop
-loop-again c = let a = c .before .before .before .before .before .before .before .args in let l = c .before .before .loop in let h : 0 < 1280 - l .k = omega (arith, c .before .loop-test .taken) in let d : 1280 - l .k - 1 ≡ 1280 - (l .k + 1) = omega arith in
+loop-again c =
+    let entry = c .before .before .before .before .before .before .before in
+    let a = entry .args in let l = c .before .before .loop in let h : 0 < 1280 - l .k = omega (arith, c .before .loop-test .taken) in let d : 1280 - l .k - 1 ≡ 1280 - (l .k + 1) = omega arith in
     (omega arith, length-set (l .tab) (l .k) _ ∙ l .inv .1, l .inv .2 ∙ ap (sets (l .tab) (l .k)) (entries-next (a .arity .now) (a .words .now) (a .starts .now) (l .k) (1280 - l .k) h) ∙ rw (d, c .table-word .ensures, add-one (l .k)) refl)
 
 same-length : tie.Need-same-length Inv-loop μ-loop
 same-length c = search needs
 
 returns : tie.Need-returns Inv-loop μ-loop
-returns c = let a = c .before .before .before .before .before .before .args in let l = c .before .loop in sym (l .inv .2 ∙ ap (sets (l .tab) (l .k)) (entries-end (a .arity .now) (a .words .now) (a .starts .now) (l .k) (1280 - l .k) (omega (arith, c .loop-test .left))))
+returns c =
+    let entry = c .before .before .before .before .before .before in
+    let a = entry .args in let l = c .before .loop in sym (l .inv .2 ∙ ap (sets (l .tab) (l .k)) (entries-end (a .arity .now) (a .words .now) (a .starts .now) (l .k) (1280 - l .k) (omega (arith, c .loop-test .left))))
 
 pub fill-tables-spec : {M : Type 1} → statement M
 fill-tables-spec =

@@ -31,10 +31,15 @@ add-c : tie.Need-add-c Inv-loop μ-loop
 add-c c = search needs
 
 loop-holds : tie.Need-loop-holds Inv-loop μ-loop
-loop-holds c = (omega arith, omega arith, omega arith, ap (λ e. kidsFrom (c .before .before .before .args .arity .now) (c .before .before .before .args .words .now) (c .before .before .before .args .st) (c .before .before .before .args .r + e) 16 (c .before .before .before .args .r + 1) 0) (sym (c .span-at .ensures .0)), omega (arith, c .span-at .ensures .1))
+loop-holds c =
+    let entry = c .before .before .before in
+    (omega arith, omega arith, omega arith, ap (λ e. kidsFrom (entry .args .arity .now) (entry .args .words .now) (entry .args .st) (entry .args .r + e) 16 (entry .args .r + 1) 0) (sym (c .span-at .ensures .0)), omega (arith, c .span-at .ensures .1))
 
 returns : tie.Need-returns Inv-loop μ-loop
-returns c = (sym (c .before .before .loop .inv .3 ∙ kids-there (c .before .before .before .before .before .before .args .arity .now) (c .before .before .before .before .before .before .args .words .now) (c .before .before .before .before .before .before .args .st) _ (c .before .before .loop .left) (c .before .before .loop .c) (c .before .before .loop .mask) (c .if1 .taken)), c .before .before .loop .inv .2)
+returns c =
+    let entry = c .before .before .before .before .before .before in
+    let at-loop = c .before .before .loop in
+    (sym (at-loop .inv .3 ∙ kids-there (entry .args .arity .now) (entry .args .words .now) (entry .args .st) _ (at-loop .left) (at-loop .c) (at-loop .mask) (c .if1 .taken)), at-loop .inv .2)
 
 add-word-at : tie.Need-add-word-at Inv-loop μ-loop
 add-word-at c = search needs
@@ -46,7 +51,9 @@ shl-mask : tie.Need-shl-mask Inv-loop μ-loop
 shl-mask c = omega (arith, c .before .before .before .before .loop .inv .4, c .before .before .if1 .left)
 
 add-mask : tie.Need-add-mask Inv-loop μ-loop
-add-mask c = let k : c .before .before .before .before .loop .c < 32 = omega (arith, c .before .before .before .before .loop .inv .4, c .before .before .if1 .left) in let e = shl-exact 1 (c .before .before .before .before .loop .c) 64 (lit< tt) (omega arith) ∙ one-mul _ in let p : 2 ^ (c .before .before .before .before .loop .c) < 2 ^ 32 = pow-lt k in omega (arith, e, p, c .before .before .before .before .loop .inv .2)
+add-mask c =
+    let at-loop = c .before .before .before .before .loop in
+    let k : at-loop .c < 32 = omega (arith, at-loop .inv .4, c .before .before .if1 .left) in let e = shl-exact 1 (at-loop .c) 64 (lit< tt) (omega arith) ∙ one-mul _ in let p : 2 ^ (at-loop .c) < 2 ^ 32 = pow-lt k in omega (arith, e, p, at-loop .inv .2)
 
 add-span-at-2 : tie.Need-add-span-at-2 Inv-loop μ-loop
 add-span-at-2 c = search needs
@@ -64,16 +71,21 @@ loop-less : tie.Need-loop-less Inv-loop μ-loop
 loop-less c = search needs
 
 loop-again : tie.Need-loop-again Inv-loop μ-loop
-loop-again c = let a = c .before .before .before .before .before .before .before .before .before .args in let l = c .before .before .before .before .before .loop in let s = c .span-at2 .ensures in let i = l .inv in let v = c .before .before .word-at .ensures in
+loop-again c =
+    let entry = c .before .before .before .before .before .before .before .before .before in
+    let at-loop-test = c .before .before .before .before .loop-test in
+    let a = entry .args in let l = c .before .before .before .before .before .loop in let s = c .span-at2 .ensures in let i = l .inv in let v = c .before .before .word-at .ensures in
     let k : l .c < 32 = omega (arith, i .4, c .before .before .before .if1 .left) in
     let e = shl-exact 1 (l .c) 64 (lit< tt) (omega arith) ∙ one-mul _ in
     ⊎-elim
-    (λ w. (omega arith, omega (arith, s .1), omega (arith, w .1), rw (w .1, s .0, e) (i .3 ∙ kids-on (a .arity .now) (a .words .now) (a .st) _ (l .left) (l .c) (l .mask) (c .before .before .before .before .loop-test .taken) (omega arith) (rw v at (w .0 .taken))), i .4))
-    (λ w. (omega arith, omega (arith, s .1), omega (arith, w .1, i .2), rw (w .1, s .0) (i .3 ∙ kids-off (a .arity .now) (a .words .now) (a .st) _ (l .left) (l .c) (l .mask) (c .before .before .before .before .loop-test .taken) (omega arith) (rw v at (w .0 .left))), i .4))
+    (λ w. (omega arith, omega (arith, s .1), omega (arith, w .1), rw (w .1, s .0, e) (i .3 ∙ kids-on (a .arity .now) (a .words .now) (a .st) _ (l .left) (l .c) (l .mask) (at-loop-test .taken) (omega arith) (rw v at (w .0 .taken))), i .4))
+    (λ w. (omega arith, omega (arith, s .1), omega (arith, w .1, i .2), rw (w .1, s .0) (i .3 ∙ kids-off (a .arity .now) (a .words .now) (a .st) _ (l .left) (l .c) (l .mask) (at-loop-test .taken) (omega arith) (rw v at (w .0 .left))), i .4))
     (c .before .if2 .came)
 
 returns-2 : tie.Need-returns-2 Inv-loop μ-loop
-returns-2 c = (sym (c .before .loop .inv .3 ∙ kids-end (c .before .before .before .before .before .args .arity .now) (c .before .before .before .before .before .args .words .now) (c .before .before .before .before .before .args .st) _ (c .before .loop .left) (c .before .loop .c) (c .before .loop .mask) (c .loop-test .left)), c .before .loop .inv .2)
+returns-2 c =
+    let entry = c .before .before .before .before .before in
+    (sym (c .before .loop .inv .3 ∙ kids-end (entry .args .arity .now) (entry .args .words .now) (entry .args .st) _ (c .before .loop .left) (c .before .loop .c) (c .before .loop .mask) (c .loop-test .left)), c .before .loop .inv .2)
 
 pub kids-at-spec : {M : Type 1} → statement M
 kids-at-spec =

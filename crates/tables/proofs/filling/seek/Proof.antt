@@ -19,7 +19,10 @@ loop-holds : tie.Need-loop-holds Inv-loop μ-loop
 loop-holds c = (omega arith, omega arith, omega arith, refl)
 
 returns : tie.Need-returns Inv-loop μ-loop
-returns c = (sym (c .before .before .loop .inv .3 ∙ seek-there (c .before .before .before .before .before .args .arity .now) (c .before .before .before .before .before .args .words .now) (c .before .before .before .before .before .args .st) (c .before .before .before .before .before .args .r) (c .before .before .before .before .before .args .one) (c .before .before .loop .left) (c .before .before .loop .c) (c .before .before .loop .here) (c .if1 .taken)), c .before .before .loop .inv .2)
+returns c =
+    let entry = c .before .before .before .before .before in
+    let at-loop = c .before .before .loop in
+    (sym (at-loop .inv .3 ∙ seek-there (entry .args .arity .now) (entry .args .words .now) (entry .args .st) (entry .args .r) (entry .args .one) (at-loop .left) (at-loop .c) (at-loop .here) (c .if1 .taken)), at-loop .inv .2)
 
 add-span-at : tie.Need-add-span-at Inv-loop μ-loop
 add-span-at c = search needs
@@ -52,14 +55,19 @@ loop-less : tie.Need-loop-less Inv-loop μ-loop
 loop-less c = search needs
 
 loop-again : tie.Need-loop-again Inv-loop μ-loop
-loop-again c = let a = c .before .before .before .before .before .before .before .args in let l = c .before .before .before .before .loop in let s = c .before .span-at .ensures in let i = l .inv in
+loop-again c =
+    let entry = c .before .before .before .before .before .before .before in
+    let at-loop-test = c .before .before .before .loop-test in
+    let a = entry .args in let l = c .before .before .before .before .loop in let s = c .before .span-at .ensures in let i = l .inv in
     ⊎-elim
-    (λ w. (omega arith, omega (arith, w .1), omega (arith, w .2), rw (w .1, w .2) (i .3 ∙ seek-down (a .arity .now) (a .words .now) (a .st) (a .r) (a .one) (l .left) (l .c) (l .here) (c .before .before .before .loop-test .taken) (omega arith) (omega (arith, s .0, w .0 .taken)))))
-    (λ w. (omega arith, omega (arith, w .1, s .1), omega (arith, w .2), rw (w .1, w .2, s .0) (i .3 ∙ seek-on (a .arity .now) (a .words .now) (a .st) (a .r) (a .one) (l .left) (l .c) (l .here) (c .before .before .before .loop-test .taken) (omega arith) (omega (arith, s .0, w .0 .left)))))
+    (λ w. (omega arith, omega (arith, w .1), omega (arith, w .2), rw (w .1, w .2) (i .3 ∙ seek-down (a .arity .now) (a .words .now) (a .st) (a .r) (a .one) (l .left) (l .c) (l .here) (at-loop-test .taken) (omega arith) (omega (arith, s .0, w .0 .taken)))))
+    (λ w. (omega arith, omega (arith, w .1, s .1), omega (arith, w .2), rw (w .1, w .2, s .0) (i .3 ∙ seek-on (a .arity .now) (a .words .now) (a .st) (a .r) (a .one) (l .left) (l .c) (l .here) (at-loop-test .taken) (omega arith) (omega (arith, s .0, w .0 .left)))))
     (c .if2 .came)
 
 returns-2 : tie.Need-returns-2 Inv-loop μ-loop
-returns-2 c = (sym (c .before .loop .inv .3 ∙ seek-end (c .before .before .before .before .args .arity .now) (c .before .before .before .before .args .words .now) (c .before .before .before .before .args .st) (c .before .before .before .before .args .r) (c .before .before .before .before .args .one) (c .before .loop .left) (c .before .loop .c) (c .before .loop .here) (c .loop-test .left)), c .before .loop .inv .2)
+returns-2 c =
+    let entry = c .before .before .before .before in
+    (sym (c .before .loop .inv .3 ∙ seek-end (entry .args .arity .now) (entry .args .words .now) (entry .args .st) (entry .args .r) (entry .args .one) (c .before .loop .left) (c .before .loop .c) (c .before .loop .here) (c .loop-test .left)), c .before .loop .inv .2)
 
 pub seek-spec : {M : Type 1} → statement M
 seek-spec =

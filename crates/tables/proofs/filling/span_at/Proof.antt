@@ -21,8 +21,11 @@ sub-result : tie.Need-sub-result Inv-loop μ-loop
 sub-result c = search needs
 
 returns : tie.Need-returns Inv-loop μ-loop
-returns c = let e = span-none (c .before .before .before .before .before .args .arity .now) (c .before .before .before .before .before .args .words .now) (c .before .before .loop .left) (c .before .before .loop .here) (c .before .before .loop .need) (c .if1 .taken) in
-    let i = c .before .before .loop .inv in (omega (arith, e, i .3, i .1), omega (arith, i .0, i .1))
+returns c =
+    let entry = c .before .before .before .before .before in
+    let at-loop = c .before .before .loop in
+    let e = span-none (entry .args .arity .now) (entry .args .words .now) (at-loop .left) (at-loop .here) (at-loop .need) (c .if1 .taken) in
+    let i = at-loop .inv in (omega (arith, e, i .3, i .1), omega (arith, i .0, i .1))
 
 word-at-requires : tie.Need-word-at-requires Inv-loop μ-loop
 word-at-requires c κs = search needs
@@ -46,7 +49,9 @@ loop-less : tie.Need-loop-less Inv-loop μ-loop
 loop-less c = search needs
 
 loop-again : tie.Need-loop-again Inv-loop μ-loop
-loop-again c = let a = c .before .before .before .before .before .before .before .args in let l = c .before .before .before .before .loop in let e = span-next (a .arity .now) (a .words .now) (l .left) (l .here) (l .need) (c .before .before .before .loop-test .taken) (c .before .before .if1 .left) in
+loop-again c =
+    let entry = c .before .before .before .before .before .before .before in
+    let a = entry .args in let l = c .before .before .before .before .loop in let e = span-next (a .arity .now) (a .words .now) (l .left) (l .here) (l .need) (c .before .before .before .loop-test .taken) (c .before .before .if1 .left) in
     let i = l .inv in
     let d = ap (λ z. spanFrom (a .arity .now) (a .words .now) (l .left - 1) (l .here + 1) (l .need - 1 + z)) (c .arity-of .ensures .0 ∙ ap (λ w. getD (a .arity .now) w 0) (c .before .word-at .ensures)) in
     let s = c .arity-of .ensures .1 in
@@ -56,7 +61,9 @@ sub-result-2 : tie.Need-sub-result-2 Inv-loop μ-loop
 sub-result-2 c = search needs
 
 returns-2 : tie.Need-returns-2 Inv-loop μ-loop
-returns-2 c = let e = span-end (c .before .before .before .before .args .arity .now) (c .before .before .before .before .args .words .now) (c .before .loop .left) (c .before .loop .here) (c .before .loop .need) (c .loop-test .left) in
+returns-2 c =
+    let entry = c .before .before .before .before in
+    let e = span-end (entry .args .arity .now) (entry .args .words .now) (c .before .loop .left) (c .before .loop .here) (c .before .loop .need) (c .loop-test .left) in
     let i = c .before .loop .inv in (omega (arith, e, i .3, i .1), omega (arith, i .0, i .1))
 
 pub span-at-spec : {M : Type 1} → statement M

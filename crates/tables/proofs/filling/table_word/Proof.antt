@@ -21,16 +21,24 @@ span-at-requires : tie.Need-span-at-requires
 span-at-requires c κs = omega (arith, c .shared-slice-known4 .given (c .before .before .before .before .before .args .k / 16 % 16) .fits)
 
 node-word-requires : tie.Need-node-word-requires
-node-word-requires c κs = omega (arith, c .before .before .shared-slice-known4 .given (c .before .before .before .before .before .before .before .args .k / 16 % 16) .fits)
+node-word-requires c κs =
+    let entry = c .before .before .before .before .before .before .before in
+    omega (arith, c .before .before .shared-slice-known4 .given (entry .args .k / 16 % 16) .fits)
 
 returns : tie.Need-returns
-returns c = c .node-word .ensures ∙ sym (entry-in (c .before .before .before .before .before .before .before .before .args .arity .now) (c .before .before .before .before .before .before .before .before .args .words .now) (c .before .before .before .before .before .before .before .before .args .starts .now) (c .before .before .before .before .before .before .before .before .args .k) (c .before .before .before .before .if1 .taken) (omega (arith, c .before .if2 .taken, c .before .before .span-at .ensures .0)))
+returns c =
+    let entry = c .before .before .before .before .before .before .before .before in
+    c .node-word .ensures ∙ sym (entry-in (entry .args .arity .now) (entry .args .words .now) (entry .args .starts .now) (entry .args .k) (c .before .before .before .before .if1 .taken) (omega (arith, c .before .if2 .taken, c .before .before .span-at .ensures .0)))
 
 returns-2 : tie.Need-returns-2
-returns-2 c = sym (entry-past (c .before .before .before .before .before .before .before .args .arity .now) (c .before .before .before .before .before .before .before .args .words .now) (c .before .before .before .before .before .before .before .args .starts .now) (c .before .before .before .before .before .before .before .args .k) (c .before .before .before .if1 .taken) (omega (arith, c .if2 .left, c .before .span-at .ensures .0)))
+returns-2 c =
+    let entry = c .before .before .before .before .before .before .before in
+    sym (entry-past (entry .args .arity .now) (entry .args .words .now) (entry .args .starts .now) (entry .args .k) (c .before .before .before .if1 .taken) (omega (arith, c .if2 .left, c .before .span-at .ensures .0)))
 
 returns-3 : tie.Need-returns-3
-returns-3 c = sym (entry-none (c .before .before .before .before .args .arity .now) (c .before .before .before .before .args .words .now) (c .before .before .before .before .args .starts .now) (c .before .before .before .before .args .k) (c .if1 .left))
+returns-3 c =
+    let entry = c .before .before .before .before in
+    sym (entry-none (entry .args .arity .now) (entry .args .words .now) (entry .args .starts .now) (entry .args .k) (c .if1 .left))
 
 pub table-word-spec : {M : Type 1} → statement M
 table-word-spec =

@@ -11,7 +11,9 @@ shared-slice-read-result : tie.Need-shared-slice-read-result
 shared-slice-read-result c = search needs
 
 returns : tie.Need-returns
-returns c = in-any (c .before .before .args .words .now) (c .before .before .args .i) 0 65535 (c .before .if1 .taken)
+returns c =
+    let entry = c .before .before in
+    in-any (entry .args .words .now) (entry .args .i) 0 65535 (c .before .if1 .taken)
 
 returns-2 : tie.Need-returns-2
 returns-2 c = sym (past (c .before .args .words .now) (c .before .args .i) 65535 (c .if1 .left))

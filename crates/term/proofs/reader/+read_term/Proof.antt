@@ -124,7 +124,9 @@ read-term-returns-3 : (t : ℕ) → read-term-lts.Need-returns-3 (
   read-term-below t,
   read-term.Post,
 ) (read-term-at t) read-term.Post read-term-Inv-loop read-term-μ-loop
-read-term-returns-3 t c = sym (c .before .before .before .before .before .loop .inv .1 ∙ kids-stop _ _ _ (met (c .before .before .before .before .before .loop .here)) (c .before .before .before .before .loop-test .taken) (sym (c .before .before .before .read-term .ensures) ∙ c .before .f2 .given .1))
+read-term-returns-3 t c =
+    let at-loop = c .before .before .before .before .before .loop in
+    sym (at-loop .inv .1 ∙ kids-stop _ _ _ (met (at-loop .here)) (c .before .before .before .before .loop-test .taken) (sym (c .before .before .before .read-term .ensures) ∙ c .before .f2 .given .1))
 
 read-term-add-k : (t : ℕ) → read-term-lts.Need-add-k (
   head-reads.Asked,
@@ -148,7 +150,9 @@ read-term-loop-again : (t : ℕ) → read-term-lts.Need-loop-again (
   read-term-below t,
   read-term.Post,
 ) (read-term-at t) read-term.Post read-term-Inv-loop read-term-μ-loop
-read-term-loop-again t c = (omega arith, c .before .before .before .before .before .loop .inv .1 ∙ kids-next _ _ _ (met (c .before .before .before .before .before .loop .here)) (c .before .before .before .before .loop-test .taken) (sym (c .before .before .before .read-term .ensures) ∙ c .before .m .given .1))
+read-term-loop-again t c =
+    let at-loop = c .before .before .before .before .before .loop in
+    (omega arith, at-loop .inv .1 ∙ kids-next _ _ _ (met (at-loop .here)) (c .before .before .before .before .loop-test .taken) (sym (c .before .before .before .read-term .ensures) ∙ c .before .m .given .1))
 
 read-term-returns-4 : (t : ℕ) → read-term-lts.Need-returns-4 (
   head-reads.Asked,

@@ -16,10 +16,14 @@ abbrev μ-loop : tie.MeasureT-loop
 μ-loop arity words spans i₀ i = i
 
 returns : tie.Need-returns Inv-loop μ-loop
-returns c = sym (same-lengths (c .before .before .before .before .args .spans .now) (spansOf (c .before .before .before .before .args .arity .now) (c .before .before .before .before .args .words .now)) (λ h. c .if1 .taken (h ∙ length-spans (c .before .before .before .before .args .arity .now) (c .before .before .before .before .args .words .now))))
+returns c =
+    let entry = c .before .before .before .before in
+    sym (same-lengths (entry .args .spans .now) (spansOf (entry .args .arity .now) (entry .args .words .now)) (λ h. c .if1 .taken (h ∙ length-spans (entry .args .arity .now) (entry .args .words .now))))
 
 loop-holds : tie.Need-loop-holds Inv-loop μ-loop
-loop-holds c = (omega arith, check-start (c .before .before .before .before .args .arity .now) (c .before .before .before .before .args .words .now) (c .before .before .before .before .args .spans .now) (c .if1 .left))
+loop-holds c =
+    let entry = c .before .before .before .before in
+    (omega arith, check-start (entry .args .arity .now) (entry .args .words .now) (entry .args .spans .now) (c .if1 .left))
 
 sub-i : tie.Need-sub-i Inv-loop μ-loop
 sub-i c = search needs
@@ -52,23 +56,35 @@ sub-if2 : tie.Need-sub-if2 Inv-loop μ-loop
 sub-if2 c = search needs
 
 returns-2 : tie.Need-returns-2 Inv-loop μ-loop
-returns-2 c = let a = c .before .before .before .before .before .before .before .before .before .before .before .args in
-    let q : c .before .before .before .before .before .before .loop .i ≡ c .before .before .before .before .before .before .loop .i - 1 + 1 = omega arith in
-    let en : drop (c .before .before .before .before .before .before .loop .i - 1 + 1) (a .spans .now) ≡ spansOf (a .arity .now) (drop (c .before .before .before .before .before .before .loop .i - 1 + 1) (a .words .now)) = rw (← q) (c .before .before .before .before .before .before .loop .inv .1) in
-    sym (check-stop (a .arity .now) (a .words .now) (a .spans .now) (c .before .before .before .before .before .before .loop .i - 1) (c .before .before .skip .result) (omega arith) (c .before .before .before .before .before .before .before .if1 .left) en _ (c .before .before .before .count .ensures) (c .before .before .skip .ensures) (c .if2 .taken))
+returns-2 c =
+    let entry = c .before .before .before .before .before .before .before .before .before .before .before in
+    let at-if1 = c .before .before .before .before .before .before .before .if1 in
+    let at-loop = c .before .before .before .before .before .before .loop in
+    let at-skip = c .before .before .skip in
+    let a = entry .args in
+    let q : at-loop .i ≡ at-loop .i - 1 + 1 = omega arith in
+    let en : drop (at-loop .i - 1 + 1) (a .spans .now) ≡ spansOf (a .arity .now) (drop (at-loop .i - 1 + 1) (a .words .now)) = rw (← q) (at-loop .inv .1) in
+    sym (check-stop (a .arity .now) (a .words .now) (a .spans .now) (at-loop .i - 1) (at-skip .result) (omega arith) (at-if1 .left) en _ (c .before .before .before .count .ensures) (at-skip .ensures) (c .if2 .taken))
 
 loop-less : tie.Need-loop-less Inv-loop μ-loop
 loop-less c = search needs
 
 loop-again : tie.Need-loop-again Inv-loop μ-loop
-loop-again c = let a = c .before .before .before .before .before .before .before .before .before .before .before .args in
-    let q : c .before .before .before .before .before .before .loop .i ≡ c .before .before .before .before .before .before .loop .i - 1 + 1 = omega arith in
-    let en : drop (c .before .before .before .before .before .before .loop .i - 1 + 1) (a .spans .now) ≡ spansOf (a .arity .now) (drop (c .before .before .before .before .before .before .loop .i - 1 + 1) (a .words .now)) = rw (← q) (c .before .before .before .before .before .before .loop .inv .1) in
-    (omega arith, check-next (a .arity .now) (a .words .now) (a .spans .now) (c .before .before .before .before .before .before .loop .i - 1) (c .before .before .skip .result) (omega arith) (c .before .before .before .before .before .before .before .if1 .left) en _ (c .before .before .before .count .ensures) (c .before .before .skip .ensures) (c .if2 .left))
+loop-again c =
+    let entry = c .before .before .before .before .before .before .before .before .before .before .before in
+    let at-if1 = c .before .before .before .before .before .before .before .if1 in
+    let at-loop = c .before .before .before .before .before .before .loop in
+    let at-skip = c .before .before .skip in
+    let a = entry .args in
+    let q : at-loop .i ≡ at-loop .i - 1 + 1 = omega arith in
+    let en : drop (at-loop .i - 1 + 1) (a .spans .now) ≡ spansOf (a .arity .now) (drop (at-loop .i - 1 + 1) (a .words .now)) = rw (← q) (at-loop .inv .1) in
+    (omega arith, check-next (a .arity .now) (a .words .now) (a .spans .now) (at-loop .i - 1) (at-skip .result) (omega arith) (at-if1 .left) en _ (c .before .before .before .count .ensures) (at-skip .ensures) (c .if2 .left))
 
 returns-3 : tie.Need-returns-3 Inv-loop μ-loop
-returns-3 c = let z : c .before .loop .i ≡ 0 = omega arith in
-    let en : c .before .before .before .before .before .before .args .spans .now ≡ spansOf (c .before .before .before .before .before .before .args .arity .now) (c .before .before .before .before .before .before .args .words .now) = rw z at (c .before .loop .inv .1) in
+returns-3 c =
+    let entry = c .before .before .before .before .before .before in
+    let z : c .before .loop .i ≡ 0 = omega arith in
+    let en : entry .args .spans .now ≡ spansOf (entry .args .arity .now) (entry .args .words .now) = rw z at (c .before .loop .inv .1) in
     sym (same-yes en)
 
 pub spans-are-spec : {M : Type 1} → statement M

@@ -6,73 +6,119 @@ use Rattle.walk.proofs.stepping.advance.Statement.{statement}
 use Rattle.walk.proofs.stepping.advance.Tie as tie
 
 mul-outs : tie.Need-mul-outs
-mul-outs c = omega (arith, law.sight-block _ _ _ _ _ _ _ _ (law.sighted-is _ _ _ _ _ _ _ _ (c .before .before .before .before .before .before .pre .0)))
+mul-outs c =
+    let entry = c .before .before .before .before .before .before in
+    omega (arith, law.sight-block _ _ _ _ _ _ _ _ (law.sighted-is _ _ _ _ _ _ _ _ (entry .pre .0)))
 
 shared-slice-read-outs : tie.Need-shared-slice-read-outs
-shared-slice-read-outs c = omega (arith, law.sight-block _ _ _ _ _ _ _ _ (law.sighted-is _ _ _ _ _ _ _ _ (c .before .before .before .before .before .before .before .pre .0)))
+shared-slice-read-outs c =
+    let entry = c .before .before .before .before .before .before .before in
+    omega (arith, law.sight-block _ _ _ _ _ _ _ _ (law.sighted-is _ _ _ _ _ _ _ _ (entry .pre .0)))
 
 cast-outs : tie.Need-cast-outs
-cast-outs c = omega (arith, c .before .before .before .before .before .before .shared-slice-known .given (c .before .before .before .before .before .before .before .args .at .block))
+cast-outs c =
+    let entry = c .before .before .before .before .before .before .before in
+    let at-shared-slice-known = c .before .before .before .before .before .before .shared-slice-known in
+    omega (arith, at-shared-slice-known .given (entry .args .at .block))
 
 add-mid : tie.Need-add-mid
-add-mid c = omega (arith, law.sight-block _ _ _ _ _ _ _ _ (law.sighted-is _ _ _ _ _ _ _ _ (c .before .before .before .before .before .before .before .pre .0)))
+add-mid c =
+    let entry = c .before .before .before .before .before .before .before in
+    omega (arith, law.sight-block _ _ _ _ _ _ _ _ (law.sighted-is _ _ _ _ _ _ _ _ (entry .pre .0)))
 
 mul-mid : tie.Need-mul-mid
-mul-mid c = omega (arith, law.sight-block _ _ _ _ _ _ _ _ (law.sighted-is _ _ _ _ _ _ _ _ (c .before .before .before .before .before .before .before .pre .0)))
+mul-mid c =
+    let entry = c .before .before .before .before .before .before .before in
+    omega (arith, law.sight-block _ _ _ _ _ _ _ _ (law.sighted-is _ _ _ _ _ _ _ _ (entry .pre .0)))
 
 add-mid-2 : tie.Need-add-mid-2
-add-mid-2 c = omega (arith, law.sight-block _ _ _ _ _ _ _ _ (law.sighted-is _ _ _ _ _ _ _ _ (c .before .before .before .before .before .before .before .pre .0)))
+add-mid-2 c =
+    let entry = c .before .before .before .before .before .before .before in
+    omega (arith, law.sight-block _ _ _ _ _ _ _ _ (law.sighted-is _ _ _ _ _ _ _ _ (entry .pre .0)))
 
 mul-nexts : tie.Need-mul-nexts
-mul-nexts c = omega (arith, law.sight-block _ _ _ _ _ _ _ _ (law.sighted-is _ _ _ _ _ _ _ _ (c .before .before .before .before .before .before .before .pre .0)))
+mul-nexts c =
+    let entry = c .before .before .before .before .before .before .before in
+    omega (arith, law.sight-block _ _ _ _ _ _ _ _ (law.sighted-is _ _ _ _ _ _ _ _ (entry .pre .0)))
 
 shared-slice-read-nexts : tie.Need-shared-slice-read-nexts
-shared-slice-read-nexts c = omega (arith, law.sight-block _ _ _ _ _ _ _ _ (law.sighted-is _ _ _ _ _ _ _ _ (c .before .before .before .before .before .before .before .before .pre .0)))
+shared-slice-read-nexts c =
+    let entry = c .before .before .before .before .before .before .before .before in
+    omega (arith, law.sight-block _ _ _ _ _ _ _ _ (law.sighted-is _ _ _ _ _ _ _ _ (entry .pre .0)))
 
 cast-nexts : tie.Need-cast-nexts
-cast-nexts c = omega (arith, c .before .before .before .before .before .before .before .shared-slice-known .given (middle (c .before .before .before .before .before .before .before .before .args .plan .now) (c .before .before .before .before .before .before .before .before .args .at .block)))
+cast-nexts c =
+    let entry = c .before .before .before .before .before .before .before .before in
+    let at-shared-slice-known = c .before .before .before .before .before .before .before .shared-slice-known in
+    omega (arith, at-shared-slice-known .given (middle (entry .args .plan .now) (entry .args .at .block)))
 
 sub-append-pairs : tie.Need-sub-append-pairs
 sub-append-pairs c = search needs
 
 add-append-pairs : tie.Need-add-append-pairs
-add-append-pairs c = omega (arith, law.sighted-is _ _ _ _ _ _ _ _ (c .before .before .before .before .before .before .before .before .pre .0) .room)
+add-append-pairs c =
+    let entry = c .before .before .before .before .before .before .before .before in
+    omega (arith, law.sighted-is _ _ _ _ _ _ _ _ (entry .pre .0) .room)
 
 add-mark-pairs : tie.Need-add-mark-pairs
-add-mark-pairs c = omega (arith, law.sighted-is _ _ _ _ _ _ _ _ (c .before .before .before .before .before .before .before .before .pre .0) .log-room)
+add-mark-pairs c =
+    let entry = c .before .before .before .before .before .before .before .before in
+    omega (arith, law.sighted-is _ _ _ _ _ _ _ _ (entry .pre .0) .log-room)
 
 mul-log : tie.Need-mul-log
-mul-log c = omega (arith, law.sighted-is _ _ _ _ _ _ _ _ (c .before .before .before .before .before .before .before .before .before .before .pre .0) .log-room)
+mul-log c =
+    let entry = c .before .before .before .before .before .before .before .before .before .before in
+    omega (arith, law.sighted-is _ _ _ _ _ _ _ _ (entry .pre .0) .log-room)
 
 slice-write-log : tie.Need-slice-write-log
-slice-write-log c = omega (arith, law.sighted-is _ _ _ _ _ _ _ _ (c .before .before .before .before .before .before .before .before .before .before .pre .0) .log-room)
+slice-write-log c =
+    let entry = c .before .before .before .before .before .before .before .before .before .before in
+    omega (arith, law.sighted-is _ _ _ _ _ _ _ _ (entry .pre .0) .log-room)
 
 add-mark-pairs-2 : tie.Need-add-mark-pairs-2
-add-mark-pairs-2 c = omega (arith, law.sight-block _ _ _ _ _ _ _ _ (law.sighted-is _ _ _ _ _ _ _ _ (c .before .before .before .before .before .before .before .before .before .before .before .pre .0)))
+add-mark-pairs-2 c =
+    let entry = c .before .before .before .before .before .before .before .before .before .before .before in
+    omega (arith, law.sight-block _ _ _ _ _ _ _ _ (law.sighted-is _ _ _ _ _ _ _ _ (entry .pre .0)))
 
 mark-pairs-requires : tie.Need-mark-pairs-requires
-mark-pairs-requires c κs = (omega (arith, law.sight-block _ _ _ _ _ _ _ _ (law.sighted-is _ _ _ _ _ _ _ _ (c .before .before .before .before .before .before .before .before .before .before .before .pre .0))), law.sight-outs _ _ _ _ _ _ _ _ (law.sighted-is _ _ _ _ _ _ _ _ (c .before .before .before .before .before .before .before .before .before .before .before .pre .0)))
+mark-pairs-requires c κs =
+    let entry = c .before .before .before .before .before .before .before .before .before .before .before in
+    (omega (arith, law.sight-block _ _ _ _ _ _ _ _ (law.sighted-is _ _ _ _ _ _ _ _ (entry .pre .0))), law.sight-outs _ _ _ _ _ _ _ _ (law.sighted-is _ _ _ _ _ _ _ _ (entry .pre .0)))
 
 mul-close-up : tie.Need-mul-close-up
-mul-close-up c = omega (arith, law.sighted-is _ _ _ _ _ _ _ _ (c .before .before .before .before .before .before .before .before .before .before .before .before .before .before .before .pre .0) .fits)
+mul-close-up c =
+    let entry = c .before .before .before .before .before .before .before .before .before .before .before .before .before .before .before in
+    omega (arith, law.sighted-is _ _ _ _ _ _ _ _ (entry .pre .0) .fits)
 
 mul-close-up-2 : tie.Need-mul-close-up-2
-mul-close-up-2 c = omega (arith, law.sighted-is _ _ _ _ _ _ _ _ (c .before .before .before .before .before .before .before .before .before .before .before .before .before .before .before .pre .0) .fits)
+mul-close-up-2 c =
+    let entry = c .before .before .before .before .before .before .before .before .before .before .before .before .before .before .before in
+    omega (arith, law.sighted-is _ _ _ _ _ _ _ _ (entry .pre .0) .fits)
 
 close-up-requires : tie.Need-close-up-requires
-close-up-requires c κs = omega (arith, law.sighted-is _ _ _ _ _ _ _ _ (c .before .before .before .before .before .before .before .before .before .before .before .before .before .before .before .pre .0) .fits)
+close-up-requires c κs =
+    let entry = c .before .before .before .before .before .before .before .before .before .before .before .before .before .before .before in
+    omega (arith, law.sighted-is _ _ _ _ _ _ _ _ (entry .pre .0) .fits)
 
 add-append-pairs-2 : tie.Need-add-append-pairs-2
-add-append-pairs-2 c = omega (arith, law.sight-block _ _ _ _ _ _ _ _ (law.sighted-is _ _ _ _ _ _ _ _ (c .before .before .before .before .before .before .before .before .before .before .before .before .before .before .before .before .before .before .before .pre .0)))
+add-append-pairs-2 c =
+    let entry = c .before .before .before .before .before .before .before .before .before .before .before .before .before .before .before .before .before .before .before in
+    omega (arith, law.sight-block _ _ _ _ _ _ _ _ (law.sighted-is _ _ _ _ _ _ _ _ (entry .pre .0)))
 
 mul-append-pairs : tie.Need-mul-append-pairs
-mul-append-pairs c = omega (arith, law.sighted-is _ _ _ _ _ _ _ _ (c .before .before .before .before .before .before .before .before .before .before .before .before .before .before .before .before .before .before .before .pre .0) .fits)
+mul-append-pairs c =
+    let entry = c .before .before .before .before .before .before .before .before .before .before .before .before .before .before .before .before .before .before .before in
+    omega (arith, law.sighted-is _ _ _ _ _ _ _ _ (entry .pre .0) .fits)
 
 sub-append-pairs-2 : tie.Need-sub-append-pairs-2
-sub-append-pairs-2 c = omega (arith, law.sighted-is _ _ _ _ _ _ _ _ (c .before .before .before .before .before .before .before .before .before .before .before .before .before .before .before .before .before .before .before .pre .0) .fits)
+sub-append-pairs-2 c =
+    let entry = c .before .before .before .before .before .before .before .before .before .before .before .before .before .before .before .before .before .before .before in
+    omega (arith, law.sighted-is _ _ _ _ _ _ _ _ (entry .pre .0) .fits)
 
 append-pairs-requires : tie.Need-append-pairs-requires
-append-pairs-requires c κs = (omega (arith, law.sight-block _ _ _ _ _ _ _ _ (law.sighted-is _ _ _ _ _ _ _ _ (c .before .before .before .before .before .before .before .before .before .before .before .before .before .before .before .before .before .before .before .pre .0))), omega (arith, law.sighted-is _ _ _ _ _ _ _ _ (c .before .before .before .before .before .before .before .before .before .before .before .before .before .before .before .before .before .before .before .pre .0) .room, c .before .before .before .close-up .kept .0))
+append-pairs-requires c κs =
+    let entry = c .before .before .before .before .before .before .before .before .before .before .before .before .before .before .before .before .before .before .before in
+    (omega (arith, law.sight-block _ _ _ _ _ _ _ _ (law.sighted-is _ _ _ _ _ _ _ _ (entry .pre .0))), omega (arith, law.sighted-is _ _ _ _ _ _ _ _ (entry .pre .0) .room, c .before .before .before .close-up .kept .0))
 
 same-length : tie.Need-same-length
 same-length c = search needs
@@ -84,7 +130,11 @@ same-length-3 : tie.Need-same-length-3
 same-length-3 c = search needs
 
 returns : tie.Need-returns
-returns c = law.tells-on (c .before .before .before .before .before .before .before .before .before .before .before .before .before .before .before .before .before .before .before .before .before .before .args .plan .now) (c .before .before .before .before .before .before .before .before .before .before .before .before .before .before .before .before .before .before .before .before .before .before .args .score .now) (c .before .before .before .before .before .before .before .before .before .before .before .before .before .before .before .before .before .before .before .before .before .before .args .spans .now) (c .before .before .before .before .before .before .before .before .before .before .before .before .before .before .before .before .before .before .before .before .before .before .args .waiting .now) (c .before .before .before .before .before .before .before .before .before .before .before .before .before .before .before .before .before .before .before .before .before .before .args .log .now) (c .before .before .before .before .before .before .before .before .before .before .before .before .before .before .before .before .before .before .before .before .before .before .args .marks .now) (c .before .before .before .before .before .before .before .before .before .before .before .before .before .before .before .before .before .before .before .before .before .before .args .«record») (c .before .before .before .before .before .before .before .before .before .before .before .before .before .before .before .before .before .before .before .before .before .before .args .choice) (c .before .before .before .before .before .before .before .before .before .before .before .before .before .before .before .before .before .before .before .before .before .before .pre .1) (c .before .before .before .before .before .before .before .before .before .before .before .before .before .before .before .before .before .before .before .before .before .before .pre .0) (c .before .before .before .before .before .before .close-up .ensures) (c .before .before .append-pairs .ensures) (c .before .before .before .before .before .before .before .before .before .before .mark-pairs .ensures)
+returns c =
+    let entry = c .before .before .before .before .before .before .before .before .before .before .before .before .before .before .before .before .before .before .before .before .before .before in
+    let at-mark-pairs = c .before .before .before .before .before .before .before .before .before .before .mark-pairs in
+    let at-close-up = c .before .before .before .before .before .before .close-up in
+    law.tells-on (entry .args .plan .now) (entry .args .score .now) (entry .args .spans .now) (entry .args .waiting .now) (entry .args .log .now) (entry .args .marks .now) (entry .args .«record») (entry .args .choice) (entry .pre .1) (entry .pre .0) (at-close-up .ensures) (c .before .before .append-pairs .ensures) (at-mark-pairs .ensures)
 
 pub advance-spec : {M : Type 1} → statement M
 advance-spec =

@@ -11,37 +11,55 @@ returns : tie.Need-returns
 returns c = sym (law.room-log _ _ _ _ _ (c .if1 .taken))
 
 add-mid : tie.Need-add-mid
-add-mid c = omega (arith, fits-in (c .before .before .args .plan .now) (c .before .before .args .b) (c .before .before .pre .0))
+add-mid c =
+    let entry = c .before .before in
+    omega (arith, fits-in (entry .args .plan .now) (entry .args .b) (entry .pre .0))
 
 mul-mid : tie.Need-mul-mid
-mul-mid c = omega (arith, fits-in (c .before .before .args .plan .now) (c .before .before .args .b) (c .before .before .pre .0))
+mul-mid c =
+    let entry = c .before .before in
+    omega (arith, fits-in (entry .args .plan .now) (entry .args .b) (entry .pre .0))
 
 shared-slice-read-mid : tie.Need-shared-slice-read-mid
-shared-slice-read-mid c = omega (arith, fits-in (c .before .before .before .args .plan .now) (c .before .before .before .args .b) (c .before .before .before .pre .0))
+shared-slice-read-mid c =
+    let entry = c .before .before .before in
+    omega (arith, fits-in (entry .args .plan .now) (entry .args .b) (entry .pre .0))
 
 cast-mid : tie.Need-cast-mid
 cast-mid c = omega (arith, c .shared-slice-known .given (c .before .before .before .args .b))
 
 mul-mid-2 : tie.Need-mul-mid-2
-mul-mid-2 c = omega (arith, fits-in (c .before .before .before .args .plan .now) (c .before .before .before .args .b) (c .before .before .before .pre .0))
+mul-mid-2 c =
+    let entry = c .before .before .before in
+    omega (arith, fits-in (entry .args .plan .now) (entry .args .b) (entry .pre .0))
 
 add-mid-2 : tie.Need-add-mid-2
-add-mid-2 c = omega (arith, fits-in (c .before .before .before .args .plan .now) (c .before .before .before .args .b) (c .before .before .before .pre .0))
+add-mid-2 c =
+    let entry = c .before .before .before in
+    omega (arith, fits-in (entry .args .plan .now) (entry .args .b) (entry .pre .0))
 
 sub-result : tie.Need-sub-result
 sub-result c = search needs
 
 mul-result : tie.Need-mul-result
-mul-result c = omega (arith, fits-in (c .before .before .before .before .args .plan .now) (c .before .before .before .before .args .b) (c .before .before .before .before .pre .0))
+mul-result c =
+    let entry = c .before .before .before .before in
+    omega (arith, fits-in (entry .args .plan .now) (entry .args .b) (entry .pre .0))
 
 shared-slice-read-result : tie.Need-shared-slice-read-result
-shared-slice-read-result c = omega (arith, fits-in (c .before .before .before .before .before .args .plan .now) (c .before .before .before .before .before .args .b) (c .before .before .before .before .before .pre .0))
+shared-slice-read-result c =
+    let entry = c .before .before .before .before .before in
+    omega (arith, fits-in (entry .args .plan .now) (entry .args .b) (entry .pre .0))
 
 cast-result : tie.Need-cast-result
-cast-result c = omega (arith, c .shared-slice-known2 .given (middle (c .before .before .before .before .before .args .plan .now) (c .before .before .before .before .before .args .b)))
+cast-result c =
+    let entry = c .before .before .before .before .before in
+    omega (arith, c .shared-slice-known2 .given (middle (entry .args .plan .now) (entry .args .b)))
 
 add-result : tie.Need-add-result
-add-result c = omega (arith, c .shared-slice-known2 .given (middle (c .before .before .before .before .before .args .plan .now) (c .before .before .before .before .before .args .b)))
+add-result c =
+    let entry = c .before .before .before .before .before in
+    omega (arith, c .shared-slice-known2 .given (middle (entry .args .plan .now) (entry .args .b)))
 
 returns-2 : tie.Need-returns-2
 returns-2 c = sym (law.room-items _ _ _ _ _ (c .before .before .before .if1 .left))

@@ -6,7 +6,9 @@ use Rattle.walk.proofs.stepping.step.Statement.{statement}
 use Rattle.walk.proofs.stepping.step.Tie as tie
 
 returns : tie.Need-returns
-returns c = law.tells-32 (c .before .before .before .before .before .before .before .before .args .plan .now) (c .before .before .before .before .before .before .before .before .args .score .now) (c .before .before .before .before .before .before .before .before .args .spans .now) (c .before .before .before .before .before .before .before .before .args .waiting .now) (c .before .before .before .before .before .before .before .before .args .log .now) (c .before .before .before .before .before .before .before .before .args .marks .now) (c .before .before .before .before .before .before .before .before .args .«record») (c .before .before .before .before .before .before .before .before .args .choice) (c .if1 .taken)
+returns c =
+    let entry = c .before .before .before .before .before .before .before .before in
+    law.tells-32 (entry .args .plan .now) (entry .args .score .now) (entry .args .spans .now) (entry .args .waiting .now) (entry .args .log .now) (entry .args .marks .now) (entry .args .«record») (entry .args .choice) (c .if1 .taken)
 
 look-requires : tie.Need-look-requires
 look-requires c κs = search needs
@@ -18,13 +20,18 @@ enum-known-at : tie.Need-enum-known-at
 enum-known-at c = search needs
 
 advance-requires : tie.Need-advance-requires
-advance-requires c κs = (sym (c .before .before .before .before .before .before .look .ensures) ∙ ap sightOf (c .before .before .before .before .at .given .1), c .before .before .before .before .before .before .before .before .if1 .left)
+advance-requires c κs =
+    let at-if1 = c .before .before .before .before .before .before .before .before .if1 in
+    let at-look = c .before .before .before .before .before .before .look in
+    (sym (at-look .ensures) ∙ ap sightOf (c .before .before .before .before .at .given .1), at-if1 .left)
 
 same-length : tie.Need-same-length
 same-length c = search needs
 
 returns-2 : tie.Need-returns-2
-returns-2 c = law.tells-34 (c .before .before .before .before .before .before .before .before .before .before .before .before .args .plan .now) (c .before .before .before .before .before .before .before .before .before .before .before .before .args .score .now) (c .before .before .before .before .before .before .before .before .before .before .before .before .args .spans .now) (c .before .before .before .before .before .before .before .before .before .before .before .before .args .waiting .now) (c .before .before .before .before .before .before .before .before .before .before .before .before .args .log .now) (c .before .before .before .before .before .before .before .before .before .before .before .before .args .marks .now) (c .before .before .before .before .before .before .before .before .before .before .before .before .args .«record») (c .before .before .before .before .before .before .before .before .before .before .before .before .args .choice) (c .before .before .before .before .if1 .left) (sym (c .before .before .look .ensures) ∙ ap sightOf (c .enum-told .given .1))
+returns-2 c =
+    let entry = c .before .before .before .before .before .before .before .before .before .before .before .before in
+    law.tells-34 (entry .args .plan .now) (entry .args .score .now) (entry .args .spans .now) (entry .args .waiting .now) (entry .args .log .now) (entry .args .marks .now) (entry .args .«record») (entry .args .choice) (c .before .before .before .before .if1 .left) (sym (c .before .before .look .ensures) ∙ ap sightOf (c .enum-told .given .1))
 
 same-length-2 : tie.Need-same-length-2
 same-length-2 c = search needs
@@ -36,7 +43,9 @@ same-length-4 : tie.Need-same-length-4
 same-length-4 c = search needs
 
 returns-3 : tie.Need-returns-3
-returns-3 c = c .before .before .before .before .before .before .advance .ensures
+returns-3 c =
+    let at-advance = c .before .before .before .before .before .before .advance in
+    at-advance .ensures
 
 pub step-spec : {M : Type 1} → statement M
 step-spec =

@@ -54,51 +54,87 @@ mul-g-2 c = omega (arith, c .before .before .before .pre .1 (c .before .before .
 
 -- src/blocks.rt:93:17
 add-g : tie.Need-add-g Inv-loop μ-loop
-add-g c = omega (arith, c .before .before .before .pre .1 (c .before .before .loop .j) (c .before .loop-test .taken), c .before .before .before .pre .2)
+add-g c =
+    let entry = c .before .before .before in
+    omega (arith, entry .pre .1 (c .before .before .loop .j) (c .before .loop-test .taken), entry .pre .2)
 
 -- src/blocks.rt:94:22
 mul-plan-2 : tie.Need-mul-plan-2 Inv-loop μ-loop
-mul-plan-2 c = omega (arith, c .before .before .before .pre .1 (c .before .before .loop .j) (c .before .loop-test .taken), c .before .before .before .pre .2)
+mul-plan-2 c =
+    let entry = c .before .before .before in
+    omega (arith, entry .pre .1 (c .before .before .loop .j) (c .before .loop-test .taken), entry .pre .2)
 
 -- src/blocks.rt:94:22
 shared-slice-read-plan : tie.Need-shared-slice-read-plan Inv-loop μ-loop
-shared-slice-read-plan c = omega (arith, c .before .before .before .before .pre .1 (c .before .before .before .loop .j) (c .before .before .loop-test .taken), c .before .before .before .before .pre .2)
+shared-slice-read-plan c =
+    let entry = c .before .before .before .before in
+    omega (arith, entry .pre .1 (c .before .before .before .loop .j) (c .before .before .loop-test .taken), entry .pre .2)
 
 -- src/blocks.rt:94:9
 mul-plan-3 : tie.Need-mul-plan-3 Inv-loop μ-loop
-mul-plan-3 c = let s = c .before .before .before .loop .inv in omega (arith, s .stands, s .long, s .below, length-set (c .before .before .before .before .args .plan .now) (c .before .before .before .before .args .at) (length (c .before .before .before .before .args .out .now)), c .before .before .before .before .pre .1 (c .before .before .before .loop .j) (c .before .before .loop-test .taken), c .before .before .loop-test .taken, c .before .before .before .before .pre .0, c .before .before .before .before .pre .2, c .before .before .before .before .pre .3)
+mul-plan-3 c =
+    let entry = c .before .before .before .before in
+    let at-loop = c .before .before .before .loop in
+    let at-loop-test = c .before .before .loop-test in
+    let s = at-loop .inv in omega (arith, s .stands, s .long, s .below, length-set (entry .args .plan .now) (entry .args .at) (length (entry .args .out .now)), entry .pre .1 (at-loop .j) (at-loop-test .taken), at-loop-test .taken, entry .pre .0, entry .pre .2, entry .pre .3)
 
 -- src/blocks.rt:94:9
 slice-write-plan-2 : tie.Need-slice-write-plan-2 Inv-loop μ-loop
-slice-write-plan-2 c = let s = c .before .before .before .loop .inv in omega (arith, s .stands, s .long, s .below, length-set (c .before .before .before .before .args .plan .now) (c .before .before .before .before .args .at) (length (c .before .before .before .before .args .out .now)), c .before .before .before .before .pre .1 (c .before .before .before .loop .j) (c .before .before .loop-test .taken), c .before .before .loop-test .taken, c .before .before .before .before .pre .0, c .before .before .before .before .pre .2, c .before .before .before .before .pre .3)
+slice-write-plan-2 c =
+    let entry = c .before .before .before .before in
+    let at-loop = c .before .before .before .loop in
+    let at-loop-test = c .before .before .loop-test in
+    let s = at-loop .inv in omega (arith, s .stands, s .long, s .below, length-set (entry .args .plan .now) (entry .args .at) (length (entry .args .out .now)), entry .pre .1 (at-loop .j) (at-loop-test .taken), at-loop-test .taken, entry .pre .0, entry .pre .2, entry .pre .3)
 
 -- src/blocks.rt:95:34
 add-plan : tie.Need-add-plan Inv-loop μ-loop
-add-plan c = omega (arith, c .before .before .before .before .pre .1 (c .before .before .before .loop .j) (c .before .before .loop-test .taken), c .before .before .before .before .pre .2)
+add-plan c =
+    let entry = c .before .before .before .before in
+    omega (arith, entry .pre .1 (c .before .before .before .loop .j) (c .before .before .loop-test .taken), entry .pre .2)
 
 -- src/blocks.rt:95:26
 mul-plan-4 : tie.Need-mul-plan-4 Inv-loop μ-loop
-mul-plan-4 c = omega (arith, c .before .before .before .before .pre .1 (c .before .before .before .loop .j) (c .before .before .loop-test .taken), c .before .before .before .before .pre .2)
+mul-plan-4 c =
+    let entry = c .before .before .before .before in
+    omega (arith, entry .pre .1 (c .before .before .before .loop .j) (c .before .before .loop-test .taken), entry .pre .2)
 
 -- src/blocks.rt:95:26
 shared-slice-read-plan-2 : tie.Need-shared-slice-read-plan-2 Inv-loop μ-loop
-shared-slice-read-plan-2 c = omega (arith, c .before .before .before .before .before .pre .1 (c .before .before .before .before .loop .j) (c .before .before .before .loop-test .taken), c .before .before .before .before .before .pre .2)
+shared-slice-read-plan-2 c =
+    let entry = c .before .before .before .before .before in
+    omega (arith, entry .pre .1 (c .before .before .before .before .loop .j) (c .before .before .before .loop-test .taken), entry .pre .2)
 
 -- src/blocks.rt:95:14
 add-plan-2 : tie.Need-add-plan-2 Inv-loop μ-loop
-add-plan-2 c = let s = c .before .before .before .before .loop .inv in omega (arith, s .stands, s .long, s .below, length-set (c .before .before .before .before .before .args .plan .now) (c .before .before .before .before .before .args .at) (length (c .before .before .before .before .before .args .out .now)), c .before .before .before .before .before .pre .1 (c .before .before .before .before .loop .j) (c .before .before .before .loop-test .taken), c .before .before .before .loop-test .taken, c .before .before .before .before .before .pre .0, c .before .before .before .before .before .pre .2, c .before .before .before .before .before .pre .3)
+add-plan-2 c =
+    let entry = c .before .before .before .before .before in
+    let at-loop = c .before .before .before .before .loop in
+    let at-loop-test = c .before .before .before .loop-test in
+    let s = at-loop .inv in omega (arith, s .stands, s .long, s .below, length-set (entry .args .plan .now) (entry .args .at) (length (entry .args .out .now)), entry .pre .1 (at-loop .j) (at-loop-test .taken), at-loop-test .taken, entry .pre .0, entry .pre .2, entry .pre .3)
 
 -- src/blocks.rt:95:9
 mul-plan-5 : tie.Need-mul-plan-5 Inv-loop μ-loop
-mul-plan-5 c = let s = c .before .before .before .before .loop .inv in omega (arith, s .stands, s .long, s .below, length-set (c .before .before .before .before .before .args .plan .now) (c .before .before .before .before .before .args .at) (length (c .before .before .before .before .before .args .out .now)), c .before .before .before .before .before .pre .1 (c .before .before .before .before .loop .j) (c .before .before .before .loop-test .taken), c .before .before .before .loop-test .taken, c .before .before .before .before .before .pre .0, c .before .before .before .before .before .pre .2, c .before .before .before .before .before .pre .3, length-set (c .before .before .before .before .loop .plan) (c .before .before .before .before .loop .here) (getD (c .before .before .before .before .before .args .scratch .now) (c .before .before .before .before .before .args .from + 3 * (getD (c .before .before .before .before .before .args .out .now) (c .before .before .before .before .loop .j) 0 % 128)) 0))
+mul-plan-5 c =
+    let entry = c .before .before .before .before .before in
+    let at-loop = c .before .before .before .before .loop in
+    let at-loop-test = c .before .before .before .loop-test in
+    let s = at-loop .inv in omega (arith, s .stands, s .long, s .below, length-set (entry .args .plan .now) (entry .args .at) (length (entry .args .out .now)), entry .pre .1 (at-loop .j) (at-loop-test .taken), at-loop-test .taken, entry .pre .0, entry .pre .2, entry .pre .3, length-set (at-loop .plan) (at-loop .here) (getD (entry .args .scratch .now) (entry .args .from + 3 * (getD (entry .args .out .now) (at-loop .j) 0 % 128)) 0))
 
 -- src/blocks.rt:95:9
 slice-write-plan-3 : tie.Need-slice-write-plan-3 Inv-loop μ-loop
-slice-write-plan-3 c = let s = c .before .before .before .before .loop .inv in omega (arith, s .stands, s .long, s .below, length-set (c .before .before .before .before .before .args .plan .now) (c .before .before .before .before .before .args .at) (length (c .before .before .before .before .before .args .out .now)), c .before .before .before .before .before .pre .1 (c .before .before .before .before .loop .j) (c .before .before .before .loop-test .taken), c .before .before .before .loop-test .taken, c .before .before .before .before .before .pre .0, c .before .before .before .before .before .pre .2, c .before .before .before .before .before .pre .3, length-set (c .before .before .before .before .loop .plan) (c .before .before .before .before .loop .here) (getD (c .before .before .before .before .before .args .scratch .now) (c .before .before .before .before .before .args .from + 3 * (getD (c .before .before .before .before .before .args .out .now) (c .before .before .before .before .loop .j) 0 % 128)) 0))
+slice-write-plan-3 c =
+    let entry = c .before .before .before .before .before in
+    let at-loop = c .before .before .before .before .loop in
+    let at-loop-test = c .before .before .before .loop-test in
+    let s = at-loop .inv in omega (arith, s .stands, s .long, s .below, length-set (entry .args .plan .now) (entry .args .at) (length (entry .args .out .now)), entry .pre .1 (at-loop .j) (at-loop-test .taken), at-loop-test .taken, entry .pre .0, entry .pre .2, entry .pre .3, length-set (at-loop .plan) (at-loop .here) (getD (entry .args .scratch .now) (entry .args .from + 3 * (getD (entry .args .out .now) (at-loop .j) 0 % 128)) 0))
 
 -- src/blocks.rt:96:9
 add-here-2 : tie.Need-add-here-2 Inv-loop μ-loop
-add-here-2 c = let s = c .before .before .before .before .loop .inv in omega (arith, s .stands, s .long, s .below, length-set (c .before .before .before .before .before .args .plan .now) (c .before .before .before .before .before .args .at) (length (c .before .before .before .before .before .args .out .now)), c .before .before .before .before .before .pre .1 (c .before .before .before .before .loop .j) (c .before .before .before .loop-test .taken), c .before .before .before .loop-test .taken, c .before .before .before .before .before .pre .0, c .before .before .before .before .before .pre .2, c .before .before .before .before .before .pre .3)
+add-here-2 c =
+    let entry = c .before .before .before .before .before in
+    let at-loop = c .before .before .before .before .loop in
+    let at-loop-test = c .before .before .before .loop-test in
+    let s = at-loop .inv in omega (arith, s .stands, s .long, s .below, length-set (entry .args .plan .now) (entry .args .at) (length (entry .args .out .now)), entry .pre .1 (at-loop .j) (at-loop-test .taken), at-loop-test .taken, entry .pre .0, entry .pre .2, entry .pre .3)
 
 -- src/blocks.rt:97:9
 add-j : tie.Need-add-j Inv-loop μ-loop
@@ -110,15 +146,22 @@ loop-less c = search needs
 
 -- src/blocks.rt:92:5
 loop-again : tie.Need-loop-again Inv-loop μ-loop
-loop-again c = paired-on (λ x. goalOn (c .before .before .before .before .before .args .scratch .now) (c .before .before .before .before .before .args .from) (x % 128) .sh) (λ x. goalOn (c .before .before .before .before .before .args .scratch .now) (c .before .before .before .before .before .args .from) (x % 128) .an) (c .before .before .before .before .before .args .out .now) (set (c .before .before .before .before .before .args .plan .now) (c .before .before .before .before .before .args .at) (length (c .before .before .before .before .before .args .out .now))) (c .before .before .before .before .before .args .at) (c .before .before .before .before .loop .inv) (c .before .before .before .loop-test .taken) _ (two-stores (c .before .before .before .before .loop .plan) (c .before .before .before .before .loop .here) _ _)
+loop-again c =
+    let entry = c .before .before .before .before .before in
+    let at-loop = c .before .before .before .before .loop in
+    paired-on (λ x. goalOn (entry .args .scratch .now) (entry .args .from) (x % 128) .sh) (λ x. goalOn (entry .args .scratch .now) (entry .args .from) (x % 128) .an) (entry .args .out .now) (set (entry .args .plan .now) (entry .args .at) (length (entry .args .out .now))) (entry .args .at) (at-loop .inv) (c .before .before .before .loop-test .taken) _ (two-stores (at-loop .plan) (at-loop .here) _ _)
 
 -- src/blocks.rt:84:1
 same-length : tie.Need-same-length Inv-loop μ-loop
-same-length c = c .before .loop .inv .long ∙ length-set (c .before .before .args .plan .now) (c .before .before .args .at) (length (c .before .before .args .out .now))
+same-length c =
+    let entry = c .before .before in
+    c .before .loop .inv .long ∙ length-set (entry .args .plan .now) (entry .args .at) (length (entry .args .out .now))
 
 -- src/blocks.rt:84:1
 returns : tie.Need-returns Inv-loop μ-loop
-returns c = paired-end (λ x. goalOn (c .before .before .args .scratch .now) (c .before .before .args .from) (x % 128) .sh) (λ x. goalOn (c .before .before .args .scratch .now) (c .before .before .args .from) (x % 128) .an) (c .before .before .args .out .now) (set (c .before .before .args .plan .now) (c .before .before .args .at) (length (c .before .before .args .out .now))) (c .before .before .args .at) (c .before .loop .inv) (c .loop-test .left) (c .before .before .args .plan .now) refl
+returns c =
+    let entry = c .before .before in
+    paired-end (λ x. goalOn (entry .args .scratch .now) (entry .args .from) (x % 128) .sh) (λ x. goalOn (entry .args .scratch .now) (entry .args .from) (x % 128) .an) (entry .args .out .now) (set (entry .args .plan .now) (entry .args .at) (length (entry .args .out .now))) (entry .args .at) (c .before .loop .inv) (c .loop-test .left) (entry .args .plan .now) refl
 
 pub write-outputs-spec : {M : Type 1} → statement M
 write-outputs-spec =

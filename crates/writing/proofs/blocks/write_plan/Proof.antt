@@ -27,7 +27,9 @@ cast-plan c = omega (arith, c .before .before .before .before .pre .0 .few)
 
 -- src/blocks.rt:33:5
 slice-write-plan : tie.Need-slice-write-plan Inv-loop μ-loop
-slice-write-plan c = omega (arith, plan-total (c .before .before .before .before .args .arity .now) (c .before .before .before .before .args .tab .now) (c .before .before .before .before .args .shapes) (c .before .before .before .before .args .scratch .now) (c .before .before .before .before .args .m) (c .before .before .before .before .args .total) (c .before .before .before .before .pre .4), c .before .before .before .before .pre .5)
+slice-write-plan c =
+    let entry = c .before .before .before .before in
+    omega (arith, plan-total (entry .args .arity .now) (entry .args .tab .now) (entry .args .shapes) (entry .args .scratch .now) (entry .args .m) (entry .args .total) (entry .pre .4), entry .pre .5)
 
 -- src/blocks.rt:34:15
 cast-plan-2 : tie.Need-cast-plan-2 Inv-loop μ-loop
@@ -35,7 +37,9 @@ cast-plan-2 c = omega (arith, c .before .before .before .before .pre .3 .few-sym
 
 -- src/blocks.rt:34:5
 slice-write-plan-2 : tie.Need-slice-write-plan-2 Inv-loop μ-loop
-slice-write-plan-2 c = omega (arith, plan-total (c .before .before .before .before .args .arity .now) (c .before .before .before .before .args .tab .now) (c .before .before .before .before .args .shapes) (c .before .before .before .before .args .scratch .now) (c .before .before .before .before .args .m) (c .before .before .before .before .args .total) (c .before .before .before .before .pre .4), c .before .before .before .before .pre .5, length-set (c .before .before .before .before .args .plan .now) 0 (c .before .before .before .before .args .m))
+slice-write-plan-2 c =
+    let entry = c .before .before .before .before in
+    omega (arith, plan-total (entry .args .arity .now) (entry .args .tab .now) (entry .args .shapes) (entry .args .scratch .now) (entry .args .m) (entry .args .total) (entry .pre .4), entry .pre .5, length-set (entry .args .plan .now) 0 (entry .args .m))
 
 -- src/blocks.rt:35:15
 cast-plan-3 : tie.Need-cast-plan-3 Inv-loop μ-loop
@@ -43,7 +47,9 @@ cast-plan-3 c = omega (arith, c .before .before .before .before .pre .3 .few-sha
 
 -- src/blocks.rt:35:5
 slice-write-plan-3 : tie.Need-slice-write-plan-3 Inv-loop μ-loop
-slice-write-plan-3 c = omega (arith, plan-total (c .before .before .before .before .args .arity .now) (c .before .before .before .before .args .tab .now) (c .before .before .before .before .args .shapes) (c .before .before .before .before .args .scratch .now) (c .before .before .before .before .args .m) (c .before .before .before .before .args .total) (c .before .before .before .before .pre .4), c .before .before .before .before .pre .5, length-set (c .before .before .before .before .args .plan .now) 0 (c .before .before .before .before .args .m), length-set (set (c .before .before .before .before .args .plan .now) 0 (c .before .before .before .before .args .m)) 1 (length (c .before .before .before .before .args .arity .now)))
+slice-write-plan-3 c =
+    let entry = c .before .before .before .before in
+    omega (arith, plan-total (entry .args .arity .now) (entry .args .tab .now) (entry .args .shapes) (entry .args .scratch .now) (entry .args .m) (entry .args .total) (entry .pre .4), entry .pre .5, length-set (entry .args .plan .now) 0 (entry .args .m), length-set (set (entry .args .plan .now) 0 (entry .args .m)) 1 (length (entry .args .arity .now)))
 
 -- src/blocks.rt:36:15
 cast-plan-4 : tie.Need-cast-plan-4 Inv-loop μ-loop
@@ -51,7 +57,9 @@ cast-plan-4 c = omega (arith, c .before .before .before .before .pre .6)
 
 -- src/blocks.rt:36:5
 slice-write-plan-4 : tie.Need-slice-write-plan-4 Inv-loop μ-loop
-slice-write-plan-4 c = omega (arith, plan-total (c .before .before .before .before .args .arity .now) (c .before .before .before .before .args .tab .now) (c .before .before .before .before .args .shapes) (c .before .before .before .before .args .scratch .now) (c .before .before .before .before .args .m) (c .before .before .before .before .args .total) (c .before .before .before .before .pre .4), c .before .before .before .before .pre .5, head-length (c .before .before .before .before .args .plan .now) (c .before .before .before .before .args .m) (length (c .before .before .before .before .args .arity .now)) (c .before .before .before .before .args .shapes) (c .before .before .before .before .args .total), length-set (set (set (set (c .before .before .before .before .args .plan .now) 0 (c .before .before .before .before .args .m)) 1 (length (c .before .before .before .before .args .arity .now))) 2 (c .before .before .before .before .args .shapes)) 3 (c .before .before .before .before .args .total))
+slice-write-plan-4 c =
+    let entry = c .before .before .before .before in
+    omega (arith, plan-total (entry .args .arity .now) (entry .args .tab .now) (entry .args .shapes) (entry .args .scratch .now) (entry .args .m) (entry .args .total) (entry .pre .4), entry .pre .5, head-length (entry .args .plan .now) (entry .args .m) (length (entry .args .arity .now)) (entry .args .shapes) (entry .args .total), length-set (set (set (set (entry .args .plan .now) 0 (entry .args .m)) 1 (length (entry .args .arity .now))) 2 (entry .args .shapes)) 3 (entry .args .total))
 
 -- src/blocks.rt:37:18
 add-at : tie.Need-add-at Inv-loop μ-loop
@@ -59,60 +67,92 @@ add-at c = omega (arith, c .before .before .before .before .pre .0 .few)
 
 -- src/blocks.rt:37:26
 mul-at : tie.Need-mul-at Inv-loop μ-loop
-mul-at c = omega (arith, plan-total (c .before .before .before .before .args .arity .now) (c .before .before .before .before .args .tab .now) (c .before .before .before .before .args .shapes) (c .before .before .before .before .args .scratch .now) (c .before .before .before .before .args .m) (c .before .before .before .before .args .total) (c .before .before .before .before .pre .4), c .before .before .before .before .pre .6)
+mul-at c =
+    let entry = c .before .before .before .before in
+    omega (arith, plan-total (entry .args .arity .now) (entry .args .tab .now) (entry .args .shapes) (entry .args .scratch .now) (entry .args .m) (entry .args .total) (entry .pre .4), entry .pre .6)
 
 -- src/blocks.rt:37:18
 add-at-2 : tie.Need-add-at-2 Inv-loop μ-loop
-add-at-2 c = omega (arith, plan-total (c .before .before .before .before .args .arity .now) (c .before .before .before .before .args .tab .now) (c .before .before .before .before .args .shapes) (c .before .before .before .before .args .scratch .now) (c .before .before .before .before .args .m) (c .before .before .before .before .args .total) (c .before .before .before .before .pre .4), c .before .before .before .before .pre .6)
+add-at-2 c =
+    let entry = c .before .before .before .before in
+    omega (arith, plan-total (entry .args .arity .now) (entry .args .tab .now) (entry .args .shapes) (entry .args .scratch .now) (entry .args .m) (entry .args .total) (entry .pre .4), entry .pre .6)
 
 -- src/blocks.rt:39:5
 loop-holds : tie.Need-loop-holds Inv-loop μ-loop
-loop-holds c = planned-begin (c .before .before .before .before .args .arity .now) (c .before .before .before .before .args .tab .now) (c .before .before .before .before .args .shapes) (c .before .before .before .before .args .scratch .now) (c .before .before .before .before .args .m) (set (set (set (set (c .before .before .before .before .args .plan .now) 0 (c .before .before .before .before .args .m)) 1 (length (c .before .before .before .before .args .arity .now))) 2 (c .before .before .before .before .args .shapes)) 3 (c .before .before .before .before .args .total))
+loop-holds c =
+    let entry = c .before .before .before .before in
+    planned-begin (entry .args .arity .now) (entry .args .tab .now) (entry .args .shapes) (entry .args .scratch .now) (entry .args .m) (set (set (set (set (entry .args .plan .now) 0 (entry .args .m)) 1 (length (entry .args .arity .now))) 2 (entry .args .shapes)) 3 (entry .args .total))
 
 -- src/blocks.rt:40:43
 mul-label : tie.Need-mul-label Inv-loop μ-loop
-mul-label c = omega (arith, c .before .before .before .before .before .before .pre .0 .few, c .loop-test .taken)
+mul-label c =
+    let entry = c .before .before .before .before .before .before in
+    omega (arith, entry .pre .0 .few, c .loop-test .taken)
 
 -- src/blocks.rt:40:37
 add-label : tie.Need-add-label Inv-loop μ-loop
-add-label c = omega (arith, c .before .before .before .before .before .before .pre .0 .few, c .loop-test .taken)
+add-label c =
+    let entry = c .before .before .before .before .before .before in
+    omega (arith, entry .pre .0 .few, c .loop-test .taken)
 
 -- src/blocks.rt:40:51
 mul-label-2 : tie.Need-mul-label-2 Inv-loop μ-loop
-mul-label-2 c = omega (arith, c .before .before .before .before .before .before .pre .0 .few, c .loop-test .taken)
+mul-label-2 c =
+    let entry = c .before .before .before .before .before .before in
+    omega (arith, entry .pre .0 .few, c .loop-test .taken)
 
 -- src/blocks.rt:40:51
 shared-slice-read-label : tie.Need-shared-slice-read-label Inv-loop μ-loop
-shared-slice-read-label c = omega (arith, c .before .before .before .before .before .before .before .pre .0 .few, c .before .before .before .before .before .before .before .pre .0 .long, c .before .loop-test .taken)
+shared-slice-read-label c =
+    let entry = c .before .before .before .before .before .before .before in
+    omega (arith, entry .pre .0 .few, entry .pre .0 .long, c .before .loop-test .taken)
 
 -- src/blocks.rt:40:51
 cast-label : tie.Need-cast-label Inv-loop μ-loop
-cast-label c = omega (arith, c .before .before .before .before .before .before .before .pre .0 .counts (c .before .before .loop .i) (c .before .loop-test .taken))
+cast-label c =
+    let entry = c .before .before .before .before .before .before .before in
+    omega (arith, entry .pre .0 .counts (c .before .before .loop .i) (c .before .loop-test .taken))
 
 -- src/blocks.rt:40:17
 label-requires : tie.Need-label-requires Inv-loop μ-loop
-label-requires c κs = ((c .before .before .before .before .before .before .before .pre .1 (stateIn (c .before .before .before .before .before .before .before .args .scratch .now) (c .before .before .loop .i)) (state-in (c .before .before .before .before .before .before .before .args .scratch .now) (c .before .before .before .before .before .before .before .args .m) (c .before .before .loop .i) (c .before .loop-test .taken))) .ready .tabled, omega (arith, c .before .before .before .before .before .before .before .pre .0 .counts (c .before .before .loop .i) (c .before .loop-test .taken)), omega (arith, c .before .before .before .before .before .before .before .pre .0 .counts (c .before .before .loop .i) (c .before .loop-test .taken), c .before .before .before .before .before .before .before .pre .0 .long, c .before .before .before .before .before .before .before .pre .0 .few, c .before .loop-test .taken), good-low (c .before .before .before .before .before .before .before .pre .1 (stateIn (c .before .before .before .before .before .before .before .args .scratch .now) (c .before .before .loop .i)) (state-in (c .before .before .before .before .before .before .before .args .scratch .now) (c .before .before .before .before .before .before .before .args .m) (c .before .before .loop .i) (c .before .loop-test .taken))))
+label-requires c κs =
+    let entry = c .before .before .before .before .before .before .before in
+    let at-loop = c .before .before .loop in
+    ((entry .pre .1 (stateIn (entry .args .scratch .now) (at-loop .i)) (state-in (entry .args .scratch .now) (entry .args .m) (at-loop .i) (c .before .loop-test .taken))) .ready .tabled, omega (arith, entry .pre .0 .counts (at-loop .i) (c .before .loop-test .taken)), omega (arith, entry .pre .0 .counts (at-loop .i) (c .before .loop-test .taken), entry .pre .0 .long, entry .pre .0 .few, c .before .loop-test .taken), good-low (entry .pre .1 (stateIn (entry .args .scratch .now) (at-loop .i)) (state-in (entry .args .scratch .now) (entry .args .m) (at-loop .i) (c .before .loop-test .taken))))
 
 -- src/blocks.rt:40:17
 cast-c : tie.Need-cast-c Inv-loop μ-loop
-cast-c c = omega (arith, c .label .ensures, good-label (c .before .before .before .before .before .before .before .before .pre .1 (stateIn (c .before .before .before .before .before .before .before .before .args .scratch .now) (c .before .before .before .loop .i)) (state-in (c .before .before .before .before .before .before .before .before .args .scratch .now) (c .before .before .before .before .before .before .before .before .args .m) (c .before .before .before .loop .i) (c .before .before .loop-test .taken))))
+cast-c c =
+    let entry = c .before .before .before .before .before .before .before .before in
+    let at-loop = c .before .before .before .loop in
+    omega (arith, c .label .ensures, good-label (entry .pre .1 (stateIn (entry .args .scratch .now) (at-loop .i)) (state-in (entry .args .scratch .now) (entry .args .m) (at-loop .i) (c .before .before .loop-test .taken))))
 
 -- src/blocks.rt:41:14
 add-plan : tie.Need-add-plan Inv-loop μ-loop
-add-plan c = omega (arith, c .before .before .before .before .before .before .before .before .pre .0 .few, c .before .before .loop-test .taken)
+add-plan c =
+    let entry = c .before .before .before .before .before .before .before .before in
+    omega (arith, entry .pre .0 .few, c .before .before .loop-test .taken)
 
 -- src/blocks.rt:41:9
 mul-plan : tie.Need-mul-plan Inv-loop μ-loop
-mul-plan c = omega (arith, c .before .before .before .before .before .before .before .before .pre .0 .few, c .before .before .loop-test .taken)
+mul-plan c =
+    let entry = c .before .before .before .before .before .before .before .before in
+    omega (arith, entry .pre .0 .few, c .before .before .loop-test .taken)
 
 -- src/blocks.rt:41:9
 slice-write-plan-5 : tie.Need-slice-write-plan-5 Inv-loop μ-loop
-slice-write-plan-5 c = omega (arith, c .before .before .loop-test .taken, c .before .before .before .loop .inv .long, head-length (c .before .before .before .before .before .before .before .before .args .plan .now) (c .before .before .before .before .before .before .before .before .args .m) (length (c .before .before .before .before .before .before .before .before .args .arity .now)) (c .before .before .before .before .before .before .before .before .args .shapes) (c .before .before .before .before .before .before .before .before .args .total), plan-total (c .before .before .before .before .before .before .before .before .args .arity .now) (c .before .before .before .before .before .before .before .before .args .tab .now) (c .before .before .before .before .before .before .before .before .args .shapes) (c .before .before .before .before .before .before .before .before .args .scratch .now) (c .before .before .before .before .before .before .before .before .args .m) (c .before .before .before .before .before .before .before .before .args .total) (c .before .before .before .before .before .before .before .before .pre .4), c .before .before .before .before .before .before .before .before .pre .5)
+slice-write-plan-5 c =
+    let entry = c .before .before .before .before .before .before .before .before in
+    omega (arith, c .before .before .loop-test .taken, c .before .before .before .loop .inv .long, head-length (entry .args .plan .now) (entry .args .m) (length (entry .args .arity .now)) (entry .args .shapes) (entry .args .total), plan-total (entry .args .arity .now) (entry .args .tab .now) (entry .args .shapes) (entry .args .scratch .now) (entry .args .m) (entry .args .total) (entry .pre .4), entry .pre .5)
 
 -- src/blocks.rt:42:9
 write-row-requires : tie.Need-write-row-requires Inv-loop μ-loop
-write-row-requires c κs = let r = planned-room (c .before .before .before .before .before .before .before .before .before .args .arity .now) (c .before .before .before .before .before .before .before .before .before .args .tab .now) (c .before .before .before .before .before .before .before .before .before .args .shapes) (c .before .before .before .before .before .before .before .before .before .args .scratch .now) (c .before .before .before .before .before .before .before .before .before .args .m) (c .before .before .before .before .loop .inv) (c .before .before .before .loop-test .taken) in let l = length-set (c .before .before .before .before .loop .plan) (4 + (c .before .before .before .before .loop .i)) (c .before .label .result) in
-    (c .before .before .before .before .before .before .before .before .before .pre .0, c .before .before .before .loop-test .taken, c .before .before .before .before .before .before .before .before .before .pre .1, c .before .before .before .before .before .before .before .before .before .pre .2 (stateIn (c .before .before .before .before .before .before .before .before .before .args .scratch .now) (c .before .before .before .before .loop .i)) (state-in (c .before .before .before .before .before .before .before .before .before .args .scratch .now) (c .before .before .before .before .before .before .before .before .before .args .m) (c .before .before .before .before .loop .i) (c .before .before .before .loop-test .taken)), c .before .label .ensures, (planned-below (c .before .before .before .before .before .before .before .before .before .args .arity .now) (c .before .before .before .before .before .before .before .before .before .args .tab .now) (c .before .before .before .before .before .before .before .before .before .args .shapes) (c .before .before .before .before .before .before .before .before .before .args .scratch .now) (c .before .before .before .before .before .before .before .before .before .args .m) (c .before .before .before .before .loop .inv) (c .before .before .before .loop-test .taken)), omega (arith, r, l, c .before .before .before .before .loop .inv .long, head-length (c .before .before .before .before .before .before .before .before .before .args .plan .now) (c .before .before .before .before .before .before .before .before .before .args .m) (length (c .before .before .before .before .before .before .before .before .before .args .arity .now)) (c .before .before .before .before .before .before .before .before .before .args .shapes) (c .before .before .before .before .before .before .before .before .before .args .total), plan-total (c .before .before .before .before .before .before .before .before .before .args .arity .now) (c .before .before .before .before .before .before .before .before .before .args .tab .now) (c .before .before .before .before .before .before .before .before .before .args .shapes) (c .before .before .before .before .before .before .before .before .before .args .scratch .now) (c .before .before .before .before .before .before .before .before .before .args .m) (c .before .before .before .before .before .before .before .before .before .args .total) (c .before .before .before .before .before .before .before .before .before .pre .4), c .before .before .before .before .before .before .before .before .before .pre .5), omega (arith, r, plan-total (c .before .before .before .before .before .before .before .before .before .args .arity .now) (c .before .before .before .before .before .before .before .before .before .args .tab .now) (c .before .before .before .before .before .before .before .before .before .args .shapes) (c .before .before .before .before .before .before .before .before .before .args .scratch .now) (c .before .before .before .before .before .before .before .before .before .args .m) (c .before .before .before .before .before .before .before .before .before .args .total) (c .before .before .before .before .before .before .before .before .before .pre .4), c .before .before .before .before .before .before .before .before .before .pre .6))
+write-row-requires c κs =
+    let entry = c .before .before .before .before .before .before .before .before .before in
+    let at-loop = c .before .before .before .before .loop in
+    let at-loop-test = c .before .before .before .loop-test in
+    let r = planned-room (entry .args .arity .now) (entry .args .tab .now) (entry .args .shapes) (entry .args .scratch .now) (entry .args .m) (at-loop .inv) (at-loop-test .taken) in let l = length-set (at-loop .plan) (4 + (at-loop .i)) (c .before .label .result) in
+    (entry .pre .0, at-loop-test .taken, entry .pre .1, entry .pre .2 (stateIn (entry .args .scratch .now) (at-loop .i)) (state-in (entry .args .scratch .now) (entry .args .m) (at-loop .i) (at-loop-test .taken)), c .before .label .ensures, (planned-below (entry .args .arity .now) (entry .args .tab .now) (entry .args .shapes) (entry .args .scratch .now) (entry .args .m) (at-loop .inv) (at-loop-test .taken)), omega (arith, r, l, at-loop .inv .long, head-length (entry .args .plan .now) (entry .args .m) (length (entry .args .arity .now)) (entry .args .shapes) (entry .args .total), plan-total (entry .args .arity .now) (entry .args .tab .now) (entry .args .shapes) (entry .args .scratch .now) (entry .args .m) (entry .args .total) (entry .pre .4), entry .pre .5), omega (arith, r, plan-total (entry .args .arity .now) (entry .args .tab .now) (entry .args .shapes) (entry .args .scratch .now) (entry .args .m) (entry .args .total) (entry .pre .4), entry .pre .6))
 
 -- src/blocks.rt:43:9
 add-i : tie.Need-add-i Inv-loop μ-loop
@@ -124,18 +164,30 @@ loop-less c = search needs
 
 -- src/blocks.rt:39:5
 loop-again : tie.Need-loop-again Inv-loop μ-loop
-loop-again c = planned-on (c .before .before .before .before .before .before .before .before .before .before .before .before .args .arity .now) (c .before .before .before .before .before .before .before .before .before .before .before .before .args .tab .now) (c .before .before .before .before .before .before .before .before .before .before .before .before .args .shapes) (c .before .before .before .before .before .before .before .before .before .before .before .before .args .scratch .now) (c .before .before .before .before .before .before .before .before .before .before .before .before .args .m) (c .before .before .before .before .before .before .before .loop .inv) (c .before .before .before .before .before .before .loop-test .taken) (c .before .before .before .before .before .before .before .before .before .before .before .before .pre .1 (stateIn (c .before .before .before .before .before .before .before .before .before .before .before .before .args .scratch .now) (c .before .before .before .before .before .before .before .loop .i)) (state-in (c .before .before .before .before .before .before .before .before .before .before .before .before .args .scratch .now) (c .before .before .before .before .before .before .before .before .before .before .before .before .args .m) (c .before .before .before .before .before .before .before .loop .i) (c .before .before .before .before .before .before .loop-test .taken))) (c .before .before .before .before .label .result) (c .before .before .before .before .label .ensures) _ (c .before .before .write-row .result) (c .before .before .write-row .ensures .1) (c .before .before .write-row .ensures .0)
+loop-again c =
+    let entry = c .before .before .before .before .before .before .before .before .before .before .before .before in
+    let at-loop = c .before .before .before .before .before .before .before .loop in
+    let at-loop-test = c .before .before .before .before .before .before .loop-test in
+    let at-label = c .before .before .before .before .label in
+    let at-write-row = c .before .before .write-row in
+    planned-on (entry .args .arity .now) (entry .args .tab .now) (entry .args .shapes) (entry .args .scratch .now) (entry .args .m) (at-loop .inv) (at-loop-test .taken) (entry .pre .1 (stateIn (entry .args .scratch .now) (at-loop .i)) (state-in (entry .args .scratch .now) (entry .args .m) (at-loop .i) (at-loop-test .taken))) (at-label .result) (at-label .ensures) _ (at-write-row .result) (at-write-row .ensures .1) (at-write-row .ensures .0)
 
 -- src/blocks.rt:28:1
 same-length : tie.Need-same-length Inv-loop μ-loop
-same-length c = c .before .loop .inv .long ∙ head-length (c .before .before .before .before .before .before .args .plan .now) (c .before .before .before .before .before .before .args .m) (length (c .before .before .before .before .before .before .args .arity .now)) (c .before .before .before .before .before .before .args .shapes) (c .before .before .before .before .before .before .args .total)
+same-length c =
+    let entry = c .before .before .before .before .before .before in
+    c .before .loop .inv .long ∙ head-length (entry .args .plan .now) (entry .args .m) (length (entry .args .arity .now)) (entry .args .shapes) (entry .args .total)
 
 -- src/blocks.rt:28:1
 returns : tie.Need-returns Inv-loop μ-loop
-returns c = planned-end (c .before .before .before .before .before .before .args .arity .now) (c .before .before .before .before .before .before .args .tab .now) (c .before .before .before .before .before .before .args .shapes) (c .before .before .before .before .before .before .args .scratch .now) (c .before .before .before .before .before .before .args .m) (c .before .loop .inv) (c .loop-test .left) (c .before .before .before .before .before .before .args .plan .now) (c .before .before .before .before .before .before .args .total) (c .before .before .before .before .before .before .pre .4) refl
+returns c =
+    let entry = c .before .before .before .before .before .before in
+    planned-end (entry .args .arity .now) (entry .args .tab .now) (entry .args .shapes) (entry .args .scratch .now) (entry .args .m) (c .before .loop .inv) (c .loop-test .left) (entry .args .plan .now) (entry .args .total) (entry .pre .4) refl
 
 cast-t25 : tie.Need-cast-t25 Inv-loop μ-loop
-cast-t25 c = omega (arith, c .before .before .loop-test .taken, c .before .before .before .before .before .before .before .before .pre .0 .few)
+cast-t25 c =
+    let entry = c .before .before .before .before .before .before .before .before in
+    omega (arith, c .before .before .loop-test .taken, entry .pre .0 .few)
 
 pub write-plan-spec : {M : Type 1} → statement M
 write-plan-spec =

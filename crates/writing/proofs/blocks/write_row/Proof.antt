@@ -24,35 +24,52 @@ add-starts c = omega (arith, c .before .before .before .before .pre .0 .few)
 
 -- src/blocks.rt:53:26
 mul-starts : tie.Need-mul-starts Inv-loop μ-loop
-mul-starts c = omega (arith, c .before .before .before .before .before .pre .5, c .before .before .before .before .before .pre .7)
+mul-starts c =
+    let entry = c .before .before .before .before .before in
+    omega (arith, entry .pre .5, entry .pre .7)
 
 -- src/blocks.rt:53:18
 add-starts-2 : tie.Need-add-starts-2 Inv-loop μ-loop
-add-starts-2 c = omega (arith, c .before .before .before .before .before .pre .5, c .before .before .before .before .before .pre .7)
+add-starts-2 c =
+    let entry = c .before .before .before .before .before in
+    omega (arith, entry .pre .5, entry .pre .7)
 
 -- src/blocks.rt:56:5
 loop-holds : tie.Need-loop-holds Inv-loop μ-loop
-loop-holds c = rowed-begin (c .before .before .before .before .before .args .tab .now) (c .before .before .before .before .before .args .shapes) (c .before .before .before .before .before .args .scratch .now) (c .before .before .before .before .before .args .m) (c .before .before .before .before .before .args .state .0) (c .before .before .before .before .before .args .arity .now) (4 + c .before .before .before .before .before .args .m + c .before .before .before .before .before .args .state .0 * length (c .before .before .before .before .before .args .arity .now)) (c .before .before .before .before .before .args .at) (c .before .before .before .before .before .args .plan .now)
+loop-holds c =
+    let entry = c .before .before .before .before .before in
+    rowed-begin (entry .args .tab .now) (entry .args .shapes) (entry .args .scratch .now) (entry .args .m) (entry .args .state .0) (entry .args .arity .now) (4 + entry .args .m + entry .args .state .0 * length (entry .args .arity .now)) (entry .args .at) (entry .args .plan .now)
 
 -- src/blocks.rt:57:28
 cast-plan : tie.Need-cast-plan Inv-loop μ-loop
-cast-plan c = let r = rowed-room (c .before .before .before .before .before .before .before .args .tab .now) (c .before .before .before .before .before .before .before .args .shapes) (c .before .before .before .before .before .before .before .args .scratch .now) (c .before .before .before .before .before .before .before .args .m) (c .before .before .before .before .before .before .before .args .state .0) (c .before .before .before .before .before .before .before .args .arity .now) (4 + c .before .before .before .before .before .before .before .args .m + c .before .before .before .before .before .before .before .args .state .0 * length (c .before .before .before .before .before .before .before .args .arity .now)) (c .before .before .before .before .before .before .before .args .at) (c .before .before .before .before .before .before .before .args .plan .now) (c .before .loop .inv) (c .loop-test .taken) in omega (arith, r, c .before .before .before .before .before .before .before .pre .7)
+cast-plan c =
+    let entry = c .before .before .before .before .before .before .before in
+    let r = rowed-room (entry .args .tab .now) (entry .args .shapes) (entry .args .scratch .now) (entry .args .m) (entry .args .state .0) (entry .args .arity .now) (4 + entry .args .m + entry .args .state .0 * length (entry .args .arity .now)) (entry .args .at) (entry .args .plan .now) (c .before .loop .inv) (c .loop-test .taken) in omega (arith, r, entry .pre .7)
 
 -- src/blocks.rt:57:14
 add-plan : tie.Need-add-plan Inv-loop μ-loop
-add-plan c = omega (arith, c .loop-test .taken, c .before .before .before .before .before .before .before .pre .5, c .before .before .before .before .before .before .before .pre .7)
+add-plan c =
+    let entry = c .before .before .before .before .before .before .before in
+    omega (arith, c .loop-test .taken, entry .pre .5, entry .pre .7)
 
 -- src/blocks.rt:57:9
 mul-plan : tie.Need-mul-plan Inv-loop μ-loop
-mul-plan c = omega (arith, c .loop-test .taken, c .before .before .before .before .before .before .before .pre .5, c .before .before .before .before .before .before .before .pre .7)
+mul-plan c =
+    let entry = c .before .before .before .before .before .before .before in
+    omega (arith, c .loop-test .taken, entry .pre .5, entry .pre .7)
 
 -- src/blocks.rt:57:9
 slice-write-plan : tie.Need-slice-write-plan Inv-loop μ-loop
-slice-write-plan c = let r = rowed-room (c .before .before .before .before .before .before .before .args .tab .now) (c .before .before .before .before .before .before .before .args .shapes) (c .before .before .before .before .before .before .before .args .scratch .now) (c .before .before .before .before .before .before .before .args .m) (c .before .before .before .before .before .before .before .args .state .0) (c .before .before .before .before .before .before .before .args .arity .now) (4 + c .before .before .before .before .before .before .before .args .m + c .before .before .before .before .before .before .before .args .state .0 * length (c .before .before .before .before .before .before .before .args .arity .now)) (c .before .before .before .before .before .before .before .args .at) (c .before .before .before .before .before .before .before .args .plan .now) (c .before .loop .inv) (c .loop-test .taken) in omega (arith, r, c .before .loop .inv .past, c .before .loop .inv .long, c .loop-test .taken, c .before .before .before .before .before .before .before .pre .5, c .before .before .before .before .before .before .before .pre .6)
+slice-write-plan c =
+    let entry = c .before .before .before .before .before .before .before in
+    let r = rowed-room (entry .args .tab .now) (entry .args .shapes) (entry .args .scratch .now) (entry .args .m) (entry .args .state .0) (entry .args .arity .now) (4 + entry .args .m + entry .args .state .0 * length (entry .args .arity .now)) (entry .args .at) (entry .args .plan .now) (c .before .loop .inv) (c .loop-test .taken) in omega (arith, r, c .before .loop .inv .past, c .before .loop .inv .long, c .loop-test .taken, entry .pre .5, entry .pre .6)
 
 -- src/blocks.rt:58:9
 write-block-requires : tie.Need-write-block-requires Inv-loop μ-loop
-write-block-requires c κs = (c .before .before .before .before .before .before .before .before .pre .0, c .before .before .before .before .before .before .before .before .pre .1, c .before .before .before .before .before .before .before .before .pre .2, c .before .before .before .before .before .before .before .before .pre .3, c .before .before .before .before .before .before .before .before .pre .4, c .before .loop-test .taken, (let r = rowed-room (c .before .before .before .before .before .before .before .before .args .tab .now) (c .before .before .before .before .before .before .before .before .args .shapes) (c .before .before .before .before .before .before .before .before .args .scratch .now) (c .before .before .before .before .before .before .before .before .args .m) (c .before .before .before .before .before .before .before .before .args .state .0) (c .before .before .before .before .before .before .before .before .args .arity .now) (4 + c .before .before .before .before .before .before .before .before .args .m + c .before .before .before .before .before .before .before .before .args .state .0 * length (c .before .before .before .before .before .before .before .before .args .arity .now)) (c .before .before .before .before .before .before .before .before .args .at) (c .before .before .before .before .before .before .before .before .args .plan .now) (c .before .before .loop .inv) (c .before .loop-test .taken) in omega (arith, r, c .before .before .before .before .before .before .before .before .pre .6, c .before .before .loop .inv .long, length-set (c .before .before .loop .plan) ((4 + c .before .before .before .before .before .before .before .before .args .m + c .before .before .before .before .before .before .before .before .args .state .0 * length (c .before .before .before .before .before .before .before .before .args .arity .now)) + c .before .before .loop .f) (c .before .before .loop .here))))
+write-block-requires c κs =
+    let entry = c .before .before .before .before .before .before .before .before in
+    let at-loop = c .before .before .loop in
+    (entry .pre .0, entry .pre .1, entry .pre .2, entry .pre .3, entry .pre .4, c .before .loop-test .taken, (let r = rowed-room (entry .args .tab .now) (entry .args .shapes) (entry .args .scratch .now) (entry .args .m) (entry .args .state .0) (entry .args .arity .now) (4 + entry .args .m + entry .args .state .0 * length (entry .args .arity .now)) (entry .args .at) (entry .args .plan .now) (at-loop .inv) (c .before .loop-test .taken) in omega (arith, r, entry .pre .6, at-loop .inv .long, length-set (at-loop .plan) ((4 + entry .args .m + entry .args .state .0 * length (entry .args .arity .now)) + at-loop .f) (at-loop .here))))
 
 -- src/blocks.rt:59:9
 add-f : tie.Need-add-f Inv-loop μ-loop
@@ -64,7 +81,10 @@ loop-less c = search needs
 
 -- src/blocks.rt:56:5
 loop-again : tie.Need-loop-again Inv-loop μ-loop
-loop-again c = rowed-on (c .before .before .before .before .before .before .before .before .before .before .before .args .tab .now) (c .before .before .before .before .before .before .before .before .before .before .before .args .shapes) (c .before .before .before .before .before .before .before .before .before .before .before .args .scratch .now) (c .before .before .before .before .before .before .before .before .before .before .before .args .m) (c .before .before .before .before .before .before .before .before .before .before .before .args .state .0) (c .before .before .before .before .before .before .before .before .before .before .before .args .arity .now) (4 + c .before .before .before .before .before .before .before .before .before .before .before .args .m + c .before .before .before .before .before .before .before .before .before .before .before .args .state .0 * length (c .before .before .before .before .before .before .before .before .before .before .before .args .arity .now)) (c .before .before .before .before .before .before .before .before .before .before .before .args .at) (c .before .before .before .before .before .before .before .before .before .before .before .args .plan .now) (c .before .before .before .before .before .loop .inv) (c .before .before .before .before .loop-test .taken) (c .before .before .before .before .before .before .before .before .before .before .before .pre .5) _ (c .before .before .write-block .result) (c .before .before .write-block .ensures .1) (c .before .before .write-block .ensures .0)
+loop-again c =
+    let entry = c .before .before .before .before .before .before .before .before .before .before .before in
+    let at-write-block = c .before .before .write-block in
+    rowed-on (entry .args .tab .now) (entry .args .shapes) (entry .args .scratch .now) (entry .args .m) (entry .args .state .0) (entry .args .arity .now) (4 + entry .args .m + entry .args .state .0 * length (entry .args .arity .now)) (entry .args .at) (entry .args .plan .now) (c .before .before .before .before .before .loop .inv) (c .before .before .before .before .loop-test .taken) (entry .pre .5) _ (at-write-block .result) (at-write-block .ensures .1) (at-write-block .ensures .0)
 
 -- src/blocks.rt:48:1
 same-length : tie.Need-same-length Inv-loop μ-loop
@@ -72,13 +92,17 @@ same-length c = c .before .loop .inv .long
 
 -- src/blocks.rt:48:1
 returns : tie.Need-returns Inv-loop μ-loop
-returns c = rowed-end (c .before .before .before .before .before .before .before .args .tab .now) (c .before .before .before .before .before .before .before .args .shapes) (c .before .before .before .before .before .before .before .args .scratch .now) (c .before .before .before .before .before .before .before .args .m) (c .before .before .before .before .before .before .before .args .state .0) (c .before .before .before .before .before .before .before .args .arity .now) (4 + c .before .before .before .before .before .before .before .args .m + c .before .before .before .before .before .before .before .args .state .0 * length (c .before .before .before .before .before .before .before .args .arity .now)) (c .before .before .before .before .before .before .before .args .at) (c .before .before .before .before .before .before .before .args .plan .now) (c .before .loop .inv) (c .loop-test .left)
+returns c =
+    let entry = c .before .before .before .before .before .before .before in
+    rowed-end (entry .args .tab .now) (entry .args .shapes) (entry .args .scratch .now) (entry .args .m) (entry .args .state .0) (entry .args .arity .now) (4 + entry .args .m + entry .args .state .0 * length (entry .args .arity .now)) (entry .args .at) (entry .args .plan .now) (c .before .loop .inv) (c .loop-test .left)
 
 cast-starts : tie.Need-cast-starts Inv-loop μ-loop
 cast-starts c = search needs
 
 cast-t19 : tie.Need-cast-t19 Inv-loop μ-loop
-cast-t19 c = omega (arith, c .loop-test .taken, (c .before .before .before .before .before .before .before .pre .2 (stateIn (c .before .before .before .before .before .before .before .args .scratch .now) (c .before .before .before .before .before .before .before .args .state .0)) (state-in (c .before .before .before .before .before .before .before .args .scratch .now) (c .before .before .before .before .before .before .before .args .m) (c .before .before .before .before .before .before .before .args .state .0) (c .before .before .before .before .before .before .before .pre .1))) .ready .few-symbols)
+cast-t19 c =
+    let entry = c .before .before .before .before .before .before .before in
+    omega (arith, c .loop-test .taken, (entry .pre .2 (stateIn (entry .args .scratch .now) (entry .args .state .0)) (state-in (entry .args .scratch .now) (entry .args .m) (entry .args .state .0) (entry .pre .1))) .ready .few-symbols)
 
 pub write-row-spec : {M : Type 1} → statement M
 write-row-spec =

@@ -28,13 +28,18 @@ slice-aggregate-put-class : tie.Need-slice-aggregate-put-class
 slice-aggregate-put-class c = search needs
 
 put-class-requires : tie.Need-put-class-requires
-put-class-requires c κs = let h = class-room (c .before .before .before .before .args .dep .now) (c .before .before .before .before .args .goals .now) (c .before .before .before .before .args .n) (c .before .before .before .before .args .r) (c .before .before .before .before .pre .1) in (c .before .before .before .before .pre .1, c .before .before .before .before .pre .4, c .before .before .before .before .pre .3, c .before .before .before .before .pre .2, h)
+put-class-requires c κs =
+    let entry = c .before .before .before .before in
+    let h = class-room (entry .args .dep .now) (entry .args .goals .now) (entry .args .n) (entry .args .r) (entry .pre .1) in (entry .pre .1, entry .pre .4, entry .pre .3, entry .pre .2, h)
 
 slice-aggregate-least : tie.Need-slice-aggregate-least
 slice-aggregate-least c = search needs
 
 least-requires : tie.Need-least-requires
-least-requires c κs = let e = flat-thirds (classAt (c .before .before .before .before .before .before .before .args .dep .now) (c .before .before .before .before .before .before .before .args .goals .now) (c .before .before .before .before .before .before .before .args .n) (c .before .before .before .before .before .before .before .args .r)) (c .before .before .put-class .result) (c .before .before .put-class .ensures .0) in let f = c .before .before .before .before .before .before .before .pre .5 in search needs
+least-requires c κs =
+    let entry = c .before .before .before .before .before .before .before in
+    let at-put-class = c .before .before .put-class in
+    let e = flat-thirds (classAt (entry .args .dep .now) (entry .args .goals .now) (entry .args .n) (entry .args .r)) (at-put-class .result) (at-put-class .ensures .0) in let f = entry .pre .5 in search needs
 
 slice-aggregate-put-lifted : tie.Need-slice-aggregate-put-lifted
 slice-aggregate-put-lifted c = search needs
@@ -43,16 +48,26 @@ slice-aggregate-put-lifted-2 : tie.Need-slice-aggregate-put-lifted-2
 slice-aggregate-put-lifted-2 c = search needs
 
 put-lifted-requires : tie.Need-put-lifted-requires
-put-lifted-requires c κs = let e = flat-thirds (classAt (c .before .before .before .before .before .before .before .before .before .before .args .dep .now) (c .before .before .before .before .before .before .before .before .before .before .args .goals .now) (c .before .before .before .before .before .before .before .before .before .before .args .n) (c .before .before .before .before .before .before .before .before .before .before .args .r)) (c .before .before .before .before .before .put-class .result) (c .before .before .before .before .before .put-class .ensures .0) in let f = c .before .before .before .before .before .before .before .before .before .before .pre .5 in search needs
+put-lifted-requires c κs =
+    let entry = c .before .before .before .before .before .before .before .before .before .before in
+    let at-put-class = c .before .before .before .before .before .put-class in
+    let e = flat-thirds (classAt (entry .args .dep .now) (entry .args .goals .now) (entry .args .n) (entry .args .r)) (at-put-class .result) (at-put-class .ensures .0) in let f = entry .pre .5 in search needs
 
 slice-aggregate-find-state : tie.Need-slice-aggregate-find-state
 slice-aggregate-find-state c = search needs
 
 find-state-requires : tie.Need-find-state-requires
-find-state-requires c κs = (c .before .before .before .before .before .before .before .before .before .before .before .before .before .pre .0, omega (arith, flat-thirds (classAt (c .before .before .before .before .before .before .before .before .before .before .before .before .before .args .dep .now) (c .before .before .before .before .before .before .before .before .before .before .before .before .before .args .goals .now) (c .before .before .before .before .before .before .before .before .before .before .before .before .before .args .n) (c .before .before .before .before .before .before .before .before .before .before .before .before .before .args .r)) (c .before .before .before .before .before .before .before .before .put-class .result) (c .before .before .before .before .before .before .before .before .put-class .ensures .0), c .before .before .before .before .before .before .before .before .before .before .before .before .before .pre .5), omega (arith, flat-thirds (classAt (c .before .before .before .before .before .before .before .before .before .before .before .before .before .args .dep .now) (c .before .before .before .before .before .before .before .before .before .before .before .before .before .args .goals .now) (c .before .before .before .before .before .before .before .before .before .before .before .before .before .args .n) (c .before .before .before .before .before .before .before .before .before .before .before .before .before .args .r)) (c .before .before .before .before .before .before .before .before .put-class .result) (c .before .before .before .before .before .before .before .before .put-class .ensures .0), c .before .before .before .before .before .before .before .before .before .before .before .before .before .pre .5, c .before .before .put-lifted .kept .1 .1 .1 .1 .0))
+find-state-requires c κs =
+    let entry = c .before .before .before .before .before .before .before .before .before .before .before .before .before in
+    let at-put-class = c .before .before .before .before .before .before .before .before .put-class in
+    (entry .pre .0, omega (arith, flat-thirds (classAt (entry .args .dep .now) (entry .args .goals .now) (entry .args .n) (entry .args .r)) (at-put-class .result) (at-put-class .ensures .0), entry .pre .5), omega (arith, flat-thirds (classAt (entry .args .dep .now) (entry .args .goals .now) (entry .args .n) (entry .args .r)) (at-put-class .result) (at-put-class .ensures .0), entry .pre .5, c .before .before .put-lifted .kept .1 .1 .1 .1 .0))
 
 cast-plan : tie.Need-cast-plan
-cast-plan c = omega (arith, (c .find-state .ensures ∙ ap (placeOf (statesIn (c .before .before .before .before .before .before .before .before .before .before .before .before .before .before .args .scratch .now) (c .before .before .before .before .before .before .before .before .before .before .before .before .before .before .args .m))) ((lifting (classAt (c .before .before .before .before .before .before .before .before .before .before .before .before .before .before .args .dep .now) (c .before .before .before .before .before .before .before .before .before .before .before .before .before .before .args .goals .now) (c .before .before .before .before .before .before .before .before .before .before .before .before .before .before .args .n) (c .before .before .before .before .before .before .before .before .before .before .before .before .before .before .args .r)) (replicate {A = ℕ} 288 0) _ (replicate {A = ℕ} 96 0) _ (c .before .before .before .before .before .before .before .before .before .put-class .result) _ (c .before .before .before .before .before .before .before .before .before .put-class .ensures .0) (c .before .before .before .before .before .before .before .before .before .put-class .ensures .1) (omega (arith, class-few (c .before .before .before .before .before .before .before .before .before .before .before .before .before .before .args .dep .now) (c .before .before .before .before .before .before .before .before .before .before .before .before .before .before .args .goals .now) (c .before .before .before .before .before .before .before .before .before .before .before .before .before .before .args .n) (c .before .before .before .before .before .before .before .before .before .before .before .before .before .before .args .r) (c .before .before .before .before .before .before .before .before .before .before .before .before .before .before .pre .1))) (c .before .before .before .before .before .before .least .ensures) (c .before .before .before .put-lifted .ensures) (omega (arith, c .before .before .before .before .before .before .before .before .before .before .before .before .before .before .pre .5))) .up)), place-le (statesIn (c .before .before .before .before .before .before .before .before .before .before .before .before .before .before .args .scratch .now) (c .before .before .before .before .before .before .before .before .before .before .before .before .before .before .args .m)) (liftedW (classAt (c .before .before .before .before .before .before .before .before .before .before .before .before .before .before .args .dep .now) (c .before .before .before .before .before .before .before .before .before .before .before .before .before .before .args .goals .now) (c .before .before .before .before .before .before .before .before .before .before .before .before .before .before .args .n) (c .before .before .before .before .before .before .before .before .before .before .before .before .before .before .args .r))), states-length (c .before .before .before .before .before .before .before .before .before .before .before .before .before .before .args .scratch .now) (c .before .before .before .before .before .before .before .before .before .before .before .before .before .before .args .m), c .before .before .before .before .before .before .before .before .before .before .before .before .before .before .pre .0 .few)
+cast-plan c =
+    let entry = c .before .before .before .before .before .before .before .before .before .before .before .before .before .before in
+    let at-put-class = c .before .before .before .before .before .before .before .before .before .put-class in
+    let at-least = c .before .before .before .before .before .before .least in
+    omega (arith, (c .find-state .ensures ∙ ap (placeOf (statesIn (entry .args .scratch .now) (entry .args .m))) ((lifting (classAt (entry .args .dep .now) (entry .args .goals .now) (entry .args .n) (entry .args .r)) (replicate {A = ℕ} 288 0) _ (replicate {A = ℕ} 96 0) _ (at-put-class .result) _ (at-put-class .ensures .0) (at-put-class .ensures .1) (omega (arith, class-few (entry .args .dep .now) (entry .args .goals .now) (entry .args .n) (entry .args .r) (entry .pre .1))) (at-least .ensures) (c .before .before .before .put-lifted .ensures) (omega (arith, entry .pre .5))) .up)), place-le (statesIn (entry .args .scratch .now) (entry .args .m)) (liftedW (classAt (entry .args .dep .now) (entry .args .goals .now) (entry .args .n) (entry .args .r))), states-length (entry .args .scratch .now) (entry .args .m), entry .pre .0 .few)
 
 mul-plan : tie.Need-mul-plan
 mul-plan c = search needs
@@ -64,16 +79,25 @@ add-plan : tie.Need-add-plan
 add-plan c = search needs
 
 mul-plan-2 : tie.Need-mul-plan-2
-mul-plan-2 c = omega (arith, c .before .before .before .before .before .before .before .before .before .before .before .before .before .before .pre .6, length-set (c .before .before .before .before .before .before .before .before .before .before .before .before .before .before .args .plan .now) (c .before .before .before .before .before .before .before .before .before .before .before .before .before .before .args .at) (c .find-state .result))
+mul-plan-2 c =
+    let entry = c .before .before .before .before .before .before .before .before .before .before .before .before .before .before in
+    omega (arith, entry .pre .6, length-set (entry .args .plan .now) (entry .args .at) (c .find-state .result))
 
 slice-write-plan-2 : tie.Need-slice-write-plan-2
-slice-write-plan-2 c = omega (arith, c .before .before .before .before .before .before .before .before .before .before .before .before .before .before .pre .6, length-set (c .before .before .before .before .before .before .before .before .before .before .before .before .before .before .args .plan .now) (c .before .before .before .before .before .before .before .before .before .before .before .before .before .before .args .at) (c .find-state .result))
+slice-write-plan-2 c =
+    let entry = c .before .before .before .before .before .before .before .before .before .before .before .before .before .before in
+    omega (arith, entry .pre .6, length-set (entry .args .plan .now) (entry .args .at) (c .find-state .result))
 
 same-length : tie.Need-same-length
 same-length c = search needs
 
 returns : tie.Need-returns
-returns c = two-stores (c .before .before .before .before .before .before .before .before .before .before .before .before .before .before .args .plan .now) (c .before .before .before .before .before .before .before .before .before .before .before .before .before .before .args .at) _ _ ∙ ap₂ (λ x y. sets (c .before .before .before .before .before .before .before .before .before .before .before .before .before .before .args .plan .now) (c .before .before .before .before .before .before .before .before .before .before .before .before .before .before .args .at) (x ∷ y ∷ [])) (c .find-state .ensures ∙ ap (placeOf (statesIn (c .before .before .before .before .before .before .before .before .before .before .before .before .before .before .args .scratch .now) (c .before .before .before .before .before .before .before .before .before .before .before .before .before .before .args .m))) ((lifting (classAt (c .before .before .before .before .before .before .before .before .before .before .before .before .before .before .args .dep .now) (c .before .before .before .before .before .before .before .before .before .before .before .before .before .before .args .goals .now) (c .before .before .before .before .before .before .before .before .before .before .before .before .before .before .args .n) (c .before .before .before .before .before .before .before .before .before .before .before .before .before .before .args .r)) (replicate {A = ℕ} 288 0) _ (replicate {A = ℕ} 96 0) _ (c .before .before .before .before .before .before .before .before .before .put-class .result) _ (c .before .before .before .before .before .before .before .before .before .put-class .ensures .0) (c .before .before .before .before .before .before .before .before .before .put-class .ensures .1) (omega (arith, class-few (c .before .before .before .before .before .before .before .before .before .before .before .before .before .before .args .dep .now) (c .before .before .before .before .before .before .before .before .before .before .before .before .before .before .args .goals .now) (c .before .before .before .before .before .before .before .before .before .before .before .before .before .before .args .n) (c .before .before .before .before .before .before .before .before .before .before .before .before .before .before .args .r) (c .before .before .before .before .before .before .before .before .before .before .before .before .before .before .pre .1))) (c .before .before .before .before .before .before .least .ensures) (c .before .before .before .put-lifted .ensures) (omega (arith, c .before .before .before .before .before .before .before .before .before .before .before .before .before .before .pre .5))) .up)) ((lifting (classAt (c .before .before .before .before .before .before .before .before .before .before .before .before .before .before .args .dep .now) (c .before .before .before .before .before .before .before .before .before .before .before .before .before .before .args .goals .now) (c .before .before .before .before .before .before .before .before .before .before .before .before .before .before .args .n) (c .before .before .before .before .before .before .before .before .before .before .before .before .before .before .args .r)) (replicate {A = ℕ} 288 0) _ (replicate {A = ℕ} 96 0) _ (c .before .before .before .before .before .before .before .before .before .put-class .result) _ (c .before .before .before .before .before .before .before .before .before .put-class .ensures .0) (c .before .before .before .before .before .before .before .before .before .put-class .ensures .1) (omega (arith, class-few (c .before .before .before .before .before .before .before .before .before .before .before .before .before .before .args .dep .now) (c .before .before .before .before .before .before .before .before .before .before .before .before .before .before .args .goals .now) (c .before .before .before .before .before .before .before .before .before .before .before .before .before .before .args .n) (c .before .before .before .before .before .before .before .before .before .before .before .before .before .before .args .r) (c .before .before .before .before .before .before .before .before .before .before .before .before .before .before .pre .1))) (c .before .before .before .before .before .before .least .ensures) (c .before .before .before .put-lifted .ensures) (omega (arith, c .before .before .before .before .before .before .before .before .before .before .before .before .before .before .pre .5))) .top-is)
+returns c =
+    let entry = c .before .before .before .before .before .before .before .before .before .before .before .before .before .before in
+    let at-put-class = c .before .before .before .before .before .before .before .before .before .put-class in
+    let at-least = c .before .before .before .before .before .before .least in
+    let at-put-lifted = c .before .before .before .put-lifted in
+    two-stores (entry .args .plan .now) (entry .args .at) _ _ ∙ ap₂ (λ x y. sets (entry .args .plan .now) (entry .args .at) (x ∷ y ∷ [])) (c .find-state .ensures ∙ ap (placeOf (statesIn (entry .args .scratch .now) (entry .args .m))) ((lifting (classAt (entry .args .dep .now) (entry .args .goals .now) (entry .args .n) (entry .args .r)) (replicate {A = ℕ} 288 0) _ (replicate {A = ℕ} 96 0) _ (at-put-class .result) _ (at-put-class .ensures .0) (at-put-class .ensures .1) (omega (arith, class-few (entry .args .dep .now) (entry .args .goals .now) (entry .args .n) (entry .args .r) (entry .pre .1))) (at-least .ensures) (at-put-lifted .ensures) (omega (arith, entry .pre .5))) .up)) ((lifting (classAt (entry .args .dep .now) (entry .args .goals .now) (entry .args .n) (entry .args .r)) (replicate {A = ℕ} 288 0) _ (replicate {A = ℕ} 96 0) _ (at-put-class .result) _ (at-put-class .ensures .0) (at-put-class .ensures .1) (omega (arith, class-few (entry .args .dep .now) (entry .args .goals .now) (entry .args .n) (entry .args .r) (entry .pre .1))) (at-least .ensures) (at-put-lifted .ensures) (omega (arith, entry .pre .5))) .top-is)
 
 pub write-successor-spec : {M : Type 1} → statement M
 write-successor-spec =

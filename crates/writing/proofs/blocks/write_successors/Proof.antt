@@ -38,7 +38,9 @@ add-here c = search needs
 
 -- src/blocks.rt:111:5
 loop-holds : tie.Need-loop-holds Inv-loop μ-loop
-loop-holds c = paired-begin (λ x. placeOf (statesIn (c .before .before .before .before .args .scratch .now) (c .before .before .before .before .args .m)) (liftedW (classAt (c .before .before .before .before .args .dep .now) (c .before .before .before .before .args .goals .now) (c .before .before .before .before .args .n) (x % 128)))) (λ x. leastCode 65535 (classAt (c .before .before .before .before .args .dep .now) (c .before .before .before .before .args .goals .now) (c .before .before .before .before .args .n) (x % 128))) (c .before .before .before .before .args .order .now) (set (c .before .before .before .before .args .plan .now) (c .before .before .before .before .args .at) (length (c .before .before .before .before .args .order .now))) (c .before .before .before .before .args .at)
+loop-holds c =
+    let entry = c .before .before .before .before in
+    paired-begin (λ x. placeOf (statesIn (entry .args .scratch .now) (entry .args .m)) (liftedW (classAt (entry .args .dep .now) (entry .args .goals .now) (entry .args .n) (x % 128)))) (λ x. leastCode 65535 (classAt (entry .args .dep .now) (entry .args .goals .now) (entry .args .n) (x % 128))) (entry .args .order .now) (set (entry .args .plan .now) (entry .args .at) (length (entry .args .order .now))) (entry .args .at)
 
 -- src/blocks.rt:112:53
 mul-write-successor : tie.Need-mul-write-successor Inv-loop μ-loop
@@ -50,15 +52,24 @@ shared-slice-read-write-successor c = search needs
 
 -- src/blocks.rt:112:52
 cast-write-successor : tie.Need-cast-write-successor Inv-loop μ-loop
-cast-write-successor c = omega (arith, c .before .before .before .before .before .before .before .pre .5 (c .before .before .loop .j) (c .before .loop-test .taken))
+cast-write-successor c =
+    let entry = c .before .before .before .before .before .before .before in
+    omega (arith, entry .pre .5 (c .before .before .loop .j) (c .before .loop-test .taken))
 
 -- src/blocks.rt:112:9
 write-successor-requires : tie.Need-write-successor-requires Inv-loop μ-loop
-write-successor-requires c κs = let s = c .before .before .before .loop .inv in (c .before .before .before .before .before .before .before .before .pre .0, c .before .before .before .before .before .before .before .before .pre .1, c .before .before .before .before .before .before .before .before .pre .2, c .before .before .before .before .before .before .before .before .pre .3, c .before .before .before .before .before .before .before .before .pre .5 (c .before .before .before .loop .j) (c .before .before .loop-test .taken), c .before .before .before .before .before .before .before .before .pre .6 (c .before .before .before .loop .j) (c .before .before .loop-test .taken), omega (arith, s .stands, s .long, s .below, length-set (c .before .before .before .before .before .before .before .before .args .plan .now) (c .before .before .before .before .before .before .before .before .args .at) (length (c .before .before .before .before .before .before .before .before .args .order .now)), c .before .before .loop-test .taken, c .before .before .before .before .before .before .before .before .pre .4, c .before .before .before .before .before .before .before .before .pre .7))
+write-successor-requires c κs =
+    let entry = c .before .before .before .before .before .before .before .before in
+    let at-loop = c .before .before .before .loop in
+    let at-loop-test = c .before .before .loop-test in
+    let s = at-loop .inv in (entry .pre .0, entry .pre .1, entry .pre .2, entry .pre .3, entry .pre .5 (at-loop .j) (at-loop-test .taken), entry .pre .6 (at-loop .j) (at-loop-test .taken), omega (arith, s .stands, s .long, s .below, length-set (entry .args .plan .now) (entry .args .at) (length (entry .args .order .now)), at-loop-test .taken, entry .pre .4, entry .pre .7))
 
 -- src/blocks.rt:113:9
 add-here-2 : tie.Need-add-here-2 Inv-loop μ-loop
-add-here-2 c = let s = c .before .before .before .before .before .before .loop .inv in omega (arith, s .stands, s .long, s .below, length-set (c .before .before .before .before .before .before .before .before .before .before .before .args .plan .now) (c .before .before .before .before .before .before .before .before .before .before .before .args .at) (length (c .before .before .before .before .before .before .before .before .before .before .before .args .order .now)), c .before .before .before .before .before .loop-test .taken, c .before .before .before .before .before .before .before .before .before .before .before .pre .4, c .before .before .before .before .before .before .before .before .before .before .before .pre .7)
+add-here-2 c =
+    let entry = c .before .before .before .before .before .before .before .before .before .before .before in
+    let at-loop = c .before .before .before .before .before .before .loop in
+    let s = at-loop .inv in omega (arith, s .stands, s .long, s .below, length-set (entry .args .plan .now) (entry .args .at) (length (entry .args .order .now)), c .before .before .before .before .before .loop-test .taken, entry .pre .4, entry .pre .7)
 
 -- src/blocks.rt:114:9
 add-j : tie.Need-add-j Inv-loop μ-loop
@@ -70,15 +81,22 @@ loop-less c = search needs
 
 -- src/blocks.rt:111:5
 loop-again : tie.Need-loop-again Inv-loop μ-loop
-loop-again c = paired-on (λ x. placeOf (statesIn (c .before .before .before .before .before .before .before .before .before .before .before .args .scratch .now) (c .before .before .before .before .before .before .before .before .before .before .before .args .m)) (liftedW (classAt (c .before .before .before .before .before .before .before .before .before .before .before .args .dep .now) (c .before .before .before .before .before .before .before .before .before .before .before .args .goals .now) (c .before .before .before .before .before .before .before .before .before .before .before .args .n) (x % 128)))) (λ x. leastCode 65535 (classAt (c .before .before .before .before .before .before .before .before .before .before .before .args .dep .now) (c .before .before .before .before .before .before .before .before .before .before .before .args .goals .now) (c .before .before .before .before .before .before .before .before .before .before .before .args .n) (x % 128))) (c .before .before .before .before .before .before .before .before .before .before .before .args .order .now) (set (c .before .before .before .before .before .before .before .before .before .before .before .args .plan .now) (c .before .before .before .before .before .before .before .before .before .before .before .args .at) (length (c .before .before .before .before .before .before .before .before .before .before .before .args .order .now))) (c .before .before .before .before .before .before .before .before .before .before .before .args .at) (c .before .before .before .before .before .before .loop .inv) (c .before .before .before .before .before .loop-test .taken) _ (c .before .before .write-successor .ensures)
+loop-again c =
+    let entry = c .before .before .before .before .before .before .before .before .before .before .before in
+    let at-loop = c .before .before .before .before .before .before .loop in
+    paired-on (λ x. placeOf (statesIn (entry .args .scratch .now) (entry .args .m)) (liftedW (classAt (entry .args .dep .now) (entry .args .goals .now) (entry .args .n) (x % 128)))) (λ x. leastCode 65535 (classAt (entry .args .dep .now) (entry .args .goals .now) (entry .args .n) (x % 128))) (entry .args .order .now) (set (entry .args .plan .now) (entry .args .at) (length (entry .args .order .now))) (entry .args .at) (at-loop .inv) (c .before .before .before .before .before .loop-test .taken) _ (c .before .before .write-successor .ensures)
 
 -- src/blocks.rt:103:1
 same-length : tie.Need-same-length Inv-loop μ-loop
-same-length c = c .before .loop .inv .long ∙ length-set (c .before .before .before .before .before .before .args .plan .now) (c .before .before .before .before .before .before .args .at) (length (c .before .before .before .before .before .before .args .order .now))
+same-length c =
+    let entry = c .before .before .before .before .before .before in
+    c .before .loop .inv .long ∙ length-set (entry .args .plan .now) (entry .args .at) (length (entry .args .order .now))
 
 -- src/blocks.rt:103:1
 returns : tie.Need-returns Inv-loop μ-loop
-returns c = paired-end (λ x. placeOf (statesIn (c .before .before .before .before .before .before .args .scratch .now) (c .before .before .before .before .before .before .args .m)) (liftedW (classAt (c .before .before .before .before .before .before .args .dep .now) (c .before .before .before .before .before .before .args .goals .now) (c .before .before .before .before .before .before .args .n) (x % 128)))) (λ x. leastCode 65535 (classAt (c .before .before .before .before .before .before .args .dep .now) (c .before .before .before .before .before .before .args .goals .now) (c .before .before .before .before .before .before .args .n) (x % 128))) (c .before .before .before .before .before .before .args .order .now) (set (c .before .before .before .before .before .before .args .plan .now) (c .before .before .before .before .before .before .args .at) (length (c .before .before .before .before .before .before .args .order .now))) (c .before .before .before .before .before .before .args .at) (c .before .loop .inv) (c .loop-test .left) (c .before .before .before .before .before .before .args .plan .now) refl
+returns c =
+    let entry = c .before .before .before .before .before .before in
+    paired-end (λ x. placeOf (statesIn (entry .args .scratch .now) (entry .args .m)) (liftedW (classAt (entry .args .dep .now) (entry .args .goals .now) (entry .args .n) (x % 128)))) (λ x. leastCode 65535 (classAt (entry .args .dep .now) (entry .args .goals .now) (entry .args .n) (x % 128))) (entry .args .order .now) (set (entry .args .plan .now) (entry .args .at) (length (entry .args .order .now))) (entry .args .at) (c .before .loop .inv) (c .loop-test .left) (entry .args .plan .now) refl
 
 pub write-successors-spec : {M : Type 1} → statement M
 write-successors-spec =
