@@ -155,11 +155,11 @@ returns c =
     let at-class-order = c .before .before .before .before .before .before .before .before .before .class-order in
     let at-meet-all = c .before .before .meet-all in
     let a = entry .args in (
-  met-same (at-meet-all .result) _ _ _ _ _ (ap (λ k. 2 + 2 * k) (outs-many (entry .args .tab .now) (entry .args .scratch .now) (128 + 96 * entry .args .state .0) (entry .args .root .0) (entry .args .symbol .0) (getD (entry .args .scratch .now) (entry .args .state .0) 0) (at-outputs .result) (omega (arith, entry .pre .0 .counts (entry .args .state .0) (entry .pre .1))) (at-outputs .ensures .0)))
-      (ap (meets (words (a .tab .now) (a .shapes)) (statesIn (entry .args .scratch .now) (a .m))) (ap (map (λ x. classAt (at-dependency .last .1 .1 .1 .0) (at-derive .last .1 .1 .1 .1 .1 .1 .1 .1 .0) (at-derive .result / 3) (x % 128))) (part-is (begins (at-dependency .last .1 .1 .1 .0)) (λ x. classKey (entry .args .tab .now) (classAt (at-dependency .last .1 .1 .1 .0) (at-derive .last .1 .1 .1 .1 .1 .1 .1 .1 .0) (at-derive .result / 3) x)) (at-derive .result / 3) (replicate {A = ℕ} 96 0) _ (at-class-order .result) ((derived (entry .pre .2 (stateIn (entry .args .scratch .now) (entry .args .state .0)) (state-in (entry .args .scratch .now) (entry .args .m) (entry .args .state .0) (entry .pre .1))) (entry .args .root .0) (entry .args .symbol .0) (entry .pre .3) (entry .pre .4) _ (at-derive .result) (at-derive .ensures .0) (at-derive .ensures .1)) .few) ((derived (entry .pre .2 (stateIn (entry .args .scratch .now) (entry .args .state .0)) (state-in (entry .args .scratch .now) (entry .args .m) (entry .args .state .0) (entry .pre .1))) (entry .args .root .0) (entry .args .symbol .0) (entry .pre .3) (entry .pre .4) _ (at-derive .result) (at-derive .ensures .0) (at-derive .ensures .1)) .few) (at-class-order .ensures .0) (at-class-order .ensures .1)) ∙ classes-in-order (a .tab .now) (at-derive .last .1 .1 .1 .1 .1 .1 .1 .1 .0) (at-derive .result / 3) (at-dependency .last .1 .1 .1 .0) ((derived (entry .pre .2 (stateIn (entry .args .scratch .now) (entry .args .state .0)) (state-in (entry .args .scratch .now) (entry .args .m) (entry .args .state .0) (entry .pre .1))) (entry .args .root .0) (entry .args .symbol .0) (entry .pre .3) (entry .pre .4) _ (at-derive .result) (at-derive .ensures .0) (at-derive .ensures .1)) .few) (at-dependency .ensures .1 .0) (at-dependency .ensures .1 .1) ∙ ap (classesW (a .tab .now)) ((derived (entry .pre .2 (stateIn (entry .args .scratch .now) (entry .args .state .0)) (state-in (entry .args .scratch .now) (entry .args .m) (entry .args .state .0) (entry .pre .1))) (entry .args .root .0) (entry .args .symbol .0) (entry .pre .3) (entry .pre .4) _ (at-derive .result) (at-derive .ensures .0) (at-derive .ensures .1)) .is)))
-      (at-meet-all .ensures .0),
-  at-meet-all .ensures .1,
-)
+      met-same (at-meet-all .result) _ _ _ _ _ (ap (λ k. 2 + 2 * k) (outs-many (entry .args .tab .now) (entry .args .scratch .now) (128 + 96 * entry .args .state .0) (entry .args .root .0) (entry .args .symbol .0) (getD (entry .args .scratch .now) (entry .args .state .0) 0) (at-outputs .result) (omega (arith, entry .pre .0 .counts (entry .args .state .0) (entry .pre .1))) (at-outputs .ensures .0)))
+          (ap (meets (words (a .tab .now) (a .shapes)) (statesIn (entry .args .scratch .now) (a .m))) (ap (map (λ x. classAt (at-dependency .last .1 .1 .1 .0) (at-derive .last .1 .1 .1 .1 .1 .1 .1 .1 .0) (at-derive .result / 3) (x % 128))) (part-is (begins (at-dependency .last .1 .1 .1 .0)) (λ x. classKey (entry .args .tab .now) (classAt (at-dependency .last .1 .1 .1 .0) (at-derive .last .1 .1 .1 .1 .1 .1 .1 .1 .0) (at-derive .result / 3) x)) (at-derive .result / 3) (replicate {A = ℕ} 96 0) _ (at-class-order .result) ((derived (entry .pre .2 (stateIn (entry .args .scratch .now) (entry .args .state .0)) (state-in (entry .args .scratch .now) (entry .args .m) (entry .args .state .0) (entry .pre .1))) (entry .args .root .0) (entry .args .symbol .0) (entry .pre .3) (entry .pre .4) _ (at-derive .result) (at-derive .ensures .0) (at-derive .ensures .1)) .few) ((derived (entry .pre .2 (stateIn (entry .args .scratch .now) (entry .args .state .0)) (state-in (entry .args .scratch .now) (entry .args .m) (entry .args .state .0) (entry .pre .1))) (entry .args .root .0) (entry .args .symbol .0) (entry .pre .3) (entry .pre .4) _ (at-derive .result) (at-derive .ensures .0) (at-derive .ensures .1)) .few) (at-class-order .ensures .0) (at-class-order .ensures .1)) ∙ classes-in-order (a .tab .now) (at-derive .last .1 .1 .1 .1 .1 .1 .1 .1 .0) (at-derive .result / 3) (at-dependency .last .1 .1 .1 .0) ((derived (entry .pre .2 (stateIn (entry .args .scratch .now) (entry .args .state .0)) (state-in (entry .args .scratch .now) (entry .args .m) (entry .args .state .0) (entry .pre .1))) (entry .args .root .0) (entry .args .symbol .0) (entry .pre .3) (entry .pre .4) _ (at-derive .result) (at-derive .ensures .0) (at-derive .ensures .1)) .few) (at-dependency .ensures .1 .0) (at-dependency .ensures .1 .1) ∙ ap (classesW (a .tab .now)) ((derived (entry .pre .2 (stateIn (entry .args .scratch .now) (entry .args .state .0)) (state-in (entry .args .scratch .now) (entry .args .m) (entry .args .state .0) (entry .pre .1))) (entry .args .root .0) (entry .args .symbol .0) (entry .pre .3) (entry .pre .4) _ (at-derive .result) (at-derive .ensures .0) (at-derive .ensures .1)) .is)))
+          (at-meet-all .ensures .0),
+      at-meet-all .ensures .1,
+    )
 
 pub explore-symbol-spec : {M : Type 1} → statement M
 explore-symbol-spec =

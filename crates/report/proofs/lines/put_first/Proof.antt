@@ -57,12 +57,12 @@ slice-aggregate-put-text-3 c = search needs
 
 -- src/lines.rt:61:9
 put-text-requires-3 : tie.Need-put-text-requires-3
-put-text-requires-3 c κs = -- plain
+put-text-requires-3 c κs =  -- plain
     let t1 : c .before .before .before .before .before .before .before .before .before .before .before .before .before .before .before .before .before .put-text .result ≤ 6 = omega (arith, c .before .before .before .before .before .before .before .before .before .before .before .before .before .before .before .before .before .put-text .ensures .0) in let d1 : c .before .before .before .before .before .before .before .before .before .before .before .before .before .put-digits .result ≤ 26 = omega (arith, number-end (c .before .before .before .before .before .before .before .before .before .before .before .before .before .before .before .before .before .before .before .before .before .before .args .nodes) _ _ (c .before .before .before .before .before .before .before .before .before .before .before .before .before .put-digits .ensures .0), t1) in let t2 : c .before .before .before .before .before .before .before .before .put-text2 .result ≤ 34 = omega (arith, c .before .before .before .before .before .before .before .before .put-text2 .ensures .0, d1) in let d2 : c .before .before .before .before .put-digits2 .result ≤ 54 = omega (arith, number-end (c .before .before .before .before .before .before .before .before .before .before .before .before .before .before .before .before .before .before .before .before .before .before .args .states) _ _ (c .before .before .before .before .put-digits2 .ensures .0), t2) in omega (arith, d2, (c .before .before .before .before .put-digits2 .kept .1 .1 .0 ∙ c .before .before .before .before .before .before .before .before .put-text2 .kept .1 .0 ∙ c .before .before .before .before .before .before .before .before .before .before .before .before .before .put-digits .kept .1 .1 .0 ∙ c .before .before .before .before .before .before .before .before .before .before .before .before .before .before .before .before .before .put-text .kept .1 .0))
 
 -- src/lines.rt:62:9
 put-digits-requires-3 : tie.Need-put-digits-requires-3
-put-digits-requires-3 c κs = -- plain
+put-digits-requires-3 c κs =  -- plain
     let t1 : c .before .before .before .before .before .before .before .before .before .before .before .before .before .before .before .before .before .before .before .before .before .put-text .result ≤ 6 = omega (arith, c .before .before .before .before .before .before .before .before .before .before .before .before .before .before .before .before .before .before .before .before .before .put-text .ensures .0) in let d1 : c .before .before .before .before .before .before .before .before .before .before .before .before .before .before .before .before .before .put-digits .result ≤ 26 = omega (arith, number-end (c .before .before .before .before .before .before .before .before .before .before .before .before .before .before .before .before .before .before .before .before .before .before .before .before .before .before .args .nodes) _ _ (c .before .before .before .before .before .before .before .before .before .before .before .before .before .before .before .before .before .put-digits .ensures .0), t1) in let t2 : c .before .before .before .before .before .before .before .before .before .before .before .before .put-text2 .result ≤ 34 = omega (arith, c .before .before .before .before .before .before .before .before .before .before .before .before .put-text2 .ensures .0, d1) in let d2 : c .before .before .before .before .before .before .before .before .put-digits2 .result ≤ 54 = omega (arith, number-end (c .before .before .before .before .before .before .before .before .before .before .before .before .before .before .before .before .before .before .before .before .before .before .before .before .before .before .args .states) _ _ (c .before .before .before .before .before .before .before .before .put-digits2 .ensures .0), t2) in let t3 : c .before .before .before .put-text3 .result ≤ 63 = omega (arith, c .before .before .before .put-text3 .ensures .0, d2) in omega (arith, t3, (c .before .before .before .put-text3 .kept .1 .0 ∙ c .before .before .before .before .before .before .before .before .put-digits2 .kept .1 .1 .0 ∙ c .before .before .before .before .before .before .before .before .before .before .before .before .put-text2 .kept .1 .0 ∙ c .before .before .before .before .before .before .before .before .before .before .before .before .before .before .before .before .before .put-digits .kept .1 .1 .0 ∙ c .before .before .before .before .before .before .before .before .before .before .before .before .before .before .before .before .before .before .before .before .before .put-text .kept .1 .0))
 
 -- src/lines.rt:63:22
@@ -71,7 +71,7 @@ slice-aggregate-put-text-4 c = search needs
 
 -- src/lines.rt:63:9
 put-text-requires-4 : tie.Need-put-text-requires-4
-put-text-requires-4 c κs = -- plain
+put-text-requires-4 c κs =  -- plain
     let t1 : c .before .before .before .before .before .before .before .before .before .before .before .before .before .before .before .before .before .before .before .before .before .before .before .before .before .before .put-text .result ≤ 6 = omega (arith, c .before .before .before .before .before .before .before .before .before .before .before .before .before .before .before .before .before .before .before .before .before .before .before .before .before .before .put-text .ensures .0) in let d1 : c .before .before .before .before .before .before .before .before .before .before .before .before .before .before .before .before .before .before .before .before .before .before .put-digits .result ≤ 26 = omega (arith, number-end (c .before .before .before .before .before .before .before .before .before .before .before .before .before .before .before .before .before .before .before .before .before .before .before .before .before .before .before .before .before .before .before .args .nodes) _ _ (c .before .before .before .before .before .before .before .before .before .before .before .before .before .before .before .before .before .before .before .before .before .before .put-digits .ensures .0), t1) in let t2 : c .before .before .before .before .before .before .before .before .before .before .before .before .before .before .before .before .before .put-text2 .result ≤ 34 = omega (arith, c .before .before .before .before .before .before .before .before .before .before .before .before .before .before .before .before .before .put-text2 .ensures .0, d1) in let d2 : c .before .before .before .before .before .before .before .before .before .before .before .before .before .put-digits2 .result ≤ 54 = omega (arith, number-end (c .before .before .before .before .before .before .before .before .before .before .before .before .before .before .before .before .before .before .before .before .before .before .before .before .before .before .before .before .before .before .before .args .states) _ _ (c .before .before .before .before .before .before .before .before .before .before .before .before .before .put-digits2 .ensures .0), t2) in let t3 : c .before .before .before .before .before .before .before .before .put-text3 .result ≤ 63 = omega (arith, c .before .before .before .before .before .before .before .before .put-text3 .ensures .0, d2) in let d3 : c .before .before .before .before .put-digits3 .result ≤ 83 = omega (arith, number-end (c .before .before .before .before .before .before .before .before .before .before .before .before .before .before .before .before .before .before .before .before .before .before .before .before .before .before .before .before .before .before .before .args .matches) _ _ (c .before .before .before .before .put-digits3 .ensures .0), t3) in omega (arith, d3, (c .before .before .before .before .put-digits3 .kept .1 .1 .0 ∙ c .before .before .before .before .before .before .before .before .put-text3 .kept .1 .0 ∙ c .before .before .before .before .before .before .before .before .before .before .before .before .before .put-digits2 .kept .1 .1 .0 ∙ c .before .before .before .before .before .before .before .before .before .before .before .before .before .before .before .before .before .put-text2 .kept .1 .0 ∙ c .before .before .before .before .before .before .before .before .before .before .before .before .before .before .before .before .before .before .before .before .before .before .put-digits .kept .1 .1 .0 ∙ c .before .before .before .before .before .before .before .before .before .before .before .before .before .before .before .before .before .before .before .before .before .before .before .before .before .before .put-text .kept .1 .0))
 
 -- src/lines.rt:64:9

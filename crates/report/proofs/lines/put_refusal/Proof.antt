@@ -65,7 +65,7 @@ slice-aggregate-put-text-3 c = search needs
 
 -- src/lines.rt:46:9
 put-text-requires-3 : tie.Need-put-text-requires-3
-put-text-requires-3 c κs = -- plain
+put-text-requires-3 c κs =  -- plain
     omega (arith, c .before .before .before .before .before .before .before .before .before .before .before .before .before .before .before .before .before .put-text .ensures .0, number-end (c .before .before .before .before .before .before .before .before .before .before .before .before .before .before .before .before .before .before .before .before .number .result) _ _ (c .before .before .before .before .before .before .before .before .before .before .before .before .before .put-digits .ensures .0), c .before .before .before .before .before .before .before .before .put-text2 .ensures .0, number-end (c .before .before .before .before .before .before .before .before .before .before .before .before .before .before .before .before .before .before .before .before .before .before .before .args .place) _ _ (c .before .before .before .before .put-digits2 .ensures .0), (c .before .before .before .before .put-digits2 .kept .1 .1 .0 ∙ c .before .before .before .before .before .before .before .before .put-text2 .kept .1 .0 ∙ c .before .before .before .before .before .before .before .before .before .before .before .before .before .put-digits .kept .1 .1 .0 ∙ c .before .before .before .before .before .before .before .before .before .before .before .before .before .before .before .before .before .put-text .kept .1 .0))
 
 -- src/lines.rt:35:1
