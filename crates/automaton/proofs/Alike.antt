@@ -11,7 +11,8 @@ use lib.Dec.{eqb}
 use Rattle.kinds.specs.Lists.{same, filter, any, all}
 use Rattle.kinds.specs.Positions.{Pos, before}
 use Rattle.kinds.proofs.Bools.{and-l, and-r, both, eqb-is, is-eqb}
-use Rattle.kinds.proofs.Members.{_∈_, here, there, _⊆_, in-filter, filter-in, all-at, all-of, on-any, any-of, on-gather, gather-in, same-is, same-refl}
+use Rattle.kinds.proofs.Members.{in-filter, filter-in, all-at, all-of, on-any, any-of, on-gather, gather-in, same-is, same-refl}
+use Rattle.kinds.specs.Members.{_∈_, here, there, _⊆_}
 use Rattle.kinds.proofs.Ordered.{Before, before-irrefl, before-trans, before-total}
 use Rattle.automaton.specs.Goals.{Calculus, Goal, State, isRoot, allObs, firstFrom, first, label}
 use Rattle.automaton.specs.Classes.{sameGoal, sameState}

@@ -7,7 +7,8 @@ use mathlib.Core.List.{map}
 use Prim.Native.Nat.{ℕ}
 use Rattle.kinds.specs.Lists.{filter, isNil}
 use Rattle.kinds.specs.Positions.{Pos}
-use Rattle.kinds.proofs.Members.{_∈_, in-filter, filter-in, on-map, map-in, in-sort, sort-in, sort-perm}
+use Rattle.kinds.proofs.Members.{in-filter, filter-in, on-map, map-in, in-sort, sort-in, sort-perm}
+use Rattle.kinds.specs.Members.{_∈_}
 use Rattle.kinds.proofs.Pairwise.{Pairwise, pairwise-filter, pairwise-map, pairwise-perm}
 use Rattle.kinds.proofs.ListLaws.{append-same}
 use Rattle.automaton.specs.Goals.{Calculus, Goal, State, label, reduced, met, Announcement, announcement, annBefore, outputs}

@@ -9,7 +9,7 @@ use Prim.Native.Nat.{ℕ}
 use native.Mathlib.Omega.{arith}
 use lib.ListN.{length-append}
 use Rattle.kinds.specs.Positions.{Pos}
-use Rattle.kinds.proofs.Members.{_∈_, here}
+use Rattle.kinds.specs.Members.{_∈_, here}
 use Rattle.kinds.proofs.Prefixes.{_≼_, ≼-refl, ≼-trans, ≼-snoc, ≼-same, comparable}
 use Rattle.automaton.specs.Goals.{Calculus, Goal, State, label, deriv}
 use Rattle.automaton.specs.Bare.{owed, argsOf}

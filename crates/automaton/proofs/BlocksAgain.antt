@@ -19,7 +19,8 @@ use Rattle.kinds.specs.Lists.{find, gather, orElse}
 use Rattle.kinds.specs.declared.Reason.the-variants.{ManyGoals, ManyStates}
 use Rattle.kinds.proofs.Bools.{ltb-is, ltb-not, leb-not}
 use Rattle.kinds.proofs.Options.{none-not}
-use Rattle.kinds.proofs.Members.{_∈_, here, there, in-one, ∈-append}
+use Rattle.kinds.proofs.Members.{in-one, ∈-append}
+use Rattle.kinds.specs.Members.{_∈_, here, there}
 use Rattle.kinds.proofs.Places.{find-more, find-new, Ext, ext-refl, ext-trans, ext-length, getD-ext}
 use Rattle.automaton.specs.Exploring.{Construction, Succ, Block, Met, stopped, met, Made, refused, made, andThen, thenBlock, thenMore, numbered, meet, meets, row, run, explored}
 use Rattle.automaton.specs.FinalBlocks.{succOf, blocksOf, allBlocks, SmallOn}
@@ -68,8 +69,8 @@ module _ {S : Type 0} (C : Construction S) where
       rw (← a, ← b) (record { ext = ext-refl ss; few = λ l. l; count = refl; from = λ s m. inl m; small = λ x m. elim m [ ] })
   meets-found (k ∷ ks) ss ss′ xs e = go (meet C ss k) refl e (meets-found ks)
     where
-      join : (ss₁ : List S) (ys : List Succ) (zs : List Succ) → Found ss (k ∷ []) ss₁ ys → Found ss₁ ks ss′ zs → Found ss (k ∷ ks) ss′ (ys ++ zs)
-      join ss₁ ys zs a b = record {
+      commonPrefix : (ss₁ : List S) (ys : List Succ) (zs : List Succ) → Found ss (k ∷ []) ss₁ ys → Found ss₁ ks ss′ zs → Found ss (k ∷ ks) ss′ (ys ++ zs)
+      commonPrefix ss₁ ys zs a b = record {
         ext = ext-trans (a .ext) (b .ext);
         few = λ l. b .few (a .few l);
         count = let x = a .count in let y = b .count in length-append ys zs ∙ omega arith;
@@ -87,7 +88,7 @@ module _ {S : Type 0} (C : Construction S) where
       last ss₁ ys a (met ss₂ zs) h d ih =
           let x : ss₂ ≡ ss′ = cc in
           let y : ys ++ zs ≡ xs = cc in
-          rw (← y) (join ss₁ ys zs a (ih ss₁ ss′ zs (h ∙ ap (λ l. met l zs) x)))
+          rw (← y) (commonPrefix ss₁ ys zs a (ih ss₁ ss′ zs (h ∙ ap (λ l. met l zs) x)))
 
       go : (m : Met S) → meet C ss k ≡ m → andThen m (λ ss₁ ys. andThen (meets C ss₁ ks) (λ ss₂ zs. met ss₂ (ys ++ zs))) ≡ met ss′ xs
           → ((ss ss′ : List S) (xs : List Succ) → meets C ss ks ≡ met ss′ xs → Found ss ks ss′ xs) → Found ss (k ∷ ks) ss′ xs
@@ -153,9 +154,9 @@ module _ {S : Type 0} (C : Construction S) (alike : (s : S) → C .same s s ≡ 
       rw (← a, ← b) (record { ext = ext-refl ss; few = λ l. l; is = λ t x. sym (append-nil bs); small = λ g n h k m. none-not h })
   row-again i s f (n ∷ ns) ss bs ss′ bs′ e = go (meets C ss (C .classes s f n)) refl e (λ ss₁ bs₁ d. row-again i s (suc f) ns ss₁ bs₁ ss′ bs′ d)
     where
-      join : (ss₁ : List S) (xs : List Succ) → meets C ss (C .classes s f n) ≡ met ss₁ xs
+      commonPrefix : (ss₁ : List S) (xs : List Succ) → meets C ss (C .classes s f n) ≡ met ss₁ xs
           → RowAgain s (suc f) ns ss₁ (bs ++ (record { out = C .outputs s f n; succs = xs } ∷ [])) ss′ bs′ → RowAgain s f (n ∷ ns) ss bs ss′ bs′
-      join ss₁ xs h r = record {
+      commonPrefix ss₁ xs h r = record {
         ext = ext-trans (meets-found C (C .classes s f n) ss ss₁ xs h .ext) (r .ext);
         few = λ l. r .few (meets-found C (C .classes s f n) ss ss₁ xs h .few l);
         is = λ t x.
@@ -171,7 +172,7 @@ module _ {S : Type 0} (C : Construction S) (alike : (s : S) → C .same s s ≡ 
       go : (m : Met S) → meets C ss (C .classes s f n) ≡ m → thenBlock i (C .outputs s f n) bs m (λ ss₁ bs₁. row C i s (suc f) ns ss₁ bs₁) ≡ made ss′ bs′
           → ((ss₁ : List S) (bs₁ : List Block) → row C i s (suc f) ns ss₁ bs₁ ≡ made ss′ bs′ → RowAgain s (suc f) ns ss₁ bs₁ ss′ bs′) → RowAgain s f (n ∷ ns) ss bs ss′ bs′
       go (stopped r) h d ih = let z : _≡_ {A = ℕ} 0 1 = cc in absurd (omega arith)
-      go (met ss₁ xs) h d ih = join ss₁ xs h (ih ss₁ (bs ++ (record { out = C .outputs s f n; succs = xs } ∷ [])) d)
+      go (met ss₁ xs) h d ih = commonPrefix ss₁ xs h (ih ss₁ (bs ++ (record { out = C .outputs s f n; succs = xs } ∷ [])) d)
 
   -- ---- states in turn
   record RunAgain (ar : List ℕ) (i : ℕ) (ss : List S) (bs : List Block) (ss′ : List S) (bs′ : List Block) : Type 0 where
@@ -190,8 +191,8 @@ module _ {S : Type 0} (C : Construction S) (alike : (s : S) → C .same s s ≡ 
   run-again ar zero i ss bs ss′ bs′ fi few e = run-done ar i ss bs ss′ bs′ (omega arith) e
   run-again ar (suc fuel) i ss bs ss′ bs′ fi few e = go (ltb i (length ss)) refl e (λ ss₁ bs₁ l d. run-again ar fuel (suc i) ss₁ bs₁ ss′ bs′ (omega arith) l d)
     where
-      join : i < length ss → (ss₁ : List S) (bs₁ : List Block) → RowAgain (getD ss i (C .start)) 0 ar ss bs ss₁ bs₁ → RunAgain ar (suc i) ss₁ bs₁ ss′ bs′ → RunAgain ar i ss bs ss′ bs′
-      join inside ss₁ bs₁ a b =
+      commonPrefix : i < length ss → (ss₁ : List S) (bs₁ : List Block) → RowAgain (getD ss i (C .start)) 0 ar ss bs ss₁ bs₁ → RunAgain ar (suc i) ss₁ bs₁ ss′ bs′ → RunAgain ar i ss bs ss′ bs′
+      commonPrefix inside ss₁ bs₁ a b =
           let x : Ext ss ss′ = ext-trans (a .ext) (b .ext) in
           let l = ext-length x in
           let here-is : getD ss′ i (C .start) ≡ getD ss i (C .start) = getD-ext x i (C .start) inside in
@@ -211,7 +212,7 @@ module _ {S : Type 0} (C : Construction S) (alike : (s : S) → C .same s s ≡ 
       inner : i < length ss → (m : Made S) → row C i (getD ss i (C .start)) 0 ar ss bs ≡ m → thenMore m (λ ss₁ bs₁. run C ar fuel (suc i) ss₁ bs₁) ≡ made ss′ bs′
           → ((ss₁ : List S) (bs₁ : List Block) → length ss₁ ≤ 128 → run C ar fuel (suc i) ss₁ bs₁ ≡ made ss′ bs′ → RunAgain ar (suc i) ss₁ bs₁ ss′ bs′) → RunAgain ar i ss bs ss′ bs′
       inner inside (refused r p) q d ih = let z : _≡_ {A = ℕ} 0 1 = cc in absurd (omega arith)
-      inner inside (made ss₁ bs₁) q d ih = let o = row-again i (getD ss i (C .start)) 0 ar ss bs ss₁ bs₁ q in join inside ss₁ bs₁ o (ih ss₁ bs₁ (o .few few) d)
+      inner inside (made ss₁ bs₁) q d ih = let o = row-again i (getD ss i (C .start)) 0 ar ss bs ss₁ bs₁ q in commonPrefix inside ss₁ bs₁ o (ih ss₁ bs₁ (o .few few) d)
 
       go : (b : Bool) → ltb i (length ss) ≡ b → cond b (thenMore (row C i (getD ss i (C .start)) 0 ar ss bs) (λ ss₁ bs₁. run C ar fuel (suc i) ss₁ bs₁)) (made ss bs) ≡ made ss′ bs′
           → ((ss₁ : List S) (bs₁ : List Block) → length ss₁ ≤ 128 → run C ar fuel (suc i) ss₁ bs₁ ≡ made ss′ bs′ → RunAgain ar (suc i) ss₁ bs₁ ss′ bs′) → RunAgain ar i ss bs ss′ bs′

@@ -13,7 +13,8 @@ use lib.ListN.{length, length-append, length-map}
 use Rattle.kinds.specs.Lists.{filter, gather, range, isNil}
 use Rattle.kinds.specs.Positions.{Pos, strip, code}
 use Rattle.kinds.proofs.Bools.{and-l}
-use Rattle.kinds.proofs.Members.{_∈_, filter-split, filter-at-most, filter-le, gather-length, length-range}
+use Rattle.kinds.proofs.Members.{filter-split, filter-at-most, filter-le, gather-length, length-range}
+use Rattle.kinds.specs.Members.{_∈_}
 use Rattle.kinds.proofs.Prefixes.{strip-join}
 use Rattle.kinds.proofs.Codes.{Small, small-prefix, small-rest, small-snoc, small-code}
 use Rattle.term.specs.Terms.{node}

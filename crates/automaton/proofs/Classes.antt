@@ -19,7 +19,8 @@ use lib.ListN.{length, getD, getElem?}
 use Rattle.kinds.specs.Lists.{sum}
 use Rattle.kinds.proofs.Bools.{test, not-true, Order, less, equal, more, order}
 use Rattle.kinds.proofs.Options.{none-not}
-use Rattle.kinds.proofs.Members.{_∈_, here, there, _⊆_, on-map, map-in, in-sort, sort-in, sort-perm}
+use Rattle.kinds.proofs.Members.{on-map, map-in, in-sort, sort-in, sort-perm}
+use Rattle.kinds.specs.Members.{_∈_, here, there, _⊆_}
 use Rattle.kinds.proofs.Sums.{sum-map, sum-perm, sum-zero}
 use Rattle.kinds.proofs.Pairwise.{Pairwise}
 use Rattle.kinds.proofs.Places.{on-in, at-below, at-some, getD-at}

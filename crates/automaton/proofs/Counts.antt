@@ -17,7 +17,8 @@ use native.Mathlib.Omega.{arith}
 use lib.ListN.{length, length-append, length-map}
 use Rattle.kinds.specs.Lists.{same, sum}
 use Rattle.kinds.specs.Positions.{Pos}
-use Rattle.kinds.proofs.Members.{_∈_, here, there, _⊆_, ∈-append, on-map, same-is, same-refl, Distinct, distinct-le}
+use Rattle.kinds.proofs.Members.{∈-append, on-map, same-is, same-refl, Distinct, distinct-le}
+use Rattle.kinds.specs.Members.{_∈_, here, there, _⊆_}
 use Rattle.kinds.proofs.ListLaws.{none-left}
 use Rattle.kinds.proofs.Sums.{sum-append, sum-map}
 use Rattle.term.specs.Terms.{Term, node, Terms, count, span}

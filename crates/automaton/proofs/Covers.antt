@@ -13,11 +13,12 @@ use Prim.Native.Nat.{ℕ, _+_, _≤_}
 use native.Mathlib.Nat.{zero-add}
 use lib.ListN.{getElem?}
 use Rattle.kinds.specs.Lists.{same, sum}
-use Rattle.kinds.specs.Positions.{Pos}
+use Rattle.kinds.specs.Positions.{Pos, prefix}
 use Rattle.kinds.proofs.Bools.{not-true, bool-ext}
-use Rattle.kinds.proofs.Members.{_∈_, here, on-any, any-of, same-is, same-refl}
+use Rattle.kinds.proofs.Members.{on-any, any-of, same-is, same-refl}
+use Rattle.kinds.specs.Members.{_∈_, here}
 use Rattle.kinds.proofs.Places.{at-in, on-in}
-use Rattle.kinds.proofs.Prefixes.{_≼_, ≼-refl, ≼-trans, comparable, below-cases, snoc-not, prefix, prefix-is, below-prefix}
+use Rattle.kinds.proofs.Prefixes.{_≼_, ≼-refl, ≼-trans, comparable, below-cases, snoc-not, prefix-is, below-prefix}
 use Rattle.automaton.specs.Goals.{Calculus, Goal, State, has, allObs, label, deriv}
 use Rattle.automaton.specs.Classes.{dep, Dependent, direct, via, classes}
 use Rattle.automaton.specs.Bare.{fresh}

@@ -24,7 +24,8 @@ use Rattle.kinds.specs.Lists.{same, filter, any, gather, range, isNil}
 use Rattle.kinds.specs.Positions.{Pos, before, strip}
 use Rattle.kinds.proofs.Bools.{and-l, and-r, both, of-not, eqb-is, is-eqb}
 use Rattle.kinds.proofs.Options.{none-not}
-use Rattle.kinds.proofs.Members.{_∈_, here, there, ∈-left, ∈-right, ∈-append, in-filter, filter-in, on-map, map-in, on-gather, gather-in, on-any, any-of, same-is, same-refl, in-range, range-in}
+use Rattle.kinds.proofs.Members.{∈-left, ∈-right, ∈-append, in-filter, filter-in, on-map, map-in, on-gather, gather-in, on-any, any-of, same-is, same-refl, in-range, range-in}
+use Rattle.kinds.specs.Members.{_∈_, here, there}
 use Rattle.term.specs.Terms.{Term, blank, node, Terms, tnil, tcons}
 use Rattle.term.specs.Places.{nth}
 use Rattle.automaton.specs.Goals.{Goal, State, Calculus, isRoot, has, firstFrom, first, allObs, label, initial, reduced, met, deriv}

@@ -12,7 +12,8 @@ use native.Mathlib.Omega.{arith}
 use lib.ListN.{length, getD, getElem?, length-map}
 use Rattle.kinds.specs.Lists.{range}
 use Rattle.kinds.specs.Positions.{Pos}
-use Rattle.kinds.proofs.Members.{_∈_, here, there, _⊆_, same-refl, length-range}
+use Rattle.kinds.proofs.Members.{same-refl, length-range}
+use Rattle.kinds.specs.Members.{_∈_, here, there, _⊆_}
 use Rattle.kinds.proofs.Places.{at-in, at-below, getD-at}
 use Rattle.kinds.proofs.Codes.{Small}
 use Rattle.automaton.specs.Goals.{Calculus, State, initial, label, deriv, Announcement, outputs}

@@ -13,11 +13,12 @@ use Prim.Native.Nat.{ℕ, zero, suc}
 use lib.Dec.{eqb, ltb, leb}
 use lib.ListN.{length, getD, length-map, List·getD-map}
 use Rattle.kinds.specs.Lists.{same, filter, any, all, sort, gather, range, find, isNil}
-use Rattle.kinds.specs.Positions.{Pos, before, join, strip, code}
+use Rattle.kinds.specs.Positions.{Pos, before, commonPrefix, strip, code}
 use Rattle.kinds.specs.declared.Reason.{Reason}
 use Rattle.kinds.specs.declared.Reason.the-variants.{ManyGoals, ManyStates}
 use Rattle.kinds.proofs.Bools.{and-l, and-r, eqb-is, ltb-is}
-use Rattle.kinds.proofs.Members.{_∈_, here, there, ∈-append, in-filter, on-map, on-gather, same-is}
+use Rattle.kinds.proofs.Members.{∈-append, in-filter, on-map, on-gather, same-is}
+use Rattle.kinds.specs.Members.{_∈_, here, there}
 use Rattle.kinds.proofs.ListLaws.{map-append, map-map, map-same, filter-map, filter-same, any-map, any-same, all-map, all-same, sort-map, gather-same, map-gather, gather-map, nil-same}
 use Rattle.kinds.proofs.Places.{getD-in}
 use Rattle.kinds.proofs.Prefixes.{_≼_}
@@ -158,7 +159,7 @@ module _ {O P : Type 0} (K : Calculus O) (J : Calculus P) (h : O → P) (Right :
 
   gcpFrom-same : (p : Pos) (s : State O) → gcpFrom p (forgets h s) ≡ gcpFrom p s
   gcpFrom-same p [] = refl
-  gcpFrom-same p (g ∷ s) = gcpFrom-same (join p (g .ann)) s
+  gcpFrom-same p (g ∷ s) = gcpFrom-same (commonPrefix p (g .ann)) s
 
   pub gcp-same : (s : State O) → gcp (forgets h s) ≡ gcp s
   gcp-same [] = refl

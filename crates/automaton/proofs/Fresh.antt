@@ -8,7 +8,8 @@ use lib.ListN.{length}
 use Rattle.kinds.specs.Lists.{same}
 use Rattle.kinds.specs.Positions.{Pos}
 use Rattle.kinds.proofs.Bools.{or-l, not-true}
-use Rattle.kinds.proofs.Members.{_∈_, map-in, any-of, same-is, same-refl}
+use Rattle.kinds.proofs.Members.{map-in, any-of, same-is, same-refl}
+use Rattle.kinds.specs.Members.{_∈_}
 use Rattle.automaton.specs.Goals.{Calculus, State, has, label, deriv}
 use Rattle.automaton.specs.Classes.{classes, gcp, liftGoal, lift}
 use Rattle.automaton.specs.Bare.{fresh}

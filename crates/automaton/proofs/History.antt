@@ -12,7 +12,8 @@ use lib.ListN.{getElem?}
 use Rattle.kinds.specs.Lists.{same}
 use Rattle.kinds.specs.Positions.{Pos, strip}
 use Rattle.kinds.proofs.Bools.{test}
-use Rattle.kinds.proofs.Members.{_∈_, here, ∈-left, on-map, map-in, same-is}
+use Rattle.kinds.proofs.Members.{∈-left, on-map, map-in, same-is}
+use Rattle.kinds.specs.Members.{_∈_, here}
 use Rattle.kinds.proofs.Prefixes.{_≼_, ≼-refl, ≼-snoc, strip-append, strip-more, strip-below, strip-join}
 use Rattle.term.specs.Terms.{Term, node, Terms, count}
 use Rattle.term.specs.Places.{sub, headAt}

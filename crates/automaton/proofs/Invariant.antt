@@ -12,10 +12,11 @@ use Prim.Native.Nat.{ℕ, _+_, _≤_}
 use native.Mathlib.Omega.{arith}
 use lib.ListN.{getElem?}
 use Rattle.kinds.specs.Lists.{same, sum}
-use Rattle.kinds.specs.Positions.{Pos}
-use Rattle.kinds.proofs.Members.{_∈_, here, there, any-of, same-refl}
+use Rattle.kinds.specs.Positions.{Pos, prefix}
+use Rattle.kinds.proofs.Members.{any-of, same-refl}
+use Rattle.kinds.specs.Members.{_∈_, here, there}
 use Rattle.kinds.proofs.Pairwise.{Pairwise}
-use Rattle.kinds.proofs.Prefixes.{_≼_, ≼-refl, prefix, below-prefix, prefix-append}
+use Rattle.kinds.proofs.Prefixes.{_≼_, ≼-refl, below-prefix, prefix-append}
 use Rattle.term.specs.Terms.{Term}
 use Rattle.term.specs.Places.{sub, headAt}
 use Rattle.automaton.specs.Goals.{Goal, Announcement}

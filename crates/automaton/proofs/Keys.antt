@@ -11,7 +11,8 @@ use lib.ListN.{length, length-append}
 use Rattle.kinds.specs.Lists.{filter, gather, range, isNil}
 use Rattle.kinds.specs.Positions.{Pos}
 use Rattle.kinds.proofs.Bools.{and-l}
-use Rattle.kinds.proofs.Members.{_∈_, ∈-append, in-filter, on-map, on-gather, Distinct}
+use Rattle.kinds.proofs.Members.{∈-append, in-filter, on-map, on-gather, Distinct}
+use Rattle.kinds.specs.Members.{_∈_}
 use Rattle.kinds.proofs.Pairwise.{Pairwise, pairwise-append, pairwise-filter, pairwise-two, pairwise-distinct, pairwise-map, pairwise-gather, pairwise-range}
 use Rattle.kinds.proofs.ListLaws.{append-same}
 use Rattle.kinds.proofs.Prefixes.{_≼_, ≼-trans, ≼-length, strip-join}

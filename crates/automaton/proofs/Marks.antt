@@ -11,7 +11,7 @@ use Prim.Native.Nat.{ℕ}
 use lib.ListN.{getElem?}
 use Rattle.kinds.specs.Positions.{Pos, strip}
 use Rattle.kinds.proofs.Options.{on-bind}
-use Rattle.kinds.proofs.Members.{_∈_, _⊆_}
+use Rattle.kinds.specs.Members.{_∈_, _⊆_}
 use Rattle.kinds.proofs.Prefixes.{_≼_, strip-join}
 use Rattle.term.specs.Terms.{Term, node, Terms}
 use Rattle.term.specs.Places.{sub, hd, headAt, Matches}

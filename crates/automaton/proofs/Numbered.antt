@@ -21,7 +21,8 @@ use Rattle.kinds.specs.declared.Reason.{Reason}
 use Rattle.kinds.specs.declared.Reason.the-variants.{ManyGoals, ManyStates}
 use Rattle.kinds.proofs.Bools.{both, is-eqb, ltb-is, ltb-not, leb-not}
 use Rattle.kinds.proofs.Options.{none-not}
-use Rattle.kinds.proofs.Members.{_∈_, here, there, ∈-append, all-of, any-of, same-refl}
+use Rattle.kinds.proofs.Members.{∈-append, all-of, any-of, same-refl}
+use Rattle.kinds.specs.Members.{_∈_, here, there}
 use Rattle.kinds.proofs.Pairwise.{Pairwise, pairwise-append}
 use Rattle.kinds.proofs.ListLaws.{map-append, gather-append}
 use Rattle.kinds.proofs.Places.{at-below, at-left, at-right, at-end, getD-in, find-at, find-none, Ext, ext-refl, ext-trans, at-ext, ext-length, getD-ext}

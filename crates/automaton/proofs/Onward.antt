@@ -12,7 +12,8 @@ use lib.ListN.{getElem?}
 use Rattle.kinds.specs.Lists.{isNil}
 use Rattle.kinds.specs.Positions.{Pos, strip}
 use Rattle.kinds.proofs.Bools.{test}
-use Rattle.kinds.proofs.Members.{_∈_, map-in}
+use Rattle.kinds.proofs.Members.{map-in}
+use Rattle.kinds.specs.Members.{_∈_}
 use Rattle.kinds.proofs.Prefixes.{strip-join}
 use Rattle.term.specs.Terms.{Term, node, Terms, count}
 use Rattle.term.specs.Places.{sub, headAt}

@@ -7,7 +7,8 @@ use mathlib.Core.Option.{some}
 use lib.ListN.{getElem?}
 use Rattle.kinds.specs.Lists.{filter}
 use Rattle.kinds.specs.Positions.{Pos, strip}
-use Rattle.kinds.proofs.Members.{_∈_, in-filter, filter-in, on-map, map-in}
+use Rattle.kinds.proofs.Members.{in-filter, filter-in, on-map, map-in}
+use Rattle.kinds.specs.Members.{_∈_}
 use Rattle.kinds.proofs.Pairwise.{pairwise-filter, pairwise-map}
 use Rattle.kinds.proofs.Prefixes.{_≼_, strip-join}
 use Rattle.kinds.proofs.Ordered.{Before, before-append, ordered-unique}

@@ -11,7 +11,8 @@ use native.Mathlib.Omega.{arith}
 use lib.ListN.{length, getElem?}
 use Rattle.kinds.specs.Lists.{same, gather}
 use Rattle.kinds.specs.Positions.{Pos, strip}
-use Rattle.kinds.proofs.Members.{_∈_, here, there, on-map, same-is, same-refl, Distinct}
+use Rattle.kinds.proofs.Members.{on-map, same-is, same-refl, Distinct}
+use Rattle.kinds.specs.Members.{_∈_, here, there}
 use Rattle.kinds.proofs.Pairwise.{Pairwise, pairwise-append, pairwise-map, pairwise-distinct}
 use Rattle.kinds.proofs.Places.{at-some}
 use Rattle.kinds.proofs.Prefixes.{_≼_, ≼-trans, strip-self, strip-more, strip-strip, strip-join}

@@ -10,7 +10,8 @@ use Prim.Native.Nat.{ℕ}
 use native.Mathlib.Omega.{arith}
 use lib.ListN.{getElem?}
 use Rattle.kinds.specs.Positions.{Pos, strip}
-use Rattle.kinds.proofs.Members.{_∈_, here, _⊆_, on-map, map-in}
+use Rattle.kinds.proofs.Members.{on-map, map-in}
+use Rattle.kinds.specs.Members.{_∈_, here, _⊆_}
 use Rattle.kinds.proofs.Prefixes.{_≼_, ≼-refl, strip-self, strip-below, strip-back}
 use Rattle.kinds.proofs.Codes.{proper-nil}
 use Rattle.automaton.specs.Goals.{Calculus, Goal, State, initial, deriv}

@@ -9,12 +9,13 @@ use mathlib.Core.Option.{some}
 use mathlib.Core.Logic.{⊎-elim}
 use Prim.Native.Nat.{ℕ, _+_, _≤_}
 use Rattle.kinds.specs.Lists.{same, any, sum, bind}
-use Rattle.kinds.specs.Positions.{Pos, strip}
+use Rattle.kinds.specs.Positions.{Pos, strip, prefix}
 use Rattle.kinds.proofs.Bools.{test, not-true, bool-ext}
-use Rattle.kinds.proofs.Members.{_∈_, on-map, map-in, on-any, any-of, same-is}
+use Rattle.kinds.proofs.Members.{on-map, map-in, on-any, any-of, same-is}
+use Rattle.kinds.specs.Members.{_∈_}
 use Rattle.kinds.proofs.ListLaws.{same-append, any-same}
 use Rattle.kinds.proofs.Sums.{sum-map, sum-same, sum-zero}
-use Rattle.kinds.proofs.Prefixes.{_≼_, ≼-refl, ≼-trans, strip-join, prefix, prefix-is, below-prefix, prefix-append}
+use Rattle.kinds.proofs.Prefixes.{_≼_, ≼-refl, ≼-trans, strip-join, prefix-is, below-prefix, prefix-append}
 use Rattle.term.specs.Terms.{Term, node, Terms, count}
 use Rattle.term.specs.Places.{sub}
 use Rattle.automaton.specs.Goals.{Calculus, Goal, State, allObs, label, deriv}

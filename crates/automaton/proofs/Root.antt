@@ -14,10 +14,11 @@ use native.Mathlib.Omega.{arith}
 use native.Mathlib.Decide.{decLe}
 use lib.ListN.{length, getElem?}
 use Rattle.kinds.specs.Lists.{same}
-use Rattle.kinds.specs.Positions.{Pos, join}
-use Rattle.kinds.proofs.Members.{_∈_, here, there, on-any, same-is}
+use Rattle.kinds.specs.Positions.{Pos, commonPrefix}
+use Rattle.kinds.proofs.Members.{on-any, same-is}
+use Rattle.kinds.specs.Members.{_∈_, here, there}
 use Rattle.kinds.proofs.Places.{at-in, at-some}
-use Rattle.kinds.proofs.Prefixes.{_≼_, ≼-refl, ≼-trans, ≼-same, ≼-antisym, comparable, join-left, join-right, join-least}
+use Rattle.kinds.proofs.Prefixes.{_≼_, ≼-refl, ≼-trans, ≼-same, ≼-antisym, comparable, common-left, common-right, common-least}
 use Rattle.automaton.specs.Goals.{Goal, State, Calculus, has}
 use Rattle.automaton.specs.Classes.{dep, Dependent, direct, via, classes, gcpFrom, gcp}
 use Rattle.automaton.proofs.Classes.{Class, class-is, class-at, class-has, class-some, dependent-sym, dependent-place}
@@ -25,11 +26,11 @@ use Rattle.automaton.proofs.Classes.{Class, class-is, class-at, class-h
 module _ {O : Type 0} where
   gcpFrom-start : (s : State O) (p : Pos) → p ≼ gcpFrom p s
   gcpFrom-start [] p = ≼-refl p
-  gcpFrom-start (g ∷ s) p = ≼-trans (join-left p (g .ann)) (gcpFrom-start s (join p (g .ann)))
+  gcpFrom-start (g ∷ s) p = ≼-trans (common-left p (g .ann)) (gcpFrom-start s (commonPrefix p (g .ann)))
 
   gcpFrom-in : (s : State O) (p : Pos) (g : Goal O) → g ∈ s → g .ann ≼ gcpFrom p s
-  gcpFrom-in (x ∷ s) p g (here e) = rw e (≼-trans (join-right p (x .ann)) (gcpFrom-start s (join p (x .ann))))
-  gcpFrom-in (x ∷ s) p g (there m) = gcpFrom-in s (join p (x .ann)) g m
+  gcpFrom-in (x ∷ s) p g (here e) = rw e (≼-trans (common-right p (x .ann)) (gcpFrom-start s (commonPrefix p (x .ann))))
+  gcpFrom-in (x ∷ s) p g (there m) = gcpFrom-in s (commonPrefix p (x .ann)) g m
 
   pub gcp-below : (s : State O) (g : Goal O) → g ∈ s → g .ann ≼ gcp s
   gcp-below (x ∷ s) g (here e) = rw e (gcpFrom-start s (x .ann))
@@ -37,7 +38,7 @@ module _ {O : Type 0} where
 
   gcpFrom-least : (s : State O) (p r : Pos) → p ≼ r → ((g : Goal O) → g ∈ s → g .ann ≼ r) → gcpFrom p s ≼ r
   gcpFrom-least [] p r a h = a
-  gcpFrom-least (g ∷ s) p r a h = gcpFrom-least s (join p (g .ann)) r (join-least p (g .ann) r a (h g (here refl))) (λ x m. h x (there m))
+  gcpFrom-least (g ∷ s) p r a h = gcpFrom-least s (commonPrefix p (g .ann)) r (common-least p (g .ann) r a (h g (here refl))) (λ x m. h x (there m))
 
   pub gcp-least : (s : State O) (r : Pos) {m : Goal O} → m ∈ s → ((g : Goal O) → g ∈ s → g .ann ≼ r) → gcp s ≼ r
   gcp-least (g ∷ s) r m h = gcpFrom-least s (g .ann) r (h g (here refl)) (λ x i. h x (there i))

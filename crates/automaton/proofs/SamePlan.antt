@@ -15,7 +15,8 @@ use Rattle.kinds.specs.Lists.{same, any, gather, mapAt, range, bind}
 use Rattle.kinds.specs.Positions.{Pos, strip}
 use Rattle.kinds.proofs.Bools.{both, is-eqb}
 use Rattle.kinds.proofs.Options.{on-bind}
-use Rattle.kinds.proofs.Members.{_∈_, here, there, on-map, on-gather, same-is}
+use Rattle.kinds.proofs.Members.{on-map, on-gather, same-is}
+use Rattle.kinds.specs.Members.{_∈_, here, there}
 use Rattle.kinds.proofs.ListLaws.{map-gather, gather-map, gather-same}
 use Rattle.kinds.proofs.Places.{on-mapAt}
 use Rattle.kinds.proofs.Prefixes.{_≼_, ≼-refl, ≼-snoc, strip-self, strip-more, strip-strip, strip-below}

@@ -16,7 +16,8 @@ use Rattle.kinds.specs.Positions.{Pos, code}
 use Rattle.kinds.specs.declared.Reason.{Reason}
 use Rattle.kinds.specs.declared.Reason.the-variants.{ManyGoals, ManyStates}
 use Rattle.kinds.proofs.Bools.{ltb-is, ltb-not}
-use Rattle.kinds.proofs.Members.{_∈_, here, there, ∈-append}
+use Rattle.kinds.proofs.Members.{∈-append}
+use Rattle.kinds.specs.Members.{_∈_, here, there}
 use Rattle.kinds.proofs.ListLaws.{map-append, map-map, map-same}
 use Rattle.kinds.proofs.Places.{getD-in, find-same}
 use Rattle.automaton.specs.Exploring.{Construction, Succ, Block, Met, stopped, met, Made, refused, made, andThen, thenBlock, thenMore, numbered, meet, meets, row, run, explored}

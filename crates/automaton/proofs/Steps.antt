@@ -13,7 +13,8 @@ use native.Mathlib.Omega.{arith}
 use lib.ListN.{getElem?}
 use Rattle.kinds.specs.Lists.{same, isNil}
 use Rattle.kinds.specs.Positions.{Pos, strip}
-use Rattle.kinds.proofs.Members.{_∈_, here, there, ∈-left, ∈-right, ∈-append, on-map}
+use Rattle.kinds.proofs.Members.{∈-left, ∈-right, ∈-append, on-map}
+use Rattle.kinds.specs.Members.{_∈_, here, there}
 use Rattle.kinds.proofs.Pairwise.{pairwise-append}
 use Rattle.kinds.proofs.Places.{at-below}
 use Rattle.kinds.proofs.Sums.{sum-append}

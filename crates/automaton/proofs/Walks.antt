@@ -14,7 +14,8 @@ use mathlib.Core.Logic.{_↔_}
 use Prim.Native.Nat.{ℕ, _+_, _≤_}
 use lib.ListN.{length, getElem?}
 use Rattle.kinds.specs.Positions.{Pos}
-use Rattle.kinds.proofs.Members.{_∈_, here, _⊆_, ∈-right, Distinct}
+use Rattle.kinds.proofs.Members.{∈-right, Distinct}
+use Rattle.kinds.specs.Members.{_∈_, here, _⊆_}
 use Rattle.kinds.proofs.Pairwise.{Pairwise}
 use Rattle.term.specs.Terms.{Term, Terms, count, span}
 use Rattle.term.specs.Places.{headAt, Matches}

@@ -18,7 +18,7 @@ use Prim.Native.Nat.{ℕ, zero, suc}
 use lib.Dec.{eqb}
 use lib.ListN.{length, getD, getElem?}
 use Rattle.kinds.specs.Lists.{same, any, all, sort, range}
-use Rattle.kinds.specs.Positions.{Pos, before, join, strip}
+use Rattle.kinds.specs.Positions.{Pos, before, commonPrefix, strip}
 use Rattle.automaton.specs.Goals.{Goal, State, Calculus, has, first, allObs}
 
 abbrev pub Square : Type 0
@@ -59,7 +59,7 @@ rowsFrom i (r ∷ rs) = cond (leads i r) (r ∷ rowsFrom (suc i) rs) (rowsFrom (
 module _ {O : Type 0} where
   abbrev pub gcpFrom : Pos → State O → Pos
   gcpFrom p [] = p
-  gcpFrom p (g ∷ s) = gcpFrom (join p (g .ann)) s
+  gcpFrom p (g ∷ s) = gcpFrom (commonPrefix p (g .ann)) s
 
   abbrev pub gcp : State O → Pos
   gcp [] = []

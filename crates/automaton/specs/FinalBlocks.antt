@@ -10,7 +10,7 @@ use mathlib.Core.Option.{some}
 use Prim.Native.Nat.{ℕ, suc, _+_, _≤_}
 use lib.ListN.{length, getElem?}
 use Rattle.kinds.specs.Lists.{find, gather, orElse}
-use Rattle.kinds.proofs.Members.{_∈_}
+use Rattle.kinds.specs.Members.{_∈_}
 use Rattle.automaton.specs.Exploring.{Construction, Succ, Block}
 
 module _ {S : Type 0} (C : Construction S) (ss : List S) where

@@ -18,10 +18,9 @@ use mathlib.Core.List.{List, [], _∷_, _++_, map}
 use mathlib.Core.Option.{some}
 use Prim.Native.Nat.{ℕ, _≤_}
 use lib.ListN.{length, getElem?}
-use Rattle.kinds.specs.Positions.{Pos}
+use Rattle.kinds.specs.Positions.{Pos, prefix}
 use Rattle.kinds.specs.Lists.{same, any, sum}
-use Rattle.kinds.proofs.Members.{_∈_, _⊆_}
-use Rattle.kinds.proofs.Prefixes.{prefix}
+use Rattle.kinds.specs.Members.{_∈_, _⊆_}
 use Rattle.term.specs.Terms.{Term, node, Terms, count, depth, Fits, Whole}
 use Rattle.term.specs.Places.{sub}
 use Rattle.automaton.specs.Goals.{Goal, State, Calculus, Announcement, allObs, initial, label, deriv, outputs}

@@ -25,20 +25,20 @@ use Rattle.kinds.specs.declared.Reason.the-variants as reason
 use Rattle.contents.specs.declared.Shapes.{Shapes}
 use Rattle.contents.specs.declared.Shapes.the-variants as shapes
 use Rattle.contents.specs.declared.Score.the-variants as score
-use Rattle.contents.specs.Tables.{shapeLimits, shapeLevels, scoreLimits, scoreLevels, shapeReason, scoreReason, Row, row, push, shape, shapesFrom, shapesOf, alone, scoreOf}
+use Rattle.contents.specs.Tables.{shapeLimits, shapeLevels, scoreLimits, scoreLevels, shapeReason, scoreReason, ShapesRead, shapesRead, push, oneShape, shapesFrom, shapesOf, wholeScore, scoreOf}
 
 module _ (ar : List ℕ) (bl : ℕ) (ws : List ℕ) (n at : ℕ) where
-  pub shapes-full : at < length ws → n ≡ 16 → shapesFrom ar bl ws (16 - n) n at ≡ row (shapes.Refused reason.Shapes at) []
+  pub shapes-full : at < length ws → n ≡ 16 → shapesFrom ar bl ws (16 - n) n at ≡ shapesRead (shapes.Refused reason.Shapes at) []
   unfolding shapesFrom
   shapes-full h e = let z : 16 - n ≡ 0 = omega arith in rw (z, lt-ltb _ _ h)
 
   pub shapes-refused : {f : Fault} {p : ℕ} → at < length ws → n ≤ 16 → (n ≡ 16 → ⊥) → reading ar ws (shapeLimits bl at) shapeLevels at ≡ read.Refused f p
-      → shapesFrom ar bl ws (16 - n) n at ≡ row (shapes.Refused (shapeReason f) p) []
+      → shapesFrom ar bl ws (16 - n) n at ≡ shapesRead (shapes.Refused (shapeReason f) p) []
   unfolding shapesFrom
   shapes-refused h g k e = let z : 16 - n ≡ suc (16 - (n + 1)) = omega arith in rw (z, lt-ltb _ _ h, e)
 
   pub shapes-lone : {m : Met} → at < length ws → n ≤ 16 → (n ≡ 16 → ⊥) → reading ar ws (shapeLimits bl at) shapeLevels at ≡ read.Whole m → bl ≤ getD ws at 0
-      → shapesFrom ar bl ws (16 - n) n at ≡ row (shapes.Refused reason.LoneBlank at) []
+      → shapesFrom ar bl ws (16 - n) n at ≡ shapesRead (shapes.Refused reason.LoneBlank at) []
   unfolding shapesFrom
   shapes-lone h g k e b = let z : 16 - n ≡ suc (16 - (n + 1)) = omega arith in rw (z, lt-ltb _ _ h, e, le-leb _ _ b)
 
@@ -47,12 +47,12 @@ module _ (ar : List ℕ) (bl : ℕ) (ws : List ℕ) (n at : ℕ) where
   unfolding shapesFrom
   shapes-next h g k e b = let z : 16 - n ≡ suc (16 - (n + 1)) = omega arith in rw (z, lt-ltb _ _ h, e, lt-leb _ _ b)
 
-  pub shapes-done : (c : ℕ) → length ws ≤ at → shapesFrom ar bl ws c n at ≡ row (shapes.Found n) []
+  pub shapes-done : (c : ℕ) → length ws ≤ at → shapesFrom ar bl ws c n at ≡ shapesRead (shapes.Whole n) []
   unfolding shapesFrom
   shapes-done zero h = rw (le-ltb _ _ h)
   shapes-done (suc c) h = rw (le-ltb _ _ h)
 
-pub shapes-none : (ar : List ℕ) (bl : ℕ) (ws : List ℕ) → length ws ≡ 0 → shapesOf ar bl ws ≡ row (shapes.Refused reason.Shapes 0) []
+pub shapes-none : (ar : List ℕ) (bl : ℕ) (ws : List ℕ) → length ws ≡ 0 → shapesOf ar bl ws ≡ shapesRead (shapes.Refused reason.Shapes 0) []
 unfolding shapesOf
 shapes-none ar bl ws h = let z : length ws ≤ 0 = omega arith in rw (le-ltb _ _ z)
 
@@ -61,22 +61,22 @@ unfolding shapesOf
 shapes-some ar bl ws h = let z : 0 < length ws = omega arith in rw (lt-ltb _ _ z)
 
 -- n shapes read: S is the whole row, R what is left of it; s is the buffer, s₀ as it was at first
-pub record Left (S R : Row) (s₀ s : List ℕ) (n : ℕ) : Type 0 where
+pub record Left (S R : ShapesRead) (s₀ s : List ℕ) (n : ℕ) : Type 0 where
   pub long : length s ≡ length s₀
   pub answers : S .answer ≡ R .answer
   pub writes : sets s₀ 0 (S .starts) ≡ sets s n (R .starts)
 
-pub left-first : {S R : Row} (s : List ℕ) → S ≡ R → Left S R s s 0
-left-first s e = record { long = refl; answers = ap (λ (r : Row). r .answer) e; writes = ap (λ (r : Row). sets s 0 (r .starts)) e }
+pub left-first : {S R : ShapesRead} (s : List ℕ) → S ≡ R → Left S R s s 0
+left-first s e = record { long = refl; answers = ap (λ (r : ShapesRead). r .answer) e; writes = ap (λ (r : ShapesRead). sets s 0 (r .starts)) e }
 
-pub left-end : {S R : Row} {s₀ s : List ℕ} {n : ℕ} {a : Shapes} → Left S R s₀ s n → R ≡ row a [] → (a ≡ S .answer) × (s ≡ sets s₀ 0 (S .starts))
-left-end {S} {R} {s₀} {s} {n} l e = (sym (l .answers ∙ ap (λ (r : Row). r .answer) e), sym (l .writes ∙ ap (λ (r : Row). sets s n (r .starts)) e))
+pub left-end : {S R : ShapesRead} {s₀ s : List ℕ} {n : ℕ} {a : Shapes} → Left S R s₀ s n → R ≡ shapesRead a [] → (a ≡ S .answer) × (s ≡ sets s₀ 0 (S .starts))
+left-end {S} {R} {s₀} {s} {n} l e = (sym (l .answers ∙ ap (λ (r : ShapesRead). r .answer) e), sym (l .writes ∙ ap (λ (r : ShapesRead). sets s n (r .starts)) e))
 
-pub left-next : {S R T : Row} {s₀ s : List ℕ} {n at : ℕ} → Left S R s₀ s n → R ≡ push at T → Left S T s₀ (set s n at) (n + 1)
+pub left-next : {S R T : ShapesRead} {s₀ s : List ℕ} {n at : ℕ} → Left S R s₀ s n → R ≡ push at T → Left S T s₀ (set s n at) (n + 1)
 left-next {S} {R} {T} {s₀} {s} {n} {at} l e = record {
   long = length-set s n at ∙ l .long;
-  answers = l .answers ∙ ap (λ (r : Row). r .answer) e;
-  writes = l .writes ∙ ap (λ (r : Row). sets s n (r .starts)) e ∙ ap (λ (m : ℕ). sets (set s n at) m (T .starts)) (sym (add-one n));
+  answers = l .answers ∙ ap (λ (r : ShapesRead). r .answer) e;
+  writes = l .writes ∙ ap (λ (r : ShapesRead). sets s n (r .starts)) e ∙ ap (λ (m : ℕ). sets (set s n at) m (T .starts)) (sym (add-one n));
 }
 
 -- ---- the score
@@ -96,34 +96,34 @@ module _ (ar ws : List ℕ) where
 
 -- ---- how many shapes, and where a refusal is
 
-pub never-found {κ} : {C : Type κ} {r : Reason} {i n : ℕ} → shapes.Refused r i ≡ shapes.Found n → C
+pub never-found {κ} : {C : Type κ} {r : Reason} {i n : ℕ} → shapes.Refused r i ≡ shapes.Whole n → C
 never-found e = let z : _≡_ {A = ℕ} 0 1 = cc in absurd (omega arith)
 
-pub found-from : (ar : List ℕ) (bl : ℕ) (ws : List ℕ) (c n at k : ℕ) → shapesFrom ar bl ws c n at .answer ≡ shapes.Found k
+pub found-from : (ar : List ℕ) (bl : ℕ) (ws : List ℕ) (c n at k : ℕ) → shapesFrom ar bl ws c n at .answer ≡ shapes.Whole k
     → (k ≡ n + length (shapesFrom ar bl ws c n at .starts)) × (k ≤ n + c)
 unfolding shapesFrom
 found-from ar bl ws zero n at k e = go (ltb at (length ws)) e
   where
-    go : (b : Bool) → cond b (row (shapes.Refused reason.Shapes at) []) (row (shapes.Found n) []) .answer ≡ shapes.Found k
-        → (k ≡ n + length (cond b (row (shapes.Refused reason.Shapes at) []) (row (shapes.Found n) []) .starts)) × (k ≤ n + 0)
+    go : (b : Bool) → cond b (shapesRead (shapes.Refused reason.Shapes at) []) (shapesRead (shapes.Whole n) []) .answer ≡ shapes.Whole k
+        → (k ≡ n + length (cond b (shapesRead (shapes.Refused reason.Shapes at) []) (shapesRead (shapes.Whole n) []) .starts)) × (k ≤ n + 0)
     go true e = never-found e
     go false e = let s : n ≡ k = cc in (omega arith, omega arith)
 found-from ar bl ws (suc c) n at k e = go (ltb at (length ws)) (reading ar ws (shapeLimits bl at) shapeLevels at) (leb bl (getD ws at 0)) e (λ a. found-from ar bl ws c (n + 1) a k)
   where
-    go : (b : Bool) (r : Reading) (lone : Bool) → cond b (shape r at lone (shapesFrom ar bl ws c (n + 1))) (row (shapes.Found n) []) .answer ≡ shapes.Found k
-        → ((a : ℕ) → shapesFrom ar bl ws c (n + 1) a .answer ≡ shapes.Found k → (k ≡ n + 1 + length (shapesFrom ar bl ws c (n + 1) a .starts)) × (k ≤ n + 1 + c))
-        → (k ≡ n + length (cond b (shape r at lone (shapesFrom ar bl ws c (n + 1))) (row (shapes.Found n) []) .starts)) × (k ≤ n + suc c)
+    go : (b : Bool) (r : Reading) (lone : Bool) → cond b (oneShape r at lone (shapesFrom ar bl ws c (n + 1))) (shapesRead (shapes.Whole n) []) .answer ≡ shapes.Whole k
+        → ((a : ℕ) → shapesFrom ar bl ws c (n + 1) a .answer ≡ shapes.Whole k → (k ≡ n + 1 + length (shapesFrom ar bl ws c (n + 1) a .starts)) × (k ≤ n + 1 + c))
+        → (k ≡ n + length (cond b (oneShape r at lone (shapesFrom ar bl ws c (n + 1))) (shapesRead (shapes.Whole n) []) .starts)) × (k ≤ n + suc c)
     go false r lone e ih = let s : n ≡ k = cc in (omega arith, omega arith)
     go true (read.Refused f p) lone e ih = never-found e
     go true (read.Whole m) true e ih = never-found e
     go true (read.Whole m) false e ih = let w = ih (m .end) e in (omega (arith, w .0), omega (arith, w .1))
 
-pub found-count : (ar : List ℕ) (bl : ℕ) (ws : List ℕ) (k : ℕ) → shapesOf ar bl ws .answer ≡ shapes.Found k → (k ≡ length (shapesOf ar bl ws .starts)) × (k ≤ 16)
+pub found-count : (ar : List ℕ) (bl : ℕ) (ws : List ℕ) (k : ℕ) → shapesOf ar bl ws .answer ≡ shapes.Whole k → (k ≡ length (shapesOf ar bl ws .starts)) × (k ≤ 16)
 unfolding shapesOf
 found-count ar bl ws k e = go (ltb 0 (length ws)) e
   where
-    go : (b : Bool) → cond b (shapesFrom ar bl ws 16 0 0) (row (shapes.Refused reason.Shapes 0) []) .answer ≡ shapes.Found k
-        → (k ≡ length (cond b (shapesFrom ar bl ws 16 0 0) (row (shapes.Refused reason.Shapes 0) []) .starts)) × (k ≤ 16)
+    go : (b : Bool) → cond b (shapesFrom ar bl ws 16 0 0) (shapesRead (shapes.Refused reason.Shapes 0) []) .answer ≡ shapes.Whole k
+        → (k ≡ length (cond b (shapesFrom ar bl ws 16 0 0) (shapesRead (shapes.Refused reason.Shapes 0) []) .starts)) × (k ≤ 16)
     go true e = let w = found-from ar bl ws 16 0 0 k e in (omega (arith, w .0), omega (arith, w .1))
     go false e = never-found e
 
@@ -134,14 +134,14 @@ from-refused-in : (ar : List ℕ) (bl : ℕ) (ws : List ℕ) (c n at : ℕ) (r :
 unfolding shapesFrom
 from-refused-in ar bl ws zero n at r i h e = go (ltb at (length ws)) e
   where
-    go : (b : Bool) → cond b (row (shapes.Refused reason.Shapes at) []) (row (shapes.Found n) []) .answer ≡ shapes.Refused r i → i ≤ length ws
+    go : (b : Bool) → cond b (shapesRead (shapes.Refused reason.Shapes at) []) (shapesRead (shapes.Whole n) []) .answer ≡ shapes.Refused r i → i ≤ length ws
     go true e = let s : at ≡ i = same-place e in omega arith
     go false e = never-found (sym e)
 from-refused-in ar bl ws (suc c) n at r i h e =
     go (ltb at (length ws)) (reading ar ws (shapeLimits bl at) shapeLevels at) refl (leb bl (getD ws at 0)) e (λ a. from-refused-in ar bl ws c (n + 1) a r i)
   where
     go : (b : Bool) (t : Reading) → reading ar ws (shapeLimits bl at) shapeLevels at ≡ t → (lone : Bool)
-        → cond b (shape t at lone (shapesFrom ar bl ws c (n + 1))) (row (shapes.Found n) []) .answer ≡ shapes.Refused r i
+        → cond b (oneShape t at lone (shapesFrom ar bl ws c (n + 1))) (shapesRead (shapes.Whole n) []) .answer ≡ shapes.Refused r i
         → ((a : ℕ) → a ≤ length ws → shapesFrom ar bl ws c (n + 1) a .answer ≡ shapes.Refused r i → i ≤ length ws) → i ≤ length ws
     go false t et lone e ih = never-found (sym e)
     go true (read.Refused f p) et lone e ih = let s : p ≡ i = same-place e in rw (← s) (refused-in ar ws (shapeLimits bl at) shapeLevels at f p h et)
@@ -152,7 +152,7 @@ pub shapes-refused-in : (ar : List ℕ) (bl : ℕ) (ws : List ℕ) (r : Reason) 
 unfolding shapesOf
 shapes-refused-in ar bl ws r i e = go (ltb 0 (length ws)) e
   where
-    go : (b : Bool) → cond b (shapesFrom ar bl ws 16 0 0) (row (shapes.Refused reason.Shapes 0) []) .answer ≡ shapes.Refused r i → i ≤ length ws
+    go : (b : Bool) → cond b (shapesFrom ar bl ws 16 0 0) (shapesRead (shapes.Refused reason.Shapes 0) []) .answer ≡ shapes.Refused r i → i ≤ length ws
     go true e = from-refused-in ar bl ws 16 0 0 r i (omega arith) e
     go false e = let s : 0 ≡ i = same-place e in omega arith
 
@@ -160,7 +160,7 @@ pub score-refused-in : (ar ws : List ℕ) (r : Reason) (i : ℕ) → scoreOf ar 
 unfolding scoreOf
 score-refused-in ar ws r i e = go (reading ar ws (scoreLimits 0) scoreLevels 0) refl e
   where
-    go : (t : Reading) → reading ar ws (scoreLimits 0) scoreLevels 0 ≡ t → alone t (length ws) ≡ score.Refused r i → i ≤ length ws
+    go : (t : Reading) → reading ar ws (scoreLimits 0) scoreLevels 0 ≡ t → wholeScore t (length ws) ≡ score.Refused r i → i ≤ length ws
     go (read.Refused f p) et e = let s : p ≡ i = cc in rw (← s) (refused-in ar ws (scoreLimits 0) scoreLevels 0 f p (omega arith) et)
     go (read.Whole m) et e = inner (ltb (m .end) (length ws)) e
       where

@@ -4,7 +4,7 @@
 --   shapeLimits      16 nodes from a shape's first word; shapeLevels: depth at most 5
 --   scoreLimits      4,096 nodes; scoreLevels: depth at most 64
 --   shapeReason      the reason of a fault in a shape; scoreReason: in the score
---   Row              an answer, and the starts of the shapes that were whole before it
+--   ShapesRead              an answer, and the starts of the shapes that were whole before it
 --   shapesFrom       the shapes from a word on, after n others, with room for c more
 --   shapesOf         1 to 16 shapes and nothing left over
 --   scoreOf          one tree and nothing left over
@@ -56,34 +56,34 @@ scoreReason NoSymbol = reason.ScoreWord
 scoreReason Many = reason.ScoreNodes
 scoreReason Deep = reason.ScoreDepth
 
-pub record Row : Type 0 where
+pub record ShapesRead : Type 0 where
   pub answer : Shapes
   pub starts : List ℕ
 
-abbrev pub row : Shapes → List ℕ → Row
-row a s = record { answer = a; starts = s }
+abbrev pub shapesRead : Shapes → List ℕ → ShapesRead
+shapesRead a s = record { answer = a; starts = s }
 
-abbrev pub push : ℕ → Row → Row
-push at r = row (r .answer) (at ∷ r .starts)
+abbrev pub push : ℕ → ShapesRead → ShapesRead
+push at r = shapesRead (r .answer) (at ∷ r .starts)
 
 -- the shape at `at`, whose first word is a blank or not, and then what comes after it
-abbrev pub shape : Reading → ℕ → Bool → (ℕ → Row) → Row
-shape (read.Refused f p) at lone k = row (shapes.Refused (shapeReason f) p) []
-shape (read.Whole m) at lone k = cond lone (row (shapes.Refused reason.LoneBlank at) []) (push at (k (m .end)))
+abbrev pub oneShape : Reading → ℕ → Bool → (ℕ → ShapesRead) → ShapesRead
+oneShape (read.Refused f p) at lone k = shapesRead (shapes.Refused (shapeReason f) p) []
+oneShape (read.Whole m) at lone k = cond lone (shapesRead (shapes.Refused reason.LoneBlank at) []) (push at (k (m .end)))
 
-unfoldable pub shapesFrom : List ℕ → ℕ → List ℕ → ℕ → ℕ → ℕ → Row
-shapesFrom ar bl ws zero n at = cond (ltb at (length ws)) (row (shapes.Refused reason.Shapes at) []) (row (shapes.Found n) [])
+unfoldable pub shapesFrom : List ℕ → ℕ → List ℕ → ℕ → ℕ → ℕ → ShapesRead
+shapesFrom ar bl ws zero n at = cond (ltb at (length ws)) (shapesRead (shapes.Refused reason.Shapes at) []) (shapesRead (shapes.Whole n) [])
 shapesFrom ar bl ws (suc c) n at =
     cond (ltb at (length ws))
-    (shape (reading ar ws (shapeLimits bl at) shapeLevels at) at (leb bl (getD ws at 0)) (shapesFrom ar bl ws c (n + 1)))
-    (row (shapes.Found n) [])
+    (oneShape (reading ar ws (shapeLimits bl at) shapeLevels at) at (leb bl (getD ws at 0)) (shapesFrom ar bl ws c (n + 1)))
+    (shapesRead (shapes.Whole n) [])
 
-unfoldable pub shapesOf : List ℕ → ℕ → List ℕ → Row
-shapesOf ar bl ws = cond (ltb 0 (length ws)) (shapesFrom ar bl ws 16 0 0) (row (shapes.Refused reason.Shapes 0) [])
+unfoldable pub shapesOf : List ℕ → ℕ → List ℕ → ShapesRead
+shapesOf ar bl ws = cond (ltb 0 (length ws)) (shapesFrom ar bl ws 16 0 0) (shapesRead (shapes.Refused reason.Shapes 0) [])
 
-abbrev pub alone : Reading → ℕ → Score
-alone (read.Refused f p) n = score.Refused (scoreReason f) p
-alone (read.Whole m) n = cond (ltb (m .end) n) (score.Refused reason.Surplus (m .end)) score.Whole
+abbrev pub wholeScore : Reading → ℕ → Score
+wholeScore (read.Refused f p) n = score.Refused (scoreReason f) p
+wholeScore (read.Whole m) n = cond (ltb (m .end) n) (score.Refused reason.Surplus (m .end)) score.Whole
 
 unfoldable pub scoreOf : List ℕ → List ℕ → Score
-scoreOf ar ws = alone (reading ar ws (scoreLimits 0) scoreLevels 0) (length ws)
+scoreOf ar ws = wholeScore (reading ar ws (scoreLimits 0) scoreLevels 0) (length ws)

@@ -20,7 +20,7 @@ pub const NO_BLANK: usize = 65536;
 
 // How many shapes there are, or why not, and at which word.
 pub enum Shapes {
-    Found(usize),
+    Whole(usize),
     Refused(Reason, usize),
 }
 

@@ -18,10 +18,10 @@ use term::Reading;
 use term::reader::read_term;
 
 // Reads shapes back to back, words from `blanks` on being blanks, and writes each one's start once it is whole.
-pub fn read_shapes(arity: &[u8], blanks: usize, words: &[u16], starts: &mut [u16]) -> Shapes
+pub fn read_shapes(symbols: &[u8], blanks: usize, words: &[u16], starts: &mut [u16]) -> Shapes
     requires { ⌜ 16 ≤ length (now starts) ⌝ }
-    ensures answer { λ r. ⌜ r ≡ shapesOf (now (arity .entry)) blanks (now (words .entry)) .answer ⌝ }
-    ensures buffer { λ r. ⌜ now (starts .exit) ≡ sets (now (starts .entry)) 0 (shapesOf (now (arity .entry)) blanks (now (words .entry)) .starts) ⌝ }
+    ensures answer { λ r. ⌜ r ≡ shapesOf (now (symbols .entry)) blanks (now (words .entry)) .answer ⌝ }
+    ensures buffer { λ r. ⌜ now (starts .exit) ≡ sets (now (starts .entry)) 0 (shapesOf (now (symbols .entry)) blanks (now (words .entry)) .starts) ⌝ }
 {
     if words.len() == 0 {
         return Shapes::Refused(Reason::Shapes, 0);
@@ -33,7 +33,7 @@ pub fn read_shapes(arity: &[u8], blanks: usize, words: &[u16], starts: &mut [u16
             return Shapes::Refused(Reason::Shapes, at);
         }
         let e = match read_term(
-            arity,
+            symbols,
             words,
             Limits {
                 blanks: blanks,
@@ -54,7 +54,7 @@ pub fn read_shapes(arity: &[u8], blanks: usize, words: &[u16], starts: &mut [u16
         at = e;
         n += 1;
     }
-    Shapes::Found(n)
+    Shapes::Whole(n)
 }
 
 fn shape_reason(fault: Fault) -> Reason
@@ -69,11 +69,11 @@ fn shape_reason(fault: Fault) -> Reason
 }
 
 // Whether the words are one whole tree without blanks.
-pub fn read_score(arity: &[u8], words: &[u16]) -> Score
-    ensures { λ r. ⌜ r ≡ scoreOf (now (arity .entry)) (now (words .entry)) ⌝ }
+pub fn read_score(symbols: &[u8], words: &[u16]) -> Score
+    ensures { λ r. ⌜ r ≡ scoreOf (now (symbols .entry)) (now (words .entry)) ⌝ }
 {
     match read_term(
-        arity,
+        symbols,
         words,
         Limits {
             blanks: NO_BLANK,

@@ -11,11 +11,11 @@ use lib.Dec.{eqb, ltb, leb}
 use lib.Count.{ones, ones-le}
 use lib.ListN.{length, getD, List·getD-eq-default}
 use borrow.Author.Tests.{eqb-true, eqb-false, eq-eqb, ne-eqb, ltb-true, ltb-false, lt-ltb, le-ltb, leb-true, le-leb, lt-leb}
-use Rattle.kinds.specs.Bits.{bit, upTo}
+use Rattle.kinds.specs.Bits.{bit, sumTo}
 use Rattle.kinds.proofs.Bools.{and-l, and-r, both, or-l, or-r, or-case, on-or, false-true, bool-ext}
-use Rattle.kinds.proofs.BitLaws.{ones-bits, up-ext, up-zero, bit-le, on-ones, on-other, ones-some, ones-two, ones-none, ones-zero}
-use Rattle.counting.specs.Counting.{anyTo, sumTo, Match, matchAt, found, someMatch, numberAt}
-use Rattle.counting.specs.Clashes.{covers, clash, other, clashing, clashNumber}
+use Rattle.kinds.proofs.BitLaws.{ones-bits, up-ext, up-zero, up-last, bit-le, on-ones, on-other, ones-some, ones-two, ones-none, ones-zero}
+use Rattle.counting.specs.Counting.{anyTo, Match, matchAt, found, someMatch, numberAt}
+use Rattle.counting.specs.Clashes.{isOver, clash, other, clashing, clashNumber}
 use Rattle.counting.specs.Passing.{markedIn, hits, further}
 use Rattle.counting.proofs.AnyLaws.{any-of, on-any, any-none}
 
@@ -102,13 +102,13 @@ reach-next ms sp x r h = go (decLt 0 (ones (getD ms x 0))) (decLt r (x + getD sp
 
 -- ---- the test at a node
 
-on-covers {κ} : {C : Type κ} (sp : List ℕ) (a b : ℕ) → covers sp a b ≡ true → (a ≡ b → C) → (a < b → b < a + getD sp a 0 → C) → C
+on-covers {κ} : {C : Type κ} (sp : List ℕ) (a b : ℕ) → isOver sp a b ≡ true → (a ≡ b → C) → (a < b → b < a + getD sp a 0 → C) → C
 on-covers sp a b e f g =
     on-or (eqb a b) e
     (λ q. f (eqb-true _ _ q))
     (λ q. g (ltb-true _ _ (and-l (ltb b (a + getD sp a 0)) q)) (ltb-true _ _ (and-r (ltb a b) q)))
 
-covers-under : (sp : List ℕ) (a b : ℕ) → a < b → b < a + getD sp a 0 → covers sp a b ≡ true
+covers-under : (sp : List ℕ) (a b : ℕ) → a < b → b < a + getD sp a 0 → isOver sp a b ≡ true
 covers-under sp a b h g = or-r (eqb a b) (both {a = ltb a b} (lt-ltb _ _ h) (lt-ltb _ _ g))
 
 other-node : (x j y k : ℕ) → (x ≡ y → ⊥) → other (matchAt x j) (matchAt y k) ≡ true
@@ -164,7 +164,7 @@ module _ (ms sp : List ℕ) (x r j : ℕ) (fits : (y : ℕ) → getD ms y 0 < 2 
   clash-test e = on-some ms (λ o. _&&_ (other (matchAt x j) o) (clash sp (matchAt x j) o)) e λ y k h l b q.
       let o = and-l (clash sp (matchAt x j) (matchAt y k)) q in
       let c = and-r (other (matchAt x j) (matchAt y k)) q in
-      on-or (covers sp x y) c
+      on-or (isOver sp x y) c
       (λ v. on-covers sp x y v (λ z. at-same y k z l b o) (λ z w. if-below y z w (positive y (ones-some (getD ms y 0) (fits y) k l b))))
       (λ v. on-covers sp y x v (λ z. at-same y k (sym z) l b o) (λ z w. let a = reach .all y z (ones-some (getD ms y 0) (fits y) k l b) in if-above (omega arith)))
     where
@@ -174,16 +174,16 @@ module _ (ms sp : List ℕ) (x r j : ℕ) (fits : (y : ℕ) → getD ms y 0 < 2 
   test-clash : hits ms (ones (getD ms x 0)) x r (x + getD sp x 0) ≡ true → someMatch ms (λ o. _&&_ (other (matchAt x j) o) (clash sp (matchAt x j) o)) ≡ true
   test-clash e = on-or (ltb 1 (ones (getD ms x 0))) e
       (λ h. on-other (getD ms x 0) (fits x) j (ltb-true _ _ h) λ k l ne b.
-      give x k inside l b (other-shape x j k ne) (or-l (covers sp x x) (or-l (_&&_ (ltb x x) (ltb x (x + getD sp x 0))) (eq-eqb x x refl))))
+      give x k inside l b (other-shape x j k ne) (or-l (isOver sp x x) (or-l (_&&_ (ltb x x) (ltb x (x + getD sp x 0))) (eq-eqb x x refl))))
       (λ q. on-or (ltb x r) q
       (λ h. let a = reach .only x (ltb-true _ _ h) in let u = a .before in
       on-ones (getD ms (a .up) 0) (fits (a .up)) (a .marked) λ k l b.
-      give (a .up) k (omega arith) l b (other-node x j (a .up) k (λ z. omega arith)) (or-r (covers sp x (a .up)) (covers-under sp (a .up) x (a .before) (a .within))))
+      give (a .up) k (omega arith) l b (other-node x j (a .up) k (λ z. omega arith)) (or-r (isOver sp x (a .up)) (covers-under sp (a .up) x (a .before) (a .within))))
       (λ h. on-any (x + getD sp x 0) (λ z. _&&_ (leb (x + 1) z) (ltb 0 (getD ms z 0))) (and-r (ltb 0 (ones (getD ms x 0))) h) λ y g v.
       let lo : x + 1 ≤ y = leb-true (x + 1) y (and-l (ltb 0 (getD ms y 0)) v) in
       let m : 0 < getD ms y 0 = ltb-true 0 (getD ms y 0) (and-r (leb (x + 1) y) v) in
       on-ones (getD ms y 0) (fits y) (has-one y m) λ k l b.
-      give y k (in-list y m) l b (other-node x j y k (λ z. omega arith)) (or-l (covers sp y x) (covers-under sp x y (omega arith) g))))
+      give y k (in-list y m) l b (other-node x j y k (λ z. omega arith)) (or-l (isOver sp y x) (covers-under sp x y (omega arith) g))))
     where
       give : (y k : ℕ) → y < length ms → k < 16 → bit (getD ms y 0) k ≡ 1 → other (matchAt x j) (matchAt y k) ≡ true → clash sp (matchAt x j) (matchAt y k) ≡ true
           → someMatch ms (λ o. _&&_ (other (matchAt x j) o) (clash sp (matchAt x j) o)) ≡ true
@@ -195,9 +195,8 @@ module _ (ms sp : List ℕ) (x r j : ℕ) (fits : (y : ℕ) → getD ms y 0 < 2 
 -- one turn
 pub count-next : (ms sp : List ℕ) (x r : ℕ) → ((y : ℕ) → getD ms y 0 < 2 ^ 16) → x < length ms → Reach ms sp x r
     → sumTo (x + 1) (numberAt ms (clashing (clash sp) ms)) ≡ sumTo x (numberAt ms (clashing (clash sp) ms)) + cond (hits ms (ones (getD ms x 0)) x r (x + getD sp x 0)) (ones (getD ms x 0)) 0
-unfolding sumTo
 count-next ms sp x r fits h reach =
-    ap (λ (n : ℕ). sumTo n (numberAt ms (clashing (clash sp) ms))) (add-one x)
+    ap (λ (n : ℕ). sumTo n (numberAt ms (clashing (clash sp) ms))) (add-one x) ∙ up-last x (numberAt ms (clashing (clash sp) ms))
     ∙ ap (λ (n : ℕ). sumTo x (numberAt ms (clashing (clash sp) ms)) + n) (number-at ms (clashing (clash sp) ms) x (hits ms (ones (getD ms x 0)) x r (x + getD sp x 0)) (fits x) (λ j l b. clash-at ms sp x r j fits h reach l b))
 
 pub further-end : (r k e : ℕ) → 0 < k → r < e → further r k e ≡ e

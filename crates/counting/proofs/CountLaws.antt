@@ -17,11 +17,11 @@ use lib.Seq.{drop-cons}
 use Rattle.kinds.proofs.BitLaws.{ones-bits}
 use Rattle.kinds.specs.declared.Reason.{Reason}
 use Rattle.kinds.specs.declared.Reason.the-variants.{BadScore, ShortBuffers, Surplus}
-use Rattle.contents.specs.Tables.{scoreLimits, scoreLevels, scoreOf, scoreReason, alone}
-use Rattle.lent.specs.Again.{scoreGood}
+use Rattle.contents.specs.Tables.{scoreLimits, scoreLevels, scoreOf, scoreReason, wholeScore}
+use Rattle.checks.specs.Again.{scoreGood}
 use Rattle.contents.specs.declared.Score.{Score}
 use Rattle.contents.specs.declared.Score.the-variants as score
-use Rattle.lent.proofs.LawsAgain.{score-good-is}
+use Rattle.checks.proofs.LawsAgain.{score-good-is}
 use Rattle.term.specs.Reading.{reading}
 use Rattle.term.proofs.LawsReading.{whole-in}
 use Rattle.term.specs.declared.Met.{Met}
@@ -54,7 +54,7 @@ few-nodes ar ws sp e = go (reading ar ws (scoreLimits 0) scoreLevels 0) refl (sc
     end m true h k = never-whole Surplus (m .end) k
     end m false h k = ltb-false _ _ h
 
-    go : (r : Reading) → reading ar ws (scoreLimits 0) scoreLevels 0 ≡ r → alone r (length ws) ≡ score.Whole → length ws ≤ 4096
+    go : (r : Reading) → reading ar ws (scoreLimits 0) scoreLevels 0 ≡ r → wholeScore r (length ws) ≡ score.Whole → length ws ≤ 4096
     go (read.Refused f p) q k = never-whole (scoreReason f) p k
     go (read.Whole m) q k = let w = whole-in ar ws (scoreLimits 0) scoreLevels 0 m q in let z = end m (ltb (m .end) (length ws)) refl k in omega arith
 

@@ -1,9 +1,9 @@
 -- Counting in the marks: "Start and counting: 31 before 30." "Only the first n mark words are looked at."
---   anyTo sumTo   some, or the sum, over the first k numbers
+--   anyTo         some of the first k numbers
 --   Match         a shape at a node
 --   found         its bit is set
 --   someMatch     some match has p
---   number        how many matches have p
+--   howMany        how many matches have p
 --   total         "matches (ones in all marks)"
 --   counted       what f counts in the first n marks, or 31, or 30
 --   countedSays   the answer in document 01's numbers
@@ -13,20 +13,16 @@ use mathlib.Core.Bool.{Bool, false, cond, _&&_, _||_}
 use lib.Dec.{eqb, leb}
 use lib.ListN.{length, getD, take}
 use Rattle.kinds.specs.Lists.{unless}
-use Rattle.kinds.specs.Bits.{bit, upTo}
+use Rattle.kinds.specs.Bits.{bit, sumTo}
 use Rattle.kinds.specs.Reasons.{Says, gives, refuses}
 use Rattle.kinds.specs.declared.Reason.the-variants.{ShortBuffers, BadScore}
-use Rattle.lent.specs.Again.{scoreGood}
+use Rattle.checks.specs.Again.{scoreGood}
 use Rattle.counting.specs.declared.Counted.{Counted}
 use Rattle.counting.specs.declared.Counted.the-variants.{Number, Refused}
 
 unfoldable pub anyTo : ℕ → (ℕ → Bool) → Bool
 anyTo zero p = false
 anyTo (suc k) p = anyTo k p || p k
-
-unfoldable pub sumTo : ℕ → (ℕ → ℕ) → ℕ
-sumTo zero f = 0
-sumTo (suc k) f = sumTo k f + f k
 
 pub record Match : Type 0 where
   pub node : ℕ
@@ -43,14 +39,14 @@ someMatch ms p = anyTo (length ms) (λ x. anyTo 16 (λ j. found ms (matchAt x j)
 
 -- at node x
 unfoldable pub numberAt : List ℕ → (Match → Bool) → ℕ → ℕ
-numberAt ms p x = upTo 16 (λ j. cond (found ms (matchAt x j) && p (matchAt x j)) 1 0)
+numberAt ms p x = sumTo 16 (λ j. cond (found ms (matchAt x j) && p (matchAt x j)) 1 0)
 
-abbrev pub number : List ℕ → (Match → Bool) → ℕ
-number ms p = sumTo (length ms) (numberAt ms p)
+abbrev pub howMany : List ℕ → (Match → Bool) → ℕ
+howMany ms p = sumTo (length ms) (numberAt ms p)
 
 unfoldable pub total : List ℕ → ℕ
 total [] = 0
-total (m ∷ ms) = upTo 16 (bit m) + total ms
+total (m ∷ ms) = sumTo 16 (bit m) + total ms
 
 unfoldable pub counted : (List ℕ → ℕ) → List ℕ → List ℕ → List ℕ → List ℕ → Counted
 counted f ar score spans marks =

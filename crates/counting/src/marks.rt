@@ -7,13 +7,13 @@ ghost use Rattle.counting.specs.Clashes.{clashesOf, clashNumber, clash};
 ghost use Rattle.counting.specs.Passing.{markedIn, hits, further};
 use crate::Counted;
 use kinds::Reason;
-use lent::checking::score_good;
+use checks::checking::score_good;
 
 // The number of matches: the ones in the first n marks.
-pub fn matches(arity: &[u8], score: &[u16], spans: &[u16], marks: &[u16]) -> Counted
-    ensures { λ r. ⌜ r ≡ matchesOf (now (arity .entry)) (now (score .entry)) (now (spans .entry)) (now (marks .entry)) ⌝ }
+pub fn matches(symbols: &[u8], score: &[u16], spans: &[u16], marks: &[u16]) -> Counted
+    ensures { λ r. ⌜ r ≡ matchesOf (now (symbols .entry)) (now (score .entry)) (now (spans .entry)) (now (marks .entry)) ⌝ }
 {
-    if score_good(arity, score, spans) {
+    if score_good(symbols, score, spans) {
         let n = score.len();
         if marks.len() < n {
             return Counted::Refused(Reason::ShortBuffers);
@@ -39,10 +39,10 @@ fn ones_of(marks: &[u16]) -> usize
 }
 
 // The number of matches that clash with at least one other.
-pub fn clashes(arity: &[u8], score: &[u16], spans: &[u16], marks: &[u16]) -> Counted
-    ensures { λ r. ⌜ r ≡ clashesOf (now (arity .entry)) (now (score .entry)) (now (spans .entry)) (now (marks .entry)) ⌝ }
+pub fn clashes(symbols: &[u8], score: &[u16], spans: &[u16], marks: &[u16]) -> Counted
+    ensures { λ r. ⌜ r ≡ clashesOf (now (symbols .entry)) (now (score .entry)) (now (spans .entry)) (now (marks .entry)) ⌝ }
 {
-    if score_good(arity, score, spans) {
+    if score_good(symbols, score, spans) {
         let n = score.len();
         if marks.len() < n {
             return Counted::Refused(Reason::ShortBuffers);

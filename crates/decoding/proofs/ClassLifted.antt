@@ -13,7 +13,8 @@ use lib.ListN.{length, getElem?, length-map}
 use Rattle.kinds.specs.Positions.{Pos, code, strip}
 use Rattle.kinds.proofs.Codes.{Small, small-rest, small-code, code-decode}
 use Rattle.kinds.proofs.ListLaws.{map-map, map-same}
-use Rattle.kinds.proofs.Members.{_∈_, here, there, map-in, on-map}
+use Rattle.kinds.proofs.Members.{map-in, on-map}
+use Rattle.kinds.specs.Members.{_∈_, here, there}
 use Rattle.kinds.proofs.Prefixes.{_≼_, strip-self}
 use Rattle.automaton.specs.Bare.{bare}
 use Rattle.automaton.specs.Goals.{Goal, State}

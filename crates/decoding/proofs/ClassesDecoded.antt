@@ -14,7 +14,8 @@ use lib.ListN.{length, length-map}
 use Rattle.kinds.specs.Lists.{sort, gather, range}
 use Rattle.kinds.specs.Positions.{Pos, code}
 use Rattle.kinds.proofs.ListLaws.{map-map, map-same, gather-same, gather-map, map-gather, sort-map-in}
-use Rattle.kinds.proofs.Members.{_∈_, here, in-none, on-map, on-gather}
+use Rattle.kinds.proofs.Members.{in-none, on-map, on-gather}
+use Rattle.kinds.specs.Members.{_∈_, here}
 use Rattle.term.specs.Terms.{Term}
 use Rattle.automaton.specs.Bare.{bare}
 use Rattle.automaton.specs.Goals.{Goal, allObs, first}

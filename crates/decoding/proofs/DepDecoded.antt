@@ -11,7 +11,8 @@ use lib.ListN.{length}
 use Rattle.automaton.specs.Classes.{dep}
 use Rattle.automaton.specs.Bare.{bare}
 use Rattle.kinds.proofs.Codes.{Proper, code-same}
-use Rattle.kinds.proofs.Members.{_∈_, here, there, on-map}
+use Rattle.kinds.proofs.Members.{on-map}
+use Rattle.kinds.specs.Members.{_∈_, here, there}
 use Rattle.kinds.specs.Lists.{any, same}
 use Rattle.kinds.specs.Positions.{Pos, code, decode}
 use Rattle.decoding.proofs.LabelDecoded.{Fit}

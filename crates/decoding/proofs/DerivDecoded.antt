@@ -11,7 +11,8 @@ use lib.ListN.{length, length-append}
 use Rattle.automaton.specs.Bare.{bare, fresh}
 use Rattle.automaton.specs.Goals.{Goal, State, reduced, label, deriv}
 use Rattle.kinds.proofs.Codes.{Proper, proper-nil, proper-cons, proper-append, codeFrom-append, decode-proper}
-use Rattle.kinds.proofs.Members.{_∈_, here, there, ∈-append, ∈-left, ∈-right, in-range}
+use Rattle.kinds.proofs.Members.{∈-append, ∈-left, ∈-right, in-range}
+use Rattle.kinds.specs.Members.{_∈_, here, there}
 use Rattle.kinds.proofs.ListLaws.{map-append}
 use Rattle.kinds.specs.Lists.{any, filter, gather, range, same, isNil}
 use Rattle.kinds.specs.Positions.{Pos, before, code, codeFrom, decodeTo, decode}

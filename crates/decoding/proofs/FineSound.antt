@@ -22,7 +22,8 @@ use Rattle.kinds.specs.Lists.{gather, range}
 use Rattle.kinds.specs.Positions.{Pos, code, decode}
 use Rattle.kinds.proofs.Codes.{Small, small-snoc, small-code, code-snoc}
 use Rattle.kinds.proofs.ListLaws.{append-same}
-use Rattle.kinds.proofs.Members.{_∈_, _⊆_, in-none, in-one, ∈-append, filter-in, gather-in, on-gather, map-in, on-map, in-range, in-sort}
+use Rattle.kinds.proofs.Members.{in-none, in-one, ∈-append, filter-in, gather-in, on-gather, map-in, on-map, in-range, in-sort}
+use Rattle.kinds.specs.Members.{_∈_, _⊆_}
 use Rattle.kinds.proofs.Places.{at-below, getD-at}
 use Rattle.term.specs.Terms.{Term, blank, node, Terms, count, span, Fits}
 use Rattle.term.specs.Places.{sub}

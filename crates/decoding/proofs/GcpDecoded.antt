@@ -12,8 +12,8 @@ use lib.Dec.{ltb, eqb}
 use Rattle.automaton.specs.Classes.{gcp, gcpFrom}
 use Rattle.automaton.specs.Goals.{Goal, State}
 use Rattle.kinds.proofs.Codes.{code-of, code-le}
-use Rattle.kinds.proofs.Members.{_∈_, here, there}
-use Rattle.kinds.specs.Positions.{Pos, code, join, decode}
+use Rattle.kinds.specs.Members.{_∈_, here, there}
+use Rattle.kinds.specs.Positions.{Pos, code, commonPrefix, decode}
 use Rattle.decoding.specs.Decoding.{goalOf, stateOf}
 use Rattle.goals.specs.GoalWords.{GoalWords}
 use Rattle.goals.specs.WordStages.{leastCode}
@@ -45,11 +45,11 @@ least-is t best (g ∷ gs) l f w = go (decLt (g .an) best) w (λ b l′ w′. le
     go (no d) (inr m) ih = ap (λ b. leastCode (cond b (g .an) best) gs) (le-ltb (g .an) best (omega arith)) ∙ ih best l (later (m .who) (m .at) (m .is) best (λ z. omega (arith, z, l, d)))
 
 -- ---- on positions
-join-append : (a p q : Pos) → join (a ++ p) (a ++ q) ≡ a ++ join p q
+join-append : (a p q : Pos) → commonPrefix (a ++ p) (a ++ q) ≡ a ++ commonPrefix p q
 join-append [] p q = refl
 join-append (i ∷ a) p q = rw (eq-eqb i i refl) (ap (λ x. i ∷ x) (join-append a p q))
 
-join-nil : (p : Pos) → join p [] ≡ []
+join-nil : (p : Pos) → commonPrefix p [] ≡ []
 join-nil [] = refl
 join-nil (i ∷ p) = refl
 
@@ -65,12 +65,12 @@ pub data TopIn (T : Pos) : (State Pos) → Type 0 where
 from-top : (T : Pos) (s : (State Pos)) → Tops T s → gcpFrom T s ≡ T
 from-top T [] none = refl
 from-top T (g ∷ s) (more q e m) =
-    ap (λ p. gcpFrom p s) (ap₂ join (sym (append-nil T)) e ∙ join-append T [] q ∙ append-nil T) ∙ from-top T s m
+    ap (λ p. gcpFrom p s) (ap₂ commonPrefix (sym (append-nil T)) e ∙ join-append T [] q ∙ append-nil T) ∙ from-top T s m
 
 from-any : (T q : Pos) (s : (State Pos)) → Tops T s → TopIn T s → gcpFrom (T ++ q) s ≡ T
 from-any T q (g ∷ s) (more r e m) (now z) =
-    ap (λ p. gcpFrom p s) (ap (join (T ++ q)) (z ∙ sym (append-nil T)) ∙ join-append T q [] ∙ ap (λ x. T ++ x) (join-nil q) ∙ append-nil T) ∙ from-top T s m
-from-any T q (g ∷ s) (more r e m) (late i) = ap (λ p. gcpFrom p s) (ap (join (T ++ q)) e ∙ join-append T q r) ∙ from-any T (join q r) s m i
+    ap (λ p. gcpFrom p s) (ap (commonPrefix (T ++ q)) (z ∙ sym (append-nil T)) ∙ join-append T q [] ∙ ap (λ x. T ++ x) (join-nil q) ∙ append-nil T) ∙ from-top T s m
+from-any T q (g ∷ s) (more r e m) (late i) = ap (λ p. gcpFrom p s) (ap (commonPrefix (T ++ q)) e ∙ join-append T q r) ∙ from-any T (commonPrefix q r) s m i
 
 pub top-is-gcp : (T : Pos) (s : (State Pos)) → Tops T s → TopIn T s → gcp s ≡ T
 top-is-gcp T (g ∷ s) (more q e m) (now z) = ap (λ p. gcpFrom p s) z ∙ from-top T s m

@@ -19,7 +19,8 @@ use Rattle.automaton.specs.Bare.{bare, owed, argsOf, headsOf, args}
 use Rattle.automaton.specs.Goals.{Goal, reduced}
 use Rattle.kinds.proofs.Bools.{eqb-is}
 use Rattle.kinds.proofs.Codes.{Proper, code-join, code-of, decode-proper, code-same}
-use Rattle.kinds.proofs.Members.{_∈_, here, there, same-refl, any-of}
+use Rattle.kinds.proofs.Members.{same-refl, any-of}
+use Rattle.kinds.specs.Members.{_∈_, here, there}
 use Rattle.kinds.proofs.Prefixes.{strip-append}
 use Rattle.kinds.specs.Lists.{any, filter, gather, bind, same, isNil}
 use Rattle.kinds.specs.Positions.{Pos, code, decode}

@@ -3,13 +3,13 @@ use mathlib.Core.Path.{_≡_, refl, ap, sym, _∙_}
 use mathlib.Core.List.{List, [], _∷_, _++_, map, append-assoc}
 use Prim.Native.Nat.{ℕ, _/_, _%_, _^_}
 use Rattle.term.specs.Terms.{Term, span}
-use Rattle.kinds.specs.Positions.{Pos}
+use Rattle.kinds.specs.Positions.{Pos, decode}
 use Rattle.goals.specs.GoalWords.{GoalWords}
 use Rattle.automaton.specs.Goals.{Goal}
 use Rattle.decoding.specs.Decoding.{select, shapeAt, goalOf}
 use Rattle.term.specs.Places.{dom}
-use Rattle.kinds.specs.Positions.{decode}
-use Rattle.kinds.proofs.Members.{_∈_, here, there, map-in}
+use Rattle.kinds.proofs.Members.{map-in}
+use Rattle.kinds.specs.Members.{_∈_, here, there}
 use Rattle.decoding.proofs.ShapeNodes.{Node}
 use Rattle.decoding.proofs.OpenApart.{Lone, lone-apart}
 

@@ -19,7 +19,8 @@ use Rattle.kinds.specs.Lists.{range}
 use Rattle.kinds.specs.Positions.{code, decode}
 use Rattle.kinds.proofs.Codes.{decode-nil, code-decode, small-code}
 use Rattle.kinds.proofs.ListLaws.{map-map, map-same}
-use Rattle.kinds.proofs.Members.{_∈_, here, there, on-map, length-range}
+use Rattle.kinds.proofs.Members.{on-map, length-range}
+use Rattle.kinds.specs.Members.{_∈_, here, there}
 use Rattle.term.specs.Terms.{Term}
 use Rattle.term.proofs.Sizes.{span-pos}
 use Rattle.automaton.specs.Bare.{bare, fresh}

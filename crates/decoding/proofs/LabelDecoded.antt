@@ -11,7 +11,8 @@ use Rattle.automaton.specs.Bare.{bare}
 use Rattle.automaton.specs.Goals.{Goal, isRoot, first, firstFrom, allObs, label}
 use Rattle.decoding.proofs.PaddedCodes.{pad-six, code-before}
 use Rattle.kinds.proofs.Codes.{Proper, pad-lt}
-use Rattle.kinds.proofs.Members.{_∈_, here, there, on-gather, in-filter, on-map}
+use Rattle.kinds.proofs.Members.{on-gather, in-filter, on-map}
+use Rattle.kinds.specs.Members.{_∈_, here, there}
 use Rattle.kinds.proofs.ListLaws.{map-append}
 use Rattle.kinds.specs.Lists.{filter, gather}
 use Rattle.kinds.specs.Positions.{Pos, before, code, decodeTo, decode}

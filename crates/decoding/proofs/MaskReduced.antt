@@ -11,7 +11,8 @@ use lib.Bits.{bitOr, bitXor, xor-block, or-block, or-shifted, xor-step, xor-zero
 use lib.Pow.{split, pow-pos, pow-add, pow-lt}
 use lib.ListN.{length, getD, length-map, length-append}
 use Rattle.automaton.specs.Bare.{args}
-use Rattle.kinds.proofs.Members.{_∈_, here, there, same-refl}
+use Rattle.kinds.proofs.Members.{same-refl}
+use Rattle.kinds.specs.Members.{_∈_, here, there}
 use Rattle.kinds.proofs.ListLaws.{map-append, map-map, map-same, same-append}
 use Rattle.kinds.specs.Lists.{gather, same}
 use Rattle.kinds.specs.Positions.{Pos}

@@ -15,7 +15,8 @@ use Rattle.kinds.specs.Positions.{Pos}
 use Rattle.decoding.specs.Decoding.{select}
 use Rattle.term.specs.Places.{dom, doms}
 use Rattle.term.proofs.Subterms.{length-dom}
-use Rattle.kinds.proofs.Members.{_∈_, here, there, ∈-left, ∈-right, ∈-append, on-map}
+use Rattle.kinds.proofs.Members.{∈-left, ∈-right, ∈-append, on-map}
+use Rattle.kinds.specs.Members.{_∈_, here, there}
 use Rattle.decoding.proofs.Selecting.{select-append, select-none, select-sub}
 use Rattle.decoding.proofs.ShapeNodes.{Node}
 use Rattle.decoding.proofs.MaskReduced.{below, dom-below, span-below}

@@ -22,7 +22,8 @@ use Rattle.kinds.specs.Positions.{Pos, code, decode}
 use Rattle.kinds.proofs.Bools.{eqb-is, ltb-irrefl, key-order}
 use Rattle.kinds.proofs.Codes.{Small, code-decode}
 use Rattle.kinds.proofs.ListLaws.{map-append, sort-map-in}
-use Rattle.kinds.proofs.Members.{_∈_, here, there, _⊆_, in-none, in-one, on-gather, map-in, in-sort, same-is, same-refl}
+use Rattle.kinds.proofs.Members.{in-none, in-one, on-gather, map-in, in-sort, same-is, same-refl}
+use Rattle.kinds.specs.Members.{_∈_, here, there, _⊆_}
 use Rattle.kinds.proofs.Ordered.{Before, before-total}
 use Rattle.term.specs.Terms.{Term, span}
 use Rattle.term.specs.Places.{dom}

@@ -15,7 +15,8 @@ use Rattle.automaton.specs.Bare.{bare}
 use Rattle.automaton.specs.Goals.{Goal}
 use Rattle.kinds.proofs.Bools.{and-l, and-r, both, eqb-is, bool-ext}
 use Rattle.kinds.proofs.Codes.{code-of}
-use Rattle.kinds.proofs.Members.{_∈_, here, there, on-map, map-in, on-any, any-of, all-at, all-of, same-is, same-refl, Distinct}
+use Rattle.kinds.proofs.Members.{on-map, map-in, on-any, any-of, all-at, all-of, same-is, same-refl, Distinct}
+use Rattle.kinds.specs.Members.{_∈_, here, there}
 use Rattle.kinds.proofs.Prefixes.{strip-append}
 use Rattle.kinds.specs.Lists.{any, all, same}
 use Rattle.kinds.specs.Positions.{Pos, code, strip, decode}

@@ -11,7 +11,7 @@ use lib.Dec.{eqb}
 use lib.Bits.{block-half, block-odd}
 use lib.ListN.{length, getD}
 use Rattle.kinds.proofs.Bools.{eqb-is}
-use Rattle.kinds.proofs.Members.{_∈_, here, there}
+use Rattle.kinds.specs.Members.{_∈_, here, there}
 use Rattle.decoding.specs.Decoding.{select}
 
 module _ {ℓ} {A : Type ℓ} where

@@ -12,7 +12,8 @@ use borrow.Author.Tests.{eq-eqb, ne-eqb}
 use lib.Dec.{eqb}
 use lib.ListN.{length, getD, length-append, length-map, List·getD-append}
 use lib.Seq.{getD-append-add}
-use Rattle.kinds.proofs.Members.{_∈_, here, there, ∈-append, on-map}
+use Rattle.kinds.proofs.Members.{∈-append, on-map}
+use Rattle.kinds.specs.Members.{_∈_, here, there}
 use Rattle.kinds.proofs.ListLaws.{map-append, map-map}
 use Rattle.kinds.specs.Lists.{bind, same}
 use Rattle.kinds.specs.Positions.{Pos}

@@ -8,7 +8,7 @@ use mathlib.Core.Option.{Option, some}
 use Prim.Native.Nat.{ℕ, _≤_, _<_, _^_}
 use native.Mathlib.Omega.{arith}
 use lib.ListN.{length, getElem?}
-use Rattle.kinds.proofs.Members.{_∈_}
+use Rattle.kinds.specs.Members.{_∈_}
 use Rattle.term.specs.Terms.{Term, span}
 use Rattle.contents.specs.Tables.{blankWord}
 use Rattle.folio.specs.Folio.{IsShape}

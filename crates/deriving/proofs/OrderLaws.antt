@@ -18,7 +18,8 @@ use lib.Dec.{eqb, ltb}
 use lib.ListN.{length, getD, take, drop, set, length-set}
 use lib.Seq.{sets, drop-cons}
 use Rattle.kinds.specs.Lists.{insert, sort, gather, range}
-use Rattle.kinds.proofs.Members.{_∈_, here, there, in-sort}
+use Rattle.kinds.proofs.Members.{in-sort}
+use Rattle.kinds.specs.Members.{_∈_, here, there}
 use Rattle.goals.specs.GoalWords.{GoalWords, goalAt, goalsFrom, owedBy, pad, firstCode}
 use Rattle.goals.specs.WordStages.{pickedW, classKey}
 use Rattle.deriving.specs.Orders.{keyed, classAt}

@@ -25,10 +25,10 @@ use Rattle.term.proofs.Sizes.{length-flatten, spans-are}
 use Rattle.term.proofs.TermWhole.{parse-flatten, parse-all}
 use Rattle.sections.specs.Bytes.{wordsOf}
 use Rattle.sections.specs.Sections.{trailerOf, sectionsOf}
-use Rattle.contents.specs.Tables.{blankWord, noBlank, shapeLevels, scoreLevels, Row, shapesOf, scoreOf}
-use Rattle.folio.specs.Opening.{Lent, Room, Out, lent, out, refuse, counts, stored, onScore, onShapes, held, onSections, opened}
+use Rattle.contents.specs.Tables.{blankWord, noBlank, shapeLevels, scoreLevels, ShapesRead, shapesOf, scoreOf}
+use Rattle.folio.specs.Opening.{Lent, Room, OpenOutcome, lent, out, refuseOpening, counts, stored, onScore, onShapes, held, onSections, opened}
 use Rattle.folio.specs.Folio as folio
-use Rattle.folio.specs.Folio.{GoodSymbols, startsAt, answered, IsScore, shapeTerms, orBlank, scoreTerm}
+use Rattle.folio.specs.Folio.{GoodSymbols, startsAt, answered, IsScore, shapeTerms, orBlank, scoreTerm, AreShapes, Meaning}
 use Rattle.sections.specs.declared.Places.{Places}
 use Rattle.sections.specs.declared.Sections.{Sections}
 use Rattle.sections.specs.declared.Sections.the-variants as sections
@@ -41,35 +41,26 @@ use Rattle.folio.specs.declared.Opened.the-variants.{Folio, Refused}
 use Rattle.sections.proofs.LawsSections.{sections-in, sections-good}
 use Rattle.folio.proofs.LawsOpening.{stored-all, held-on, opened-at}
 use Rattle.folio.proofs.Symbols.{symbols-is, symbols-of}
-use Rattle.folio.proofs.ShapesFound.{length-starts, Each, found-shapes, shapes-found, all-once}
-use Rattle.folio.proofs.ScoreWhole.{Below, words-below, score-is, score-of}
+use Rattle.folio.proofs.ShapesFound.{length-starts, found-shapes, shapes-found, all-once}
+use Rattle.folio.proofs.ScoreWhole.{words-below, score-is, score-of}
+use Rattle.kinds.specs.Members.{Below}
 
 -- ---- what a file means
-pub record Meaning (file : List ℕ) (p : Places) : Type 0 where
-  pub shapes : List Term
-  pub score : Term
-  pub limits : folio.Folio (take (p .shapes) file) shapes score
-  pub shape-words : wordsOf (take (p .score - p .shapes) (drop (p .shapes) file)) ≡ gather flatten shapes
-  pub score-words : wordsOf (take (p .end - p .score) (drop (p .score) file)) ≡ flatten score
-
-pub each-shape : (ar : List ℕ) (ss : List Term) (t : Term) → folio.Folio ar ss t → Each ar ss
-each-shape ar ss t f u m = on-in m (λ i e. f .is-shape i u e)
-
 pub one-meaning : (file : List ℕ) (p : Places) (m n : Meaning file p) → (m .shapes ≡ n .shapes) × (m .score ≡ n .score)
 one-meaning file p m n = (
-  all-once (take (p .shapes) file) (m .shapes) (n .shapes) (each-shape _ _ _ (m .limits)) (each-shape _ _ _ (n .limits)) (sym (m .shape-words) ∙ n .shape-words),
+  all-once (take (p .shapes) file) (m .shapes) (n .shapes) (m .limits .are-shapes) (n .limits .are-shapes) (sym (m .shape-words) ∙ n .shape-words),
   once (take (p .shapes) file) noBlank (m .score) (n .score) [] [] (m .limits .is-score .fits) (n .limits .is-score .fits) (append-nil (flatten (m .score)) ∙ sym (m .score-words) ∙ n .score-words ∙ sym (append-nil (flatten (n .score)))) .0,
 )
 
 -- ---- what is answered and written
-abbrev full : List ℕ → List ℕ → List ℕ → List ℕ → Lent → Out
+abbrev full : List ℕ → List ℕ → List ℕ → List ℕ → Lent → OpenOutcome
 full ar ws st sc l =
     out (Folio (counts (length ar) (length st) (length ws) (length sc)))
     (lent (sets (l .words) 0 ws) (sets (l .starts) 0 st) (sets (l .score) 0 sc) (sets (l .spans) 0 (spansOf ar sc)))
 
 full-answered : (ar : List ℕ) (ss : List Term) (t : Term) (l : Lent) → folio.Folio ar ss t → full ar (gather flatten ss) (startsAt 0 ss) (flatten t) l ≡ answered ar ss t l
 full-answered ar ss t l f =
-    let few = f .few-symbols in
+    let few = f .symbols .few-symbols in
     let sp = spans-are ar noBlank t (omega arith) (f .is-score .fits) in
     ap (λ (x : List ℕ). out (Folio (counts (length ar) (length (startsAt 0 ss)) (length (gather flatten ss)) (length (flatten t)))) (lent (sets (l .words) 0 (gather flatten ss)) (sets (l .starts) 0 (startsAt 0 ss)) (sets (l .score) 0 (flatten t)) (sets (l .spans) 0 x))) sp
     ∙ ap₂ (λ (m n : ℕ). out (Folio (counts (length ar) m (length (gather flatten ss)) n)) (answered ar ss t l .tables)) (length-starts 0 ss) (length-flatten t)
@@ -78,7 +69,7 @@ full-answered ar ss t l f =
 never-folio {κ} : {C : Type κ} {r : Reason} {p : ℕ} {k : Counts} → Refused r p ≡ Folio k → C
 never-folio e = let z : _≡_ {A = ℕ} 0 1 = cc in absurd (omega arith)
 
-on-room {κ} : {C : Type κ} (b : Bool) (l : Lent) (o : Out) (k : Counts) → unless b (refuse reason.Tables 0 l) o .answer ≡ Folio k → (b ≡ true → o .answer ≡ Folio k → C) → C
+on-room {κ} : {C : Type κ} (b : Bool) (l : Lent) (o : OpenOutcome) (k : Counts) → unless b (refuseOpening reason.Tables 0 l) o .answer ≡ Folio k → (b ≡ true → o .answer ≡ Folio k → C) → C
 on-room true l o k e c = c refl e
 on-room false l o k e c = never-folio e
 
@@ -94,7 +85,7 @@ stored-room ar ws st sc l k e =
 -- shapes and score pass, and there is room
 record Held (ar ws sc : List ℕ) (l : Lent) : Type 0 where
   number : ℕ
-  shaped : shapesOf ar blankWord ws .answer ≡ shapes.Found number
+  shaped : shapesOf ar blankWord ws .answer ≡ shapes.Whole number
   whole : scoreOf ar sc ≡ score.Whole
   room : Room l (length ws) (length (shapesOf ar blankWord ws .starts)) (length sc)
 
@@ -105,8 +96,8 @@ held-in ar ws sc at l k e = go (shapesOf ar blankWord ws .answer) refl (scoreOf 
     go : (a : Shapes) → shapesOf ar blankWord ws .answer ≡ a → (b : Score) → scoreOf ar sc ≡ b
         → onShapes a at l (onScore b (at + 2 * length ws) l (stored ar ws (shapesOf ar blankWord ws .starts) sc l)) .answer ≡ Folio k → Held ar ws sc l
     go (shapes.Refused r i) ea b eb e = never-folio e
-    go (shapes.Found n) ea (score.Refused r i) eb e = never-folio e
-    go (shapes.Found n) ea score.Whole eb e = record { number = n; shaped = ea; whole = eb; room = stored-room ar ws (shapesOf ar blankWord ws .starts) sc l k e }
+    go (shapes.Whole n) ea (score.Refused r i) eb e = never-folio e
+    go (shapes.Whole n) ea score.Whole eb e = record { number = n; shaped = ea; whole = eb; room = stored-room ar ws (shapesOf ar blankWord ws .starts) sc l k e }
 
 pub record Accepted (file : List ℕ) (l : Lent) : Type 0 where
   pub places : Places
@@ -121,16 +112,16 @@ made-held file p m l e room =
     let ar : List ℕ = take (p .shapes) file in
     let ws : List ℕ = gather flatten (m .shapes) in
     let sc : List ℕ = flatten (m .score) in
-    let r = shapes-found ar (m .shapes) (each-shape _ _ _ (m .limits)) (m .limits .some-shape) (m .limits .few-shapes) in
+    let r = shapes-found ar (m .shapes) (m .limits .are-shapes) (m .limits .some-shape) (m .limits .few-shapes) in
     opened-at file l p e
     ∙ ap₂ (λ (x y : List ℕ). held ar x y (p .shapes) l) (m .shape-words) (m .score-words)
-    ∙ held-on ar ws sc (p .shapes) l (ap (λ (x : Row). x .answer) r) (score-of ar (m .score) (m .limits .is-score))
-    ∙ ap (λ (x : Row). stored ar ws (x .starts) sc l) r
+    ∙ held-on ar ws sc (p .shapes) l (ap (λ (x : ShapesRead). x .answer) r) (score-of ar (m .score) (m .limits .is-score))
+    ∙ ap (λ (x : ShapesRead). stored ar ws (x .starts) sc l) r
     ∙ stored-all ar ws (startsAt 0 (m .shapes)) sc l (room .words) (rw (length-starts 0 (m .shapes)) (room .starts)) (rw (length-flatten (m .score)) (room .score)) (rw (length-flatten (m .score)) (room .spans))
     ∙ full-answered ar (m .shapes) (m .score) l (m .limits)
 
-pub folio-of : (ar : List ℕ) (ss : List Term) (t : Term) → GoodSymbols ar → Each ar ss → 1 ≤ length ss → length ss ≤ 16 → IsScore ar t → folio.Folio ar ss t
-folio-of ar ss t g s a b c = record { some-symbol = g .some-symbol; few-symbols = g .few-symbols; children = g .children; some-shape = a; few-shapes = b; is-shape = λ i u e. s u (at-in ss i e); is-score = c }
+pub folio-of : (ar : List ℕ) (ss : List Term) (t : Term) → GoodSymbols ar → AreShapes ar ss → 1 ≤ length ss → length ss ≤ 16 → IsScore ar t → folio.Folio ar ss t
+folio-of ar ss t g s a b c = record { symbols = g; some-shape = a; few-shapes = b; are-shapes = s; is-score = c }
 
 pub accepted : (file : List ℕ) (l : Lent) (k : Counts) → Below 256 file → opened file l .answer ≡ Folio k → Accepted file l
 unfolding opened
@@ -162,11 +153,11 @@ accepted file l k small e = go (sectionsOf file) refl e
 pub made : (file : List ℕ) (p : Places) (m : Meaning file p) (l : Lent) → trailerOf file ≡ sections.At p → Room l (length (gather flatten (m .shapes))) (length (m .shapes)) (span (m .score))
     → opened file l ≡ answered (take (p .shapes) file) (m .shapes) (m .score) l
 made file p m l e room =
-    let g : GoodSymbols (take (p .shapes) file) = record { some-symbol = m .limits .some-symbol; few-symbols = m .limits .few-symbols; children = m .limits .children } in
+    let g = m .limits .symbols in
     made-held file p m l (sections-good file p e (symbols-of (take (p .shapes) file) g)) room
 
 -- ---- the terms that the tables hold
-pub shape-terms : (ar : List ℕ) (ss : List Term) → Each ar ss → length ss ≤ 16 → shapeTerms ar (gather flatten ss) ≡ ss
+pub shape-terms : (ar : List ℕ) (ss : List Term) → AreShapes ar ss → length ss ≤ 16 → shapeTerms ar (gather flatten ss) ≡ ss
 shape-terms ar ss s few = parse-all ar blankWord shapeLevels ss 16 few (λ t m. let h = s t m .flat in (s t m .fits, omega arith))
 
 pub score-term : (ar : List ℕ) (t : Term) → IsScore ar t → scoreTerm ar (flatten t) ≡ t
@@ -181,13 +172,13 @@ module _ (file : List ℕ) (l : Lent) (a : Accepted file l) where
   -- as many words of the tables as are answered
   pub table-shapes : shapeTerms symbols (take (length (gather flatten (a .meaning .shapes))) (opened file l .tables .words)) ≡ a .meaning .shapes
   table-shapes =
-      ap (λ (o : Out). shapeTerms symbols (take (length (gather flatten (a .meaning .shapes))) (o .tables .words))) (a .is)
+      ap (λ (o : OpenOutcome). shapeTerms symbols (take (length (gather flatten (a .meaning .shapes))) (o .tables .words))) (a .is)
       ∙ ap (shapeTerms symbols) (stored-back (gather flatten (a .meaning .shapes)) (l .words) (a .room .words))
-      ∙ shape-terms symbols (a .meaning .shapes) (each-shape _ _ _ (a .meaning .limits)) (a .meaning .limits .few-shapes)
+      ∙ shape-terms symbols (a .meaning .shapes) (a .meaning .limits .are-shapes) (a .meaning .limits .few-shapes)
 
   pub table-score : scoreTerm symbols (take (span (a .meaning .score)) (opened file l .tables .score)) ≡ a .meaning .score
   table-score =
-      ap (λ (o : Out). scoreTerm symbols (take (span (a .meaning .score)) (o .tables .score))) (a .is)
+      ap (λ (o : OpenOutcome). scoreTerm symbols (take (span (a .meaning .score)) (o .tables .score))) (a .is)
       ∙ ap (λ (n : ℕ). scoreTerm symbols (take n (sets (l .score) 0 (flatten (a .meaning .score))))) (sym (length-flatten (a .meaning .score)))
       ∙ ap (scoreTerm symbols) (stored-back (flatten (a .meaning .score)) (l .score) (rw (length-flatten (a .meaning .score)) (a .room .score)))
       ∙ score-term symbols (a .meaning .score) (a .meaning .limits .is-score)

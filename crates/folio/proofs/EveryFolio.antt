@@ -10,19 +10,18 @@ use native.Mathlib.Omega.{arith}
 use lib.ListN.{length, getD, take, drop, length-append}
 use lib.Seq.{take-at, drop-at, getD-drop}
 use Rattle.kinds.specs.Lists.{gather}
-use Rattle.kinds.proofs.Members.{here, there}
+use Rattle.kinds.specs.Members.{here, there}
 use Rattle.term.specs.Terms.{Term, flatten, span}
 use Rattle.term.proofs.Sizes.{length-flatten}
 use Rattle.sections.specs.Bytes.{wordAt, wordsOf}
 use Rattle.sections.specs.Sections.{places, distancesOf, trailerOf}
 use Rattle.folio.specs.Opening.{Lent, Room, opened}
 use Rattle.folio.specs.Folio as folio
-use Rattle.folio.specs.Folio.{startsAt, answered}
+use Rattle.folio.specs.Folio.{startsAt, answered, AreShapes, Meaning}
 use Rattle.sections.specs.declared.Places.{Places}
 use Rattle.sections.specs.declared.Sections.the-variants.{At}
 use Rattle.sections.proofs.LawsSections.{trailer-to, distances-at}
-use Rattle.folio.proofs.ShapesFound.{Each}
-use Rattle.folio.proofs.Accepted.{Meaning, each-shape, made}
+use Rattle.folio.proofs.Accepted.{made}
 
 -- ---- bytes
 abbrev pub bytesOf : List ℕ → List ℕ
@@ -76,7 +75,7 @@ fileOf ar ss t =
     let sc = flatten t in
     body ar ws sc ++ tail (length (body ar ws sc)) (2 * length ws + 2 * length sc) (2 * length sc)
 
-few-words : (ar : List ℕ) (ss : List Term) → Each ar ss → length (gather flatten ss) ≤ 16 * length ss
+few-words : (ar : List ℕ) (ss : List Term) → AreShapes ar ss → length (gather flatten ss) ≤ 16 * length ss
 few-words ar [] s = omega arith
 few-words ar (t ∷ ss) s =
     let h = few-words ar ss (λ u m. s u (there m)) in
@@ -102,10 +101,10 @@ module _ (ar : List ℕ) (ss : List Term) (t : Term) (f : folio.Folio ar ss t) w
   pub trailer-of : trailerOf (fileOf ar ss t) ≡ At at
   trailer-of =
       let l = long in
-      let w = few-words ar ss (each-shape ar ss t f) in
+      let w = few-words ar ss (f .are-shapes) in
       let n = f .is-score .small in
       let m = length-flatten t in
-      let k = f .few-symbols in
+      let k = f .symbols .few-symbols in
       let j = f .few-shapes in
       let x : length (body ar ws sc) - (2 * length ws + 2 * length sc) ≡ length ar = omega arith in
       let y : length (body ar ws sc) - 2 * length sc ≡ length ar + 2 * length ws = omega arith in

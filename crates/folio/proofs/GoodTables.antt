@@ -12,15 +12,15 @@ use Rattle.kinds.specs.Lists.{gather}
 use Rattle.term.specs.Terms.{Term, flatten, sizes}
 use Rattle.term.specs.Spans.{spansOf}
 use Rattle.term.proofs.Sizes.{spans-are}
-use Rattle.contents.specs.Tables.{blankWord, noBlank, Row, shapesOf, scoreOf}
-use Rattle.lent.specs.Again.{shapesGood, scoreGood}
+use Rattle.contents.specs.Tables.{blankWord, noBlank, ShapesRead, shapesOf, scoreOf}
+use Rattle.checks.specs.Again.{shapesGood, scoreGood}
 use Rattle.folio.specs.Folio as folio
 use Rattle.folio.specs.Folio.{startsAt, Shaped, GoodScore, GoodSymbols, IsScore}
 use Rattle.folio.proofs.Symbols.{symbols-is, symbols-of}
 use Rattle.folio.proofs.ShapesFound.{found-shapes, shapes-found}
-use Rattle.folio.proofs.ScoreWhole.{Below, score-is, score-of}
-use Rattle.lent.proofs.LawsAgain.{shapes-good-is, shapes-good-of, score-good-is, score-good-of}
-use Rattle.folio.proofs.Accepted.{each-shape}
+use Rattle.folio.proofs.ScoreWhole.{score-is, score-of}
+use Rattle.kinds.specs.Members.{Below}
+use Rattle.checks.proofs.LawsAgain.{shapes-good-is, shapes-good-of, score-good-is, score-good-of}
 
 -- ---- 19
 pub shapes-good-shaped : (ar ws st : List ℕ) → shapesGood ar ws st ≡ true → GoodSymbols ar × Shaped ar ws st
@@ -32,7 +32,7 @@ shapes-good-shaped ar ws st e =
 pub shaped-good : (ar ws st : List ℕ) → GoodSymbols ar → Shaped ar ws st → shapesGood ar ws st ≡ true
 shaped-good ar ws st g s =
     let r : shapesOf ar blankWord ws ≡ _ = ap (shapesOf ar blankWord) (s .words) ∙ shapes-found ar (s .trees) (s .each) (s .some-shape) (s .few-shapes) in
-    shapes-good-of ar ws st (record { symbols = symbols-of ar g; number = 0 + length (s .trees); found = ap (λ (x : Row). x .answer) r; starts = s .begins ∙ sym (ap (λ (x : Row). x .starts) r) })
+    shapes-good-of ar ws st (record { symbols = symbols-of ar g; number = 0 + length (s .trees); found = ap (λ (x : ShapesRead). x .answer) r; starts = s .begins ∙ sym (ap (λ (x : ShapesRead). x .starts) r) })
 
 -- ---- 31
 sizes-are : (ar : List ℕ) (t : Term) → GoodSymbols ar → IsScore ar t → spansOf ar (flatten t) ≡ sizes t
@@ -55,11 +55,8 @@ scored-good ar ws sp g s =
 
 -- ---- what opening writes for a folio
 module _ (ar : List ℕ) (ss : List Term) (t : Term) (f : folio.Folio ar ss t) where
-  good-symbols : GoodSymbols ar
-  good-symbols = record { some-symbol = f .some-symbol; few-symbols = f .few-symbols; children = f .children }
-
   pub opened-shapes-good : shapesGood ar (gather flatten ss) (startsAt 0 ss) ≡ true
-  opened-shapes-good = shaped-good ar (gather flatten ss) (startsAt 0 ss) good-symbols (record { trees = ss; each = each-shape ar ss t f; some-shape = f .some-shape; few-shapes = f .few-shapes; words = refl; begins = refl })
+  opened-shapes-good = shaped-good ar (gather flatten ss) (startsAt 0 ss) (f .symbols) (record { trees = ss; each = f .are-shapes; some-shape = f .some-shape; few-shapes = f .few-shapes; words = refl; begins = refl })
 
   pub opened-score-good : scoreGood ar (flatten t) (sizes t) ≡ true
-  opened-score-good = scored-good ar (flatten t) (sizes t) good-symbols (record { tree = t; is = f .is-score; words = refl; spans = refl })
+  opened-score-good = scored-good ar (flatten t) (sizes t) (f .symbols) (record { tree = t; is = f .is-score; words = refl; spans = refl })

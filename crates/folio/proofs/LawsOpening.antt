@@ -24,25 +24,25 @@ use Rattle.contents.specs.Tables.{blankWord, shapesOf, scoreOf}
 use Rattle.contents.specs.declared.Shapes.the-variants as shapes
 use Rattle.contents.specs.declared.Score.the-variants as score
 use Rattle.folio.specs.declared.Opened.the-variants.{Folio}
-use Rattle.folio.specs.Opening.{Lent, lent, out, refuse, counts, stored, held, onSections, opened}
+use Rattle.folio.specs.Opening.{Lent, lent, out, refuseOpening, counts, stored, held, onSections, opened}
 use Rattle.sections.proofs.LawsBytes.{length-words, words-take, words-drop}
 use Rattle.sections.proofs.LawsSections.{Placed}
 use Rattle.contents.proofs.LawsTables.{found-count}
 
 module _ (ar ws st sc : List ℕ) (l : Lent) where
-  pub stored-words : length (l .words) < length ws → stored ar ws st sc l ≡ refuse reason.Tables 0 l
+  pub stored-words : length (l .words) < length ws → stored ar ws st sc l ≡ refuseOpening reason.Tables 0 l
   unfolding stored
   stored-words a = rw (lt-leb _ _ a)
 
-  pub stored-starts : length ws ≤ length (l .words) → length (l .starts) < length st → stored ar ws st sc l ≡ refuse reason.Tables 0 l
+  pub stored-starts : length ws ≤ length (l .words) → length (l .starts) < length st → stored ar ws st sc l ≡ refuseOpening reason.Tables 0 l
   unfolding stored
   stored-starts a b = rw (le-leb _ _ a, lt-leb _ _ b)
 
-  pub stored-score : length ws ≤ length (l .words) → length st ≤ length (l .starts) → length (l .score) < length sc → stored ar ws st sc l ≡ refuse reason.Tables 0 l
+  pub stored-score : length ws ≤ length (l .words) → length st ≤ length (l .starts) → length (l .score) < length sc → stored ar ws st sc l ≡ refuseOpening reason.Tables 0 l
   unfolding stored
   stored-score a b c = rw (le-leb _ _ a, le-leb _ _ b, lt-leb _ _ c)
 
-  pub stored-spans : length ws ≤ length (l .words) → length st ≤ length (l .starts) → length sc ≤ length (l .score) → length (l .spans) < length sc → stored ar ws st sc l ≡ refuse reason.Tables 0 l
+  pub stored-spans : length ws ≤ length (l .words) → length st ≤ length (l .starts) → length sc ≤ length (l .score) → length (l .spans) < length sc → stored ar ws st sc l ≡ refuseOpening reason.Tables 0 l
   unfolding stored
   stored-spans a b c d = rw (le-leb _ _ a, le-leb _ _ b, le-leb _ _ c, lt-leb _ _ d)
 
@@ -59,21 +59,21 @@ pub stored-written : (ar ws st sc : List ℕ) (l : Lent) {w t s p : List ℕ} �
 stored-written ar ws st sc l a b c d ew et es ep = (λ i. out (Folio (counts (length ar) (length st) (length ws) (length sc))) (lent (ew i) (et i) (es i) (ep i))) ∙ sym (stored-all ar ws st sc l a b c d)
 
 module _ (ar ws sc : List ℕ) (at : ℕ) (l : Lent) where
-  pub held-shapes : {r : Reason} {i : ℕ} → shapesOf ar blankWord ws .answer ≡ shapes.Refused r i → held ar ws sc at l ≡ refuse r (at + 2 * i) l
+  pub held-shapes : {r : Reason} {i : ℕ} → shapesOf ar blankWord ws .answer ≡ shapes.Refused r i → held ar ws sc at l ≡ refuseOpening r (at + 2 * i) l
   unfolding held
   held-shapes e = rw e
 
-  pub held-score : {n : ℕ} {r : Reason} {i : ℕ} → shapesOf ar blankWord ws .answer ≡ shapes.Found n → scoreOf ar sc ≡ score.Refused r i
-      → held ar ws sc at l ≡ refuse r (at + 2 * length ws + 2 * i) l
+  pub held-score : {n : ℕ} {r : Reason} {i : ℕ} → shapesOf ar blankWord ws .answer ≡ shapes.Whole n → scoreOf ar sc ≡ score.Refused r i
+      → held ar ws sc at l ≡ refuseOpening r (at + 2 * length ws + 2 * i) l
   unfolding held
   held-score e f = rw (e, f)
 
-  pub held-on : {n : ℕ} → shapesOf ar blankWord ws .answer ≡ shapes.Found n → scoreOf ar sc ≡ score.Whole → held ar ws sc at l ≡ stored ar ws (shapesOf ar blankWord ws .starts) sc l
+  pub held-on : {n : ℕ} → shapesOf ar blankWord ws .answer ≡ shapes.Whole n → scoreOf ar sc ≡ score.Whole → held ar ws sc at l ≡ stored ar ws (shapesOf ar blankWord ws .starts) sc l
   unfolding held
   held-on e f = rw (e, f)
 
 module _ (file : List ℕ) (l : Lent) where
-  pub opened-refused : {r : Reason} {p : ℕ} → sectionsOf file ≡ sections.Refused r p → opened file l ≡ refuse r p l
+  pub opened-refused : {r : Reason} {p : ℕ} → sectionsOf file ≡ sections.Refused r p → opened file l ≡ refuseOpening r p l
   unfolding opened
   opened-refused e = ap (λ (s : Sections). onSections s file l) e
 
@@ -100,14 +100,14 @@ module _ (ar both : List ℕ) (m : ℕ) (fits : m ≤ length both) where
   pub held-parts : (at : ℕ) (l : Lent) → held ar (take m both) (drop m both) at l ≡ held ar (take (m - 0) both) (take (length both - m) (drop m both)) at l
   held-parts at l = ap₂ (λ (x y : List ℕ). held ar x y at l) (sym ws-is) (sym sc-is)
 
-  pub parts-shapes : (at : ℕ) (l : Lent) {r : Reason} {i : ℕ} → shapesOf ar blankWord (take (m - 0) both) .answer ≡ shapes.Refused r i → held ar (take m both) (drop m both) at l ≡ refuse r (at + 2 * i) l
+  pub parts-shapes : (at : ℕ) (l : Lent) {r : Reason} {i : ℕ} → shapesOf ar blankWord (take (m - 0) both) .answer ≡ shapes.Refused r i → held ar (take m both) (drop m both) at l ≡ refuseOpening r (at + 2 * i) l
   parts-shapes at l e = held-parts at l ∙ held-shapes _ _ _ at l e
 
-  pub parts-score : (at : ℕ) (l : Lent) {n : ℕ} {r : Reason} {i : ℕ} → shapesOf ar blankWord (take (m - 0) both) .answer ≡ shapes.Found n
-      → scoreOf ar (take (length both - m) (drop m both)) ≡ score.Refused r i → held ar (take m both) (drop m both) at l ≡ refuse r (at + 2 * m + 2 * i) l
-  parts-score at l {r = r} {i = i} e f = held-parts at l ∙ held-score ar (take (m - 0) both) _ at l e f ∙ ap (λ (n : ℕ). refuse r (at + 2 * n + 2 * i) l) ws-length
+  pub parts-score : (at : ℕ) (l : Lent) {n : ℕ} {r : Reason} {i : ℕ} → shapesOf ar blankWord (take (m - 0) both) .answer ≡ shapes.Whole n
+      → scoreOf ar (take (length both - m) (drop m both)) ≡ score.Refused r i → held ar (take m both) (drop m both) at l ≡ refuseOpening r (at + 2 * m + 2 * i) l
+  parts-score at l {r = r} {i = i} e f = held-parts at l ∙ held-score ar (take (m - 0) both) _ at l e f ∙ ap (λ (n : ℕ). refuseOpening r (at + 2 * n + 2 * i) l) ws-length
 
-  pub parts-on : (at : ℕ) (l : Lent) (n : ℕ) (z f : List ℕ) → shapesOf ar blankWord (take (m - 0) both) .answer ≡ shapes.Found n
+  pub parts-on : (at : ℕ) (l : Lent) (n : ℕ) (z f : List ℕ) → shapesOf ar blankWord (take (m - 0) both) .answer ≡ shapes.Whole n
       → scoreOf ar (take (length both - m) (drop m both)) ≡ score.Whole → length z ≡ 16 → f ≡ sets z 0 (shapesOf ar blankWord (take (m - 0) both) .starts)
       → held ar (take m both) (drop m both) at l ≡ stored ar (take (m - 0) both) (take (n - 0) f) (take (length both - m) (drop m both)) l
   parts-on at l n z f e s lz ef =

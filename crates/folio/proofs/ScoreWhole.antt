@@ -1,5 +1,5 @@
 -- A whole score is a score, and a score is whole.
---   Below words-below       numbers below 256, or 65,536
+--   words-below             numbers below 256, or 65,536
 --   whole-of                what has no word from 65,536 on has no blank
 --   Scored score-is         the words are those of a score
 --   score-of                and the way back
@@ -12,7 +12,8 @@ use borrow.Author.Tests.{ltb-false}
 use lib.Dec.{ltb}
 use lib.ListN.{length, drop, drop-of-length-le, length-drop}
 use Rattle.kinds.specs.declared.Reason.the-variants as reason
-use Rattle.kinds.proofs.Members.{_∈_, here, there, ∈-left, ∈-right, in-none}
+use Rattle.kinds.proofs.Members.{∈-left, ∈-right, in-none}
+use Rattle.kinds.specs.Members.{_∈_, here, there, Below}
 use Rattle.term.specs.Terms.{Term, blank, node, Terms, tnil, tcons, span, flatten, flattens, Fits, Fitss, Whole, Wholes}
 use Rattle.term.specs.Reading.{reading}
 use Rattle.term.specs.declared.Met.{Met}
@@ -23,13 +24,9 @@ use Rattle.term.proofs.WholeTerm.{whole-term}
 use Rattle.term.proofs.TermWhole.{read-back}
 use Rattle.sections.specs.Bytes.{wordsOf}
 use Rattle.contents.specs.declared.Score.the-variants as score
-use Rattle.contents.specs.Tables.{noBlank, scoreLimits, scoreLevels, alone, scoreOf}
+use Rattle.contents.specs.Tables.{noBlank, scoreLimits, scoreLevels, wholeScore, scoreOf}
 use Rattle.folio.specs.Folio.{IsScore, Scored}
 use Rattle.contents.proofs.LawsTables.{score-whole}
-
--- each number is below n
-abbrev pub Below : ℕ → List ℕ → Type 0
-Below n ws = (w : ℕ) → w ∈ ws → w < n
 
 pub words-below : (b : List ℕ) → Below 256 b → Below 65536 (wordsOf b)
 unfolding wordsOf
@@ -62,7 +59,7 @@ score-is ar ws small e = go (reading ar ws (scoreLimits 0) scoreLevels 0) refl e
           words = q;
         }
 
-    go : (r : Reading) → reading ar ws (scoreLimits 0) scoreLevels 0 ≡ r → alone r (length ws) ≡ score.Whole → Scored ar ws
+    go : (r : Reading) → reading ar ws (scoreLimits 0) scoreLevels 0 ≡ r → wholeScore r (length ws) ≡ score.Whole → Scored ar ws
     go (read.Refused f p) er e = let z : _≡_ {A = ℕ} 0 1 = cc in absurd (omega arith)
     go (read.Whole m) er e = inner (ltb (m .end) (length ws)) refl e
       where

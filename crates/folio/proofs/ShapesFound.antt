@@ -15,7 +15,8 @@ use lib.Dec.{ltb, leb}
 use lib.ListN.{length, getD, drop, drop-of-length-le, length-drop, length-append}
 use Rattle.kinds.specs.Lists.{gather}
 use Rattle.kinds.specs.declared.Reason.the-variants as reason
-use Rattle.kinds.proofs.Members.{_∈_, here, there, in-none}
+use Rattle.kinds.proofs.Members.{in-none}
+use Rattle.kinds.specs.Members.{_∈_, here, there}
 use Rattle.kinds.proofs.ListLaws.{from}
 use Rattle.kinds.proofs.Bools.{false-true}
 use Rattle.term.specs.Terms.{Term, blank, node, span, flatten, Fits, Terms}
@@ -28,20 +29,17 @@ use Rattle.term.proofs.TermWhole.{first, read-back}
 use Rattle.term.proofs.OneTerm.{once}
 use Rattle.term.proofs.Sizes.{length-flatten, span-pos}
 use Rattle.contents.specs.declared.Shapes.the-variants as shapes
-use Rattle.contents.specs.Tables.{blankWord, shapeLimits, shapeLevels, row, push, shape, shapesFrom, shapesOf}
-use Rattle.folio.specs.Folio.{isBlank, IsShape, startsAt, Shaped}
+use Rattle.contents.specs.Tables.{blankWord, shapeLimits, shapeLevels, shapesRead, push, oneShape, shapesFrom, shapesOf}
+use Rattle.folio.specs.Folio.{isBlank, IsShape, AreShapes, startsAt, Shaped}
 use Rattle.contents.proofs.LawsTables.{never-found, shapes-done, shapes-some, found-from}
 
 pub length-starts : (at : ℕ) (ts : List Term) → length (startsAt at ts) ≡ length ts
 length-starts at [] = refl
 length-starts at (t ∷ ts) = ap suc (length-starts (at + span t) ts)
 
-abbrev pub Each : List ℕ → List Term → Type 0
-Each ar ts = (t : Term) → t ∈ ts → IsShape ar t
-
 pub record ShapesAt (ar ws starts : List ℕ) (at : ℕ) : Type 0 where
   pub trees : List Term
-  pub each : Each ar trees
+  pub each : AreShapes ar trees
   pub words : drop at ws ≡ gather flatten trees
   pub begins : starts ≡ startsAt at trees
 
@@ -64,12 +62,12 @@ pub solid-node : (t : Term) → isBlank t ≡ false → (f : ℕ) × (us : Terms
 solid-node (blank w) e = false-true (sym e)
 solid-node (node f us) e = (f, us, refl)
 
-pub shapes-at : (ar ws : List ℕ) (c n at k : ℕ) → shapesFrom ar blankWord ws c n at .answer ≡ shapes.Found k → ShapesAt ar ws (shapesFrom ar blankWord ws c n at .starts) at
+pub shapes-at : (ar ws : List ℕ) (c n at k : ℕ) → shapesFrom ar blankWord ws c n at .answer ≡ shapes.Whole k → ShapesAt ar ws (shapesFrom ar blankWord ws c n at .starts) at
 unfolding shapesFrom
 shapes-at ar ws zero n at k e = go (ltb at (length ws)) refl e
   where
-    go : (b : Bool) → ltb at (length ws) ≡ b → cond b (row (shapes.Refused reason.Shapes at) []) (row (shapes.Found n) []) .answer ≡ shapes.Found k
-        → ShapesAt ar ws (cond b (row (shapes.Refused reason.Shapes at) []) (row (shapes.Found n) []) .starts) at
+    go : (b : Bool) → ltb at (length ws) ≡ b → cond b (shapesRead (shapes.Refused reason.Shapes at) []) (shapesRead (shapes.Whole n) []) .answer ≡ shapes.Whole k
+        → ShapesAt ar ws (cond b (shapesRead (shapes.Refused reason.Shapes at) []) (shapesRead (shapes.Whole n) []) .starts) at
     go true eb e = never-found e
     go false eb e = no-shapes ar ws at eb
 shapes-at ar ws (suc c) n at k e =
@@ -88,9 +86,9 @@ shapes-at ar ws (suc c) n at k e =
         both t (there i) = b .each t i
 
     go : (b : Bool) → ltb at (length ws) ≡ b → (r : Reading) → reading ar ws (shapeLimits blankWord at) shapeLevels at ≡ r → (lone : Bool) → leb blankWord (getD ws at 0) ≡ lone
-        → cond b (shape r at lone (shapesFrom ar blankWord ws c (n + 1))) (row (shapes.Found n) []) .answer ≡ shapes.Found k
-        → ((a : ℕ) → shapesFrom ar blankWord ws c (n + 1) a .answer ≡ shapes.Found k → ShapesAt ar ws (shapesFrom ar blankWord ws c (n + 1) a .starts) a)
-        → ShapesAt ar ws (cond b (shape r at lone (shapesFrom ar blankWord ws c (n + 1))) (row (shapes.Found n) []) .starts) at
+        → cond b (oneShape r at lone (shapesFrom ar blankWord ws c (n + 1))) (shapesRead (shapes.Whole n) []) .answer ≡ shapes.Whole k
+        → ((a : ℕ) → shapesFrom ar blankWord ws c (n + 1) a .answer ≡ shapes.Whole k → ShapesAt ar ws (shapesFrom ar blankWord ws c (n + 1) a .starts) a)
+        → ShapesAt ar ws (cond b (oneShape r at lone (shapesFrom ar blankWord ws c (n + 1))) (shapesRead (shapes.Whole n) []) .starts) at
     go false eb r er lone el e ih = no-shapes ar ws at eb
     go true eb (read.Refused f p) er lone el e ih = never-found e
     go true eb (read.Whole m) er true el e ih = never-found e
@@ -100,7 +98,7 @@ shapes-at ar ws (suc c) n at k e =
         let s : IsShape ar (a .tree) = record { fits = a .fits; flat = omega (arith, a .flat); small = omega (arith, w .few, a .size); solid = solid ar ws shapeLevels at (m .end) a (ltb-true at (length ws) eb) (leb-false blankWord (getD ws at 0) el) } in
         join (m .end) a s (shapesFrom ar blankWord ws c (n + 1) (m .end) .starts) (ih (m .end) e)
 
-pub found-shapes : (ar ws : List ℕ) (k : ℕ) → shapesOf ar blankWord ws .answer ≡ shapes.Found k → Shaped ar ws (shapesOf ar blankWord ws .starts)
+pub found-shapes : (ar ws : List ℕ) (k : ℕ) → shapesOf ar blankWord ws .answer ≡ shapes.Whole k → Shaped ar ws (shapesOf ar blankWord ws .starts)
 unfolding shapesOf
 found-shapes ar ws k e = go (ltb 0 (length ws)) refl e
   where
@@ -108,8 +106,8 @@ found-shapes ar ws k e = go (ltb 0 (length ws)) refl e
     some-of [] h q = let z : length ws ≡ 0 = ap length q in absurd (omega arith)
     some-of (t ∷ ts) h q = omega arith
 
-    go : (b : Bool) → ltb 0 (length ws) ≡ b → cond b (shapesFrom ar blankWord ws 16 0 0) (row (shapes.Refused reason.Shapes 0) []) .answer ≡ shapes.Found k
-        → Shaped ar ws (cond b (shapesFrom ar blankWord ws 16 0 0) (row (shapes.Refused reason.Shapes 0) []) .starts)
+    go : (b : Bool) → ltb 0 (length ws) ≡ b → cond b (shapesFrom ar blankWord ws 16 0 0) (shapesRead (shapes.Refused reason.Shapes 0) []) .answer ≡ shapes.Whole k
+        → Shaped ar ws (cond b (shapesFrom ar blankWord ws 16 0 0) (shapesRead (shapes.Refused reason.Shapes 0) []) .starts)
     go true eb e =
         let f = shapes-at ar ws 16 0 0 k e in
         let c = found-from ar blankWord ws 16 0 0 k e in
@@ -131,11 +129,11 @@ head-word ar ws at (node f ts) r s e =
     let q = s .fits .0 in
     (h .0, omega (arith, h .1, q))
 
-from-shapes : (ar ws : List ℕ) (ts : List Term) (c n at : ℕ) → Each ar ts → length ts ≤ c → drop at ws ≡ gather flatten ts → shapesFrom ar blankWord ws c n at ≡ row (shapes.Found (n + length ts)) (startsAt at ts)
+from-shapes : (ar ws : List ℕ) (ts : List Term) (c n at : ℕ) → AreShapes ar ts → length ts ≤ c → drop at ws ≡ gather flatten ts → shapesFrom ar blankWord ws c n at ≡ shapesRead (shapes.Whole (n + length ts)) (startsAt at ts)
 unfolding shapesFrom
 from-shapes ar ws [] c n at s h e =
     let k : length (drop at ws) ≡ 0 = ap length e in
-    shapes-done ar blankWord ws n at c (omega (arith, length-drop at ws)) ∙ ap (λ (m : ℕ). row (shapes.Found m) []) (sym (add-zero n))
+    shapes-done ar blankWord ws n at c (omega (arith, length-drop at ws)) ∙ ap (λ (m : ℕ). shapesRead (shapes.Whole m) []) (sym (add-zero n))
 from-shapes ar ws (t ∷ ts) zero n at s h e = absurd (omega arith)
 from-shapes ar ws (t ∷ ts) (suc c) n at s h e =
     let one = s t (here refl) in
@@ -146,13 +144,13 @@ from-shapes ar ws (t ∷ ts) (suc c) n at s h e =
     let ih = from-shapes ar ws ts c (n + 1) (at + span t) (λ u m. s u (there m)) (omega arith) (b .1) in
     let q : n + 1 + length ts ≡ n + suc (length ts) = omega arith in
     let step : shapesFrom ar blankWord ws (suc c) n at ≡ push at (shapesFrom ar blankWord ws c (n + 1) (at + span t)) = rw (lt-ltb _ _ (w .0), b .0, lt-leb _ _ (w .1)) in
-    step ∙ ap (push at) ih ∙ ap (λ (m : ℕ). row (shapes.Found m) (at ∷ startsAt (at + span t) ts)) q
+    step ∙ ap (push at) ih ∙ ap (λ (m : ℕ). shapesRead (shapes.Whole m) (at ∷ startsAt (at + span t) ts)) q
 
 words-some : (ts : List Term) → 1 ≤ length ts → length (gather flatten ts) ≡ 0 → ⊥
 words-some [] h e = omega arith
 words-some (t ∷ ts) h e = omega (arith, length-append (flatten t) (gather flatten ts), length-flatten t, span-pos t, e)
 
-pub shapes-found : (ar : List ℕ) (ts : List Term) → Each ar ts → 1 ≤ length ts → length ts ≤ 16 → shapesOf ar blankWord (gather flatten ts) ≡ row (shapes.Found (0 + length ts)) (startsAt 0 ts)
+pub shapes-found : (ar : List ℕ) (ts : List Term) → AreShapes ar ts → 1 ≤ length ts → length ts ≤ 16 → shapesOf ar blankWord (gather flatten ts) ≡ shapesRead (shapes.Whole (0 + length ts)) (startsAt 0 ts)
 shapes-found ar ts s some few = shapes-some ar blankWord (gather flatten ts) (words-some ts some) ∙ from-shapes ar (gather flatten ts) ts 16 0 0 s few refl
 
 -- ---- one list of shapes
@@ -160,7 +158,7 @@ no-words : (t : Term) (r : List ℕ) → [] ≡ flatten t ++ r → ⊥
 no-words (blank w) r e = let z : _≡_ {A = ℕ} 0 1 = cc in omega arith
 no-words (node f ts) r e = let z : _≡_ {A = ℕ} 0 1 = cc in omega arith
 
-pub all-once : (ar : List ℕ) (ts us : List Term) → Each ar ts → Each ar us → gather flatten ts ≡ gather flatten us → ts ≡ us
+pub all-once : (ar : List ℕ) (ts us : List Term) → AreShapes ar ts → AreShapes ar us → gather flatten ts ≡ gather flatten us → ts ≡ us
 all-once ar [] [] p q e = refl
 all-once ar [] (u ∷ us) p q e = absurd (no-words u (gather flatten us) e)
 all-once ar (t ∷ ts) [] p q e = absurd (no-words t (gather flatten ts) (sym e))

@@ -25,11 +25,11 @@ use Rattle.term.proofs.TermWhole.{read-back}
 use Rattle.term.proofs.Sizes.{length-flatten, span-pos}
 use Rattle.following.proofs.FollowTree.{words-stand}
 use Rattle.contents.specs.Tables.{blankWord, shapeLimits, shapeLevels, scoreLimits, scoreLevels}
-use Rattle.lent.specs.Again.{pieceAt, subtreeAt}
-use Rattle.lent.specs.declared.Asked.the-variants as asked
+use Rattle.checks.specs.Again.{pieceAt, subtreeAt}
+use Rattle.checks.specs.declared.Asked.the-variants as asked
 use Rattle.folio.specs.Folio.{GoodSymbols, IsScore}
 use Rattle.folio.proofs.Symbols.{symbols-of}
-use Rattle.lent.proofs.LawsAgain.{piece-none, piece-some, subtree-some}
+use Rattle.checks.proofs.LawsAgain.{piece-none, piece-some, subtree-some}
 
 module _ (ar ws : List ℕ) (l : Limits) (levels at : ℕ) where
   pub piece-term : (u : Term) (r : List ℕ) → Fits ar (l .blanks) u → depth u < levels → at + span u ≤ l .stop → drop at ws ≡ flatten u ++ r → pieceAt ar ws l levels at ≡ flatten u

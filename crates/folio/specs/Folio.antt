@@ -1,9 +1,10 @@
 -- What a folio is, on terms: the limits of document 01, "The folio".
 --   isBlank      a term of one blank
---   IsShape      "each 1 to 16 nodes, blanks counted, at depth at most 5", not one blank
+--   IsShape AreShapes   "each 1 to 16 nodes, blanks counted, at depth at most 5", not one blank
 --   IsScore      "one tree in preorder without blanks, 1 to 4,096 nodes, depth at most 64"
 --   GoodSymbols  symbols that opening accepts; Scored: words that are a score's
 --   Folio        "1 to 32 symbols, each 0 to 4 children; 1 to 16 shapes; a score"
+--   Meaning      what the sections of a file mean
 --   Shaped GoodScore   tables such as opening writes; startsAt: where shapes begin
 --   answered     what opening answers and writes for a folio
 --   shapeTerms   the shapes that shape words hold; scoreTerm the score that score words hold, a blank where they hold none
@@ -15,10 +16,12 @@ use Prim.Native.Nat.{ℕ, _+_, _≤_}
 use lib.ListN.{length, getElem?}
 use lib.Seq.{sets}
 use Rattle.kinds.specs.Lists.{gather}
-use Rattle.kinds.proofs.Members.{_∈_}
+use Rattle.kinds.specs.Members.{_∈_}
 use Rattle.term.specs.Terms.{Term, blank, node, span, depth, flatten, sizes, Fits, Whole, Read, parse, parseAll}
-use Rattle.folio.specs.Opening.{Lent, Out, lent, out, counts}
+use Rattle.folio.specs.Opening.{Lent, OpenOutcome, lent, out, counts}
 use Rattle.folio.specs.declared.Opened.the-variants as opening
+use Rattle.sections.specs.Sections.{symbolsAt, shapesAt, scoreAt}
+use Rattle.sections.specs.declared.Places.{Places}
 use Rattle.contents.specs.Tables.{blankWord, noBlank, shapeLevels, scoreLevels}
 
 abbrev pub isBlank : Term → Bool
@@ -30,6 +33,9 @@ pub record IsShape (ar : List ℕ) (t : Term) : Type 0 where
   pub flat : depth t ≤ 5
   pub small : span t ≤ 16
   pub solid : isBlank t ≡ false
+
+abbrev pub AreShapes : List ℕ → List Term → Type 0
+AreShapes ar ts = (t : Term) → t ∈ ts → IsShape ar t
 
 pub record IsScore (ar : List ℕ) (t : Term) : Type 0 where
   pub fits : Fits ar noBlank t
@@ -50,13 +56,19 @@ pub record Scored (ar ws : List ℕ) : Type 0 where
   pub words : ws ≡ flatten tree
 
 pub record Folio (ar : List ℕ) (shapes : List Term) (score : Term) : Type 0 where
-  pub some-symbol : 1 ≤ length ar
-  pub few-symbols : length ar ≤ 32
-  pub children : (f n : ℕ) → getElem? ar f ≡ some n → n ≤ 4
+  pub symbols : GoodSymbols ar
   pub some-shape : 1 ≤ length shapes
   pub few-shapes : length shapes ≤ 16
-  pub is-shape : (i : ℕ) (t : Term) → getElem? shapes i ≡ some t → IsShape ar t
+  pub are-shapes : AreShapes ar shapes
   pub is-score : IsScore ar score
+
+-- what the sections of a file mean
+pub record Meaning (file : List ℕ) (p : Places) : Type 0 where
+  pub shapes : List Term
+  pub score : Term
+  pub limits : Folio (symbolsAt file p) shapes score
+  pub shape-words : shapesAt file p ≡ gather flatten shapes
+  pub score-words : scoreAt file p ≡ flatten score
 
 abbrev pub shapeTerms : List ℕ → List ℕ → List Term
 shapeTerms ar ws = parseAll ar blankWord shapeLevels 16 ws
@@ -76,7 +88,7 @@ startsAt at (t ∷ ts) = at ∷ startsAt (at + span t) ts
 -- shape words and starts such as opening writes
 pub record Shaped (ar ws st : List ℕ) : Type 0 where
   pub trees : List Term
-  pub each : (t : Term) → t ∈ trees → IsShape ar t
+  pub each : AreShapes ar trees
   pub some-shape : 1 ≤ length trees
   pub few-shapes : length trees ≤ 16
   pub words : ws ≡ gather flatten trees
@@ -90,7 +102,7 @@ pub record GoodScore (ar ws sp : List ℕ) : Type 0 where
   pub spans : sp ≡ sizes tree
 
 -- what opening answers and writes for a folio
-abbrev pub answered : List ℕ → List Term → Term → Lent → Out
+abbrev pub answered : List ℕ → List Term → Term → Lent → OpenOutcome
 answered ar ss t l =
     out (opening.Folio (counts (length ar) (length ss) (length (gather flatten ss)) (span t)))
     (lent (sets (l .words) 0 (gather flatten ss)) (sets (l .starts) 0 (startsAt 0 ss)) (sets (l .score) 0 (flatten t)) (sets (l .spans) 0 (sizes t)))

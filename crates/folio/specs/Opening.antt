@@ -1,23 +1,22 @@
 -- Opening a folio: "Order: 1 to 6, then shapes, then score, then 18." "A refusal writes nothing. Words past those an answer writes keep their values."
---   Lent Out      the four tables lent; an answer and the tables as they are then
+--   Lent OpenOutcome      the four tables lent; an answer and the tables as they are then
 --   Room          each table holds what it must
---   refuse        a refusal writes nothing
+--   refuseOpening        a refusal writes nothing
 --   stored        18; then each table begins with what it must hold and keeps the words past it
 --   held          7 to 18: the shapes' first word is at byte `at`, the score's behind their last
 --   opened        1 to 18
 --   openedSays    the answer in document 01's numbers
-use Prim.Native.Nat.{ℕ, _+_, _*_, _-_, _≤_}
+use Prim.Native.Nat.{ℕ, _+_, _*_, _≤_}
 use mathlib.Core.List.{List, [], _∷_}
 use lib.Dec.{leb}
-use lib.ListN.{length, take, drop}
+use lib.ListN.{length}
 use lib.Seq.{sets}
 use Rattle.kinds.specs.Lists.{unless}
 use Rattle.kinds.specs.Reasons.{Says, gives, refuses}
 use Rattle.kinds.specs.declared.Reason.{Reason}
 use Rattle.kinds.specs.declared.Reason.the-variants as reason
 use Rattle.term.specs.Spans.{spansOf}
-use Rattle.sections.specs.Bytes.{wordsOf}
-use Rattle.sections.specs.Sections.{sectionsOf}
+use Rattle.sections.specs.Sections.{sectionsOf, symbolsAt, shapesAt, scoreAt}
 use Rattle.sections.specs.declared.Sections.{Sections}
 use Rattle.sections.specs.declared.Sections.the-variants as sections
 use Rattle.contents.specs.Tables.{blankWord, shapesOf, scoreOf}
@@ -35,7 +34,7 @@ pub record Lent : Type 0 where
   pub score : List ℕ
   pub spans : List ℕ
 
-pub record Out : Type 0 where
+pub record OpenOutcome : Type 0 where
   pub answer : Opened
   pub tables : Lent
 
@@ -49,47 +48,44 @@ pub record Room (l : Lent) (w s n : ℕ) : Type 0 where
 abbrev pub lent : List ℕ → List ℕ → List ℕ → List ℕ → Lent
 lent w st sc sp = record { words = w; starts = st; score = sc; spans = sp }
 
-abbrev pub out : Opened → Lent → Out
+abbrev pub out : Opened → Lent → OpenOutcome
 out a l = record { answer = a; tables = l }
 
-abbrev pub refuse : Reason → ℕ → Lent → Out
-refuse r p l = out (Refused r p) l
+abbrev pub refuseOpening : Reason → ℕ → Lent → OpenOutcome
+refuseOpening r p l = out (Refused r p) l
 
 abbrev pub counts : ℕ → ℕ → ℕ → ℕ → Counts
 counts k s w n = record { symbols = k; shapes = s; words = w; nodes = n }
 
-unfoldable pub stored : List ℕ → List ℕ → List ℕ → List ℕ → Lent → Out
+unfoldable pub stored : List ℕ → List ℕ → List ℕ → List ℕ → Lent → OpenOutcome
 stored ar ws st sc l =
-    unless (leb (length ws) (length (l .words))) (refuse reason.Tables 0 l)
-    (unless (leb (length st) (length (l .starts))) (refuse reason.Tables 0 l)
-    (unless (leb (length sc) (length (l .score))) (refuse reason.Tables 0 l)
-    (unless (leb (length sc) (length (l .spans))) (refuse reason.Tables 0 l)
+    unless (leb (length ws) (length (l .words))) (refuseOpening reason.Tables 0 l)
+    (unless (leb (length st) (length (l .starts))) (refuseOpening reason.Tables 0 l)
+    (unless (leb (length sc) (length (l .score))) (refuseOpening reason.Tables 0 l)
+    (unless (leb (length sc) (length (l .spans))) (refuseOpening reason.Tables 0 l)
     (out (Folio (counts (length ar) (length st) (length ws) (length sc)))
     (lent (sets (l .words) 0 ws) (sets (l .starts) 0 st) (sets (l .score) 0 sc) (sets (l .spans) 0 (spansOf ar sc)))))))
 
-abbrev pub onScore : Score → ℕ → Lent → Out → Out
-onScore (score.Refused r i) at l on = refuse r (at + 2 * i) l
+abbrev pub onScore : Score → ℕ → Lent → OpenOutcome → OpenOutcome
+onScore (score.Refused r i) at l on = refuseOpening r (at + 2 * i) l
 onScore score.Whole at l on = on
 
-abbrev pub onShapes : Shapes → ℕ → Lent → Out → Out
-onShapes (shapes.Refused r i) at l on = refuse r (at + 2 * i) l
-onShapes (shapes.Found n) at l on = on
+abbrev pub onShapes : Shapes → ℕ → Lent → OpenOutcome → OpenOutcome
+onShapes (shapes.Refused r i) at l on = refuseOpening r (at + 2 * i) l
+onShapes (shapes.Whole n) at l on = on
 
-unfoldable pub held : List ℕ → List ℕ → List ℕ → ℕ → Lent → Out
+unfoldable pub held : List ℕ → List ℕ → List ℕ → ℕ → Lent → OpenOutcome
 held ar ws sc at l =
     onShapes (shapesOf ar blankWord ws .answer) at l
     (onScore (scoreOf ar sc) (at + 2 * length ws) l
     (stored ar ws (shapesOf ar blankWord ws .starts) sc l))
 
-abbrev pub onSections : Sections → List ℕ → Lent → Out
-onSections (sections.Refused r p) file l = refuse r p l
+abbrev pub onSections : Sections → List ℕ → Lent → OpenOutcome
+onSections (sections.Refused r p) file l = refuseOpening r p l
 onSections (sections.At p) file l =
-    held (take (p .shapes) file)
-    (wordsOf (take (p .score - p .shapes) (drop (p .shapes) file)))
-    (wordsOf (take (p .end - p .score) (drop (p .score) file)))
-    (p .shapes) l
+    held (symbolsAt file p) (shapesAt file p) (scoreAt file p) (p .shapes) l
 
-unfoldable pub opened : List ℕ → Lent → Out
+unfoldable pub opened : List ℕ → Lent → OpenOutcome
 opened file l = onSections (sectionsOf file) file l
 
 abbrev pub openedSays : Opened → Says

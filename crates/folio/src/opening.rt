@@ -44,7 +44,7 @@ pub fn open(
 
 // The shapes, m words whose first is at byte `at`, and the score, the words behind them; then 18 and the tables.
 fn hold(
-    arity: &[u8],
+    symbols: &[u8],
     both: &[u16],
     m: usize,
     at: usize,
@@ -54,30 +54,30 @@ fn hold(
     spans: &mut [u16],
 ) -> Opened
     requires { ⌜ (at ≤ 65535) × (m ≤ length (now both)) × (length (now both) ≤ 4368) ⌝ }
-    ensures { λ r. ⌜ out r (lent (now (words .exit)) (now (starts .exit)) (now (score .exit)) (now (spans .exit))) ≡ held (now (arity .entry)) (take m (now (both .entry))) (drop m (now (both .entry))) at (lent (now (words .entry)) (now (starts .entry)) (now (score .entry)) (now (spans .entry))) ⌝ }
+    ensures { λ r. ⌜ out r (lent (now (words .exit)) (now (starts .exit)) (now (score .exit)) (now (spans .exit))) ≡ held (now (symbols .entry)) (take m (now (both .entry))) (drop m (now (both .entry))) at (lent (now (words .entry)) (now (starts .entry)) (now (score .entry)) (now (spans .entry))) ⌝ }
 {
     let k = both.len();
     let ws = &both[0..m];
     let sc = &both[m..k];
     let mut firsts = [0u16; 16];
-    let n = match read_shapes(arity, BLANK, ws, &mut firsts) {
+    let n = match read_shapes(symbols, BLANK, ws, &mut firsts) {
         Shapes::Refused(reason, i) => {
             return Opened::Refused(reason, at + 2 * i);
         }
-        Shapes::Found(n) => n,
+        Shapes::Whole(n) => n,
     };
-    match read_score(arity, sc) {
+    match read_score(symbols, sc) {
         Score::Refused(reason, i) => {
             return Opened::Refused(reason, at + 2 * m + 2 * i);
         }
         Score::Whole => {}
     }
-    store(arity, ws, &firsts[0..n], sc, words, starts, score, spans)
+    store(symbols, ws, &firsts[0..n], sc, words, starts, score, spans)
 }
 
 // 18, and then the writing of the four tables.
 fn store(
-    arity: &[u8],
+    symbols: &[u8],
     ws: &[u16],
     st: &[u16],
     sc: &[u16],
@@ -87,7 +87,7 @@ fn store(
     spans: &mut [u16],
 ) -> Opened
     requires { ⌜ length (now sc) ≤ 65535 ⌝ }
-    ensures { λ r. ⌜ out r (lent (now (words .exit)) (now (starts .exit)) (now (score .exit)) (now (spans .exit))) ≡ stored (now (arity .entry)) (now (ws .entry)) (now (st .entry)) (now (sc .entry)) (lent (now (words .entry)) (now (starts .entry)) (now (score .entry)) (now (spans .entry))) ⌝ }
+    ensures { λ r. ⌜ out r (lent (now (words .exit)) (now (starts .exit)) (now (score .exit)) (now (spans .exit))) ≡ stored (now (symbols .entry)) (now (ws .entry)) (now (st .entry)) (now (sc .entry)) (lent (now (words .entry)) (now (starts .entry)) (now (score .entry)) (now (spans .entry))) ⌝ }
 {
     if words.len() < ws.len() {
         return Opened::Refused(Reason::Tables, 0);
@@ -104,9 +104,9 @@ fn store(
     put(words, ws);
     put(starts, st);
     put(score, sc);
-    put_spans(arity, sc, spans);
+    put_spans(symbols, sc, spans);
     Opened::Folio(Counts {
-        symbols: arity.len(),
+        symbols: symbols.len(),
         shapes: st.len(),
         words: ws.len(),
         nodes: sc.len(),

@@ -19,15 +19,15 @@ pub fn put(out: &mut [u16], words: &[u16])
 }
 
 // Writes each node's span at the node's index, from the last node back to the first.
-pub fn put_spans(arity: &[u8], words: &[u16], spans: &mut [u16])
+pub fn put_spans(symbols: &[u8], words: &[u16], spans: &mut [u16])
     requires { ⌜ (length (now words) ≤ length (now spans)) × (length (now words) ≤ 65535) ⌝ }
-    ensures { λ r. ⌜ now (spans .exit) ≡ sets (now (spans .entry)) 0 (spansOf (now (arity .entry)) (now (words .entry))) ⌝ }
+    ensures { λ r. ⌜ now (spans .exit) ≡ sets (now (spans .entry)) 0 (spansOf (now (symbols .entry)) (now (words .entry))) ⌝ }
 {
     let n = words.len();
     let mut i = n;
     while 0 < i {
         i -= 1;
-        let k = count(arity, words[i]);
+        let k = count(symbols, words[i]);
         let e = skip(&spans[0..n], i + 1, k);
         spans[i] = (e - i) as u16;
     }

@@ -3,7 +3,7 @@
 --   clear-or-set no-bit bits-same            a bit is 0 or 1; numbers with the same bits are the same
 --   bit-zero bit-suc                         the lowest bit, and the bits of the half
 --   raises ones-bits on-ones on-other ones-some ones-two ones-none ones-zero   how many are set
---   up-ext up-zero                           sums over the first numbers
+--   up-ext up-zero up-last                           sums over the first numbers
 use Prim.Native.Nat.{ℕ, zero, suc, _+_, _-_, _*_, _/_, _%_, _^_, _<_, _≤_, max}
 use mathlib.Core.Path.{_≡_, refl, ap, ap₂, sym, _∙_}
 use mathlib.Core.Bool.{cond}
@@ -16,7 +16,7 @@ use lib.Arith.{lt-one}
 use lib.Bits.{bitOr, or-step, or-block, or-zero-r, or-shr, or-mod}
 use lib.Count.{ones, ones-step, ones-cat}
 use lib.Pow.{split, pow-pos, pow-add, pow-lt, shl-shr, shl-exact, high}
-use Rattle.kinds.specs.Bits.{bit, withBit, upTo}
+use Rattle.kinds.specs.Bits.{bit, withBit, sumTo}
 
 -- ---- one bit
 
@@ -142,11 +142,11 @@ bits-same a b h = bits-same-up (a + b) a b (omega arith) (omega arith) (λ j. on
 
 -- ---- the ones of a number below 2 ^ k are its first k bits
 
-pub up-ext : (n : ℕ) (f g : ℕ → ℕ) → ((j : ℕ) → j < n → f j ≡ g j) → upTo n f ≡ upTo n g
+pub up-ext : (n : ℕ) (f g : ℕ → ℕ) → ((j : ℕ) → j < n → f j ≡ g j) → sumTo n f ≡ sumTo n g
 up-ext zero f g e = refl
 up-ext (suc n) f g e = ap₂ (λ (x y : ℕ). x + y) (e 0 (omega arith)) (up-ext n (λ j. f (suc j)) (λ j. g (suc j)) (λ j h. e (suc j) (omega arith)))
 
-pub ones-bits : (k m : ℕ) → m < 2 ^ k → ones m ≡ upTo k (bit m)
+pub ones-bits : (k m : ℕ) → m < 2 ^ k → ones m ≡ sumTo k (bit m)
 unfolding ones
 ones-bits zero m h = ap ones (lt-one h)
 ones-bits (suc k) m h =
@@ -159,40 +159,44 @@ ones-bits (suc k) m h =
 
 -- ---- sums of bits
 
-up-pos {κ} : {C : Type κ} (n : ℕ) (f : ℕ → ℕ) → 0 < upTo n f → ((k : ℕ) → k < n → 0 < f k → C) → C
+up-pos {κ} : {C : Type κ} (n : ℕ) (f : ℕ → ℕ) → 0 < sumTo n f → ((k : ℕ) → k < n → 0 < f k → C) → C
 up-pos zero f h c = absurd (omega arith)
 up-pos {C = C} (suc n) f h c = go (decLt 0 (f 0)) (up-pos n (λ j. f (suc j)))
   where
-    go : Dec (0 < f 0) → (0 < upTo n (λ j. f (suc j)) → ((k : ℕ) → k < n → 0 < f (suc k) → C) → C) → C
+    go : Dec (0 < f 0) → (0 < sumTo n (λ j. f (suc j)) → ((k : ℕ) → k < n → 0 < f (suc k) → C) → C) → C
     go (yes q) ih = c 0 (omega arith) q
     go (no q) ih = ih (omega arith) (λ k l. c (suc k) (omega arith))
 
-up-ge : (n : ℕ) (f : ℕ → ℕ) (j : ℕ) → j < n → f j ≤ upTo n f
+up-ge : (n : ℕ) (f : ℕ → ℕ) (j : ℕ) → j < n → f j ≤ sumTo n f
 up-ge zero f j h = absurd (omega arith)
 up-ge (suc n) f zero h = omega arith
 up-ge (suc n) f (suc j) h = let ih = up-ge n (λ i. f (suc i)) j (omega arith) in omega arith
 
-up-two : (n : ℕ) (f : ℕ → ℕ) (j k : ℕ) → j < n → k < n → (j ≡ k → ⊥) → f j + f k ≤ upTo n f
+up-two : (n : ℕ) (f : ℕ → ℕ) (j k : ℕ) → j < n → k < n → (j ≡ k → ⊥) → f j + f k ≤ sumTo n f
 up-two zero f j k h g ne = absurd (omega arith)
 up-two (suc n) f zero zero h g ne = absurd (ne refl)
 up-two (suc n) f zero (suc k) h g ne = let i = up-ge n (λ i. f (suc i)) k (omega arith) in omega arith
 up-two (suc n) f (suc j) zero h g ne = let i = up-ge n (λ i. f (suc i)) j (omega arith) in omega arith
 up-two (suc n) f (suc j) (suc k) h g ne = let ih = up-two n (λ i. f (suc i)) j k (omega arith) (omega arith) (λ e. ne (ap suc e)) in omega arith
 
-up-other {κ} : {C : Type κ} (n : ℕ) (f : ℕ → ℕ) (j : ℕ) → ((i : ℕ) → f i ≤ 1) → 1 < upTo n f → ((k : ℕ) → k < n → (j ≡ k → ⊥) → 0 < f k → C) → C
+up-other {κ} : {C : Type κ} (n : ℕ) (f : ℕ → ℕ) (j : ℕ) → ((i : ℕ) → f i ≤ 1) → 1 < sumTo n f → ((k : ℕ) → k < n → (j ≡ k → ⊥) → 0 < f k → C) → C
 up-other zero f j small h c = absurd (omega arith)
 up-other (suc n) f zero small h c =
     let s = small 0 in
     up-pos n (λ i. f (suc i)) (omega arith) (λ k l q. c (suc k) (omega arith) (λ e. omega arith) q)
 up-other {C = C} (suc n) f (suc j) small h c = go (decLt 0 (f 0)) (up-other n (λ i. f (suc i)) j (λ i. small (suc i)))
   where
-    go : Dec (0 < f 0) → (1 < upTo n (λ i. f (suc i)) → ((k : ℕ) → k < n → (j ≡ k → ⊥) → 0 < f (suc k) → C) → C) → C
+    go : Dec (0 < f 0) → (1 < sumTo n (λ i. f (suc i)) → ((k : ℕ) → k < n → (j ≡ k → ⊥) → 0 < f (suc k) → C) → C) → C
     go (yes q) ih = c 0 (omega arith) (λ e. omega arith) q
     go (no q) ih = ih (omega arith) (λ k l ne. c (suc k) (omega arith) (λ e. ne (omega arith)))
 
-pub up-zero : (n : ℕ) → upTo n (λ j. 0) ≡ 0
+pub up-zero : (n : ℕ) → sumTo n (λ j. 0) ≡ 0
 up-zero zero = refl
 up-zero (suc n) = let ih = up-zero n in omega arith
+
+pub up-last : (n : ℕ) (f : ℕ → ℕ) → sumTo (suc n) f ≡ sumTo n f + f n
+up-last zero f = omega arith
+up-last (suc n) f = let ih = up-last n (λ j. f (suc j)) in omega arith
 
 pub bit-le : (m j : ℕ) → bit m j ≤ 1
 bit-le m j = let h : m / 2 ^ j % 2 < 2 = mod-lt (m / 2 ^ j) (lit< tt) in omega arith

@@ -20,7 +20,8 @@ use lib.Pow.{pow-add}
 use Rattle.kinds.specs.Lists.{same}
 use Rattle.kinds.specs.Positions.{Pos, before, code, codeFrom, decode, decodeTo, padTo, codeGood}
 use Rattle.kinds.proofs.Bools.{and-l, and-r, both, and-false, is-eqb, ltb-is, is-ltb, leb-is, is-leb, ltb-irrefl, ltb-shift, eqb-shift, ltb-suc, Order, less, equal, more, order}
-use Rattle.kinds.proofs.Members.{_∈_, here, there, ∈-left, ∈-right, ∈-append, all-at, all-of, same-is, same-refl}
+use Rattle.kinds.proofs.Members.{∈-left, ∈-right, ∈-append, all-at, all-of, same-is, same-refl}
+use Rattle.kinds.specs.Members.{_∈_, here, there}
 use Rattle.kinds.proofs.Prefixes.{_≼_, ≼-length}
 
 -- ---- a position put after another

@@ -20,7 +20,8 @@ use Rattle.kinds.specs.Kinds.{position, childOf}
 use Rattle.kinds.specs.declared.Position.{Position}
 use Rattle.kinds.specs.declared.Child.the-variants.{At, Beyond}
 use Rattle.kinds.proofs.Bools.{and-true, and-false}
-use Rattle.kinds.proofs.Members.{here, ∈-right}
+use Rattle.kinds.proofs.Members.{∈-right}
+use Rattle.kinds.specs.Members.{here}
 use Rattle.kinds.proofs.ListLaws.{all-append}
 use Rattle.kinds.proofs.Codes.{five-pos, code-snoc, codeFrom-is, Small, small-code, proper-head, decode-nil, decode-more, decode-short, decode-digits, code-decode, pad-code, pad-lt, before-pad}
 

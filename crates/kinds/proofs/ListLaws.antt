@@ -22,7 +22,8 @@ use lib.ListN.{length, getD, take, drop, set, length-append, length-drop, drop-o
 use lib.Seq.{take-add, take-all, drop-cons, sets, sets-eq, set-comm, take-set-le, drop-set-lt, getD-set-other, take-at, drop-at, take-append-le, drop-append-le, length-take-le, length-sets, take-append-seam, drop-append-seam}
 use Rattle.kinds.specs.Lists.{same, filter, any, all, insert, sort, gather, concat, mapAt, range, onto, isNil}
 use Rattle.kinds.proofs.Bools.{is-eqb}
-use Rattle.kinds.proofs.Members.{_∈_, here, there, same-is, same-refl, in-sort}
+use Rattle.kinds.proofs.Members.{same-is, same-refl, in-sort}
+use Rattle.kinds.specs.Members.{_∈_, here, there}
 
 -- ---- runs of stores
 -- two runs back to back are one

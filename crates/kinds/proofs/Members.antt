@@ -1,5 +1,4 @@
 -- Lists as finite sets.
---   _∈_ here there, _⊆_                          membership
 --   in-none in-one                               in a list of none or one
 --   ∈-left ∈-right ∈-append                      in a list put before another
 --   in-filter filter-in, on-any any-of any-none, all-at all-of   by a test
@@ -19,20 +18,11 @@ use native.Mathlib.Omega.{arith}
 use native.Mathlib.Nat.{eq-or-lt-of-le}
 use lib.Dec.{eqb}
 use lib.ListN.{length, take, drop, length-append}
+use Rattle.kinds.specs.Members.{_∈_, here, there, _⊆_}
 use Rattle.kinds.specs.Lists.{same, filter, any, all, gather, range, insert, sort}
 use Rattle.kinds.proofs.Bools.{and-l, and-r, both, or-l, or-r, or-case, neither, eqb-is, is-eqb}
 
-infix 40 _∈_
-pub data _∈_ {ℓ} {A : Type ℓ} (a : A) : List A → Type ℓ where
-  here : {x : A} {xs : List A} → a ≡ x → a ∈ (x ∷ xs)
-  there : {x : A} {xs : List A} → a ∈ xs → a ∈ (x ∷ xs)
-
 module _ {ℓ} {A : Type ℓ} where
-  infix 40 _⊆_
-  -- each element of the one is in the other
-  abbrev pub _⊆_ : List A → List A → Type ℓ
-  xs ⊆ ys = (x : A) → x ∈ xs → x ∈ ys
-
   pub in-none {κ} : {C : Type κ} {x : A} → x ∈ [] → C
   in-none m = elim m [ ]
 

@@ -11,7 +11,8 @@ use mathlib.Core.Logic.{_⊎_, inl, inr, ⊎-elim}
 use Prim.Native.Nat.{ℕ, zero, suc, _<_}
 use native.Mathlib.Omega.{arith}
 use Rattle.kinds.specs.Lists.{filter, gather, range, insert, sort}
-use Rattle.kinds.proofs.Members.{_∈_, here, there, ∈-append, in-filter, on-map, on-gather, in-range, Distinct, Perm, done, keep, swap, then, perm-in, perm-sym, insert-perm}
+use Rattle.kinds.proofs.Members.{∈-append, in-filter, on-map, on-gather, in-range, Distinct, Perm, done, keep, swap, then, perm-in, perm-sym, insert-perm}
+use Rattle.kinds.specs.Members.{_∈_, here, there}
 
 module _ {A : Type 0} (R : A → A → Type 0) where
   abbrev pub Pairwise : List A → Type 0

@@ -15,7 +15,8 @@ use native.Mathlib.Omega.{arith}
 use native.Mathlib.Nat.{add-zero, zero-add}
 use lib.ListN.{length, getD, getElem?, take, drop, length-append, List·getD-append}
 use Rattle.kinds.specs.Lists.{find, mapAt}
-use Rattle.kinds.proofs.Members.{_∈_, here, there, Distinct}
+use Rattle.kinds.proofs.Members.{Distinct}
+use Rattle.kinds.specs.Members.{_∈_, here, there}
 use Rattle.kinds.proofs.Options.{none-not}
 
 module _ {ℓ} {A : Type ℓ} where

@@ -1,9 +1,9 @@
 -- Positions below one another.
 --   _≼_ ≼-refl ≼-trans ≼-snoc ≼-cons ≼-length ≼-same ≼-antisym   p ≼ q: p is q, or is under q
 --   comparable below-cases snoc-not                     two above one are comparable; q is p or under a child of p
---   join-left join-right join-least                     the greatest common prefix is the least position above both
+--   common-left common-right common-least                     the greatest common prefix is the least position above both
 --   strip-append strip-join strip-self strip-below strip-back strip-more strip-strip   what is left below a prefix
---   prefix prefix-is is-prefix below-prefix prefix-append   above, as a test
+--   prefix-is is-prefix below-prefix prefix-append   above, as a test
 --   not-same                                            positions that are not the same
 use mathlib.Core.Path.{_≡_, refl, ap, sym, _∙_}
 use mathlib.Core.Bool.{Bool, true, false, cond, not, _&&_, false≢true}
@@ -14,7 +14,7 @@ use native.Mathlib.Omega.{arith}
 use lib.Dec.{eqb}
 use lib.ListN.{length, length-append}
 use Rattle.kinds.specs.Lists.{same}
-use Rattle.kinds.specs.Positions.{Pos, join, strip}
+use Rattle.kinds.specs.Positions.{Pos, prefix, commonPrefix, strip}
 use Rattle.kinds.proofs.Bools.{and-l, and-r, both, eqb-is, is-eqb}
 use Rattle.kinds.proofs.Members.{same-refl}
 
@@ -77,32 +77,32 @@ pub snoc-not : (p : Pos) (i : ℕ) → p ≼ (p ++ (i ∷ [])) → ⊥
 snoc-not p i h = let l = rw length-append at (≼-length h) in omega arith
 
 -- ---- join
-pub join-left : (p q : Pos) → p ≼ join p q
-join-left [] q = ≼-refl []
-join-left (i ∷ p) [] = record { by = i ∷ p; eq = refl }
-join-left (i ∷ p) (j ∷ q) = go (eqb i j) (join-left p q)
+pub common-left : (p q : Pos) → p ≼ commonPrefix p q
+common-left [] q = ≼-refl []
+common-left (i ∷ p) [] = record { by = i ∷ p; eq = refl }
+common-left (i ∷ p) (j ∷ q) = go (eqb i j) (common-left p q)
   where
-    go : (b : Bool) → p ≼ join p q → (i ∷ p) ≼ cond b (i ∷ join p q) []
+    go : (b : Bool) → p ≼ commonPrefix p q → (i ∷ p) ≼ cond b (i ∷ commonPrefix p q) []
     go true h = ≼-cons refl h
     go false h = record { by = i ∷ p; eq = refl }
 
-pub join-right : (p q : Pos) → q ≼ join p q
-join-right [] q = record { by = q; eq = refl }
-join-right (i ∷ p) [] = ≼-refl []
-join-right (i ∷ p) (j ∷ q) = go (eqb i j) refl (join-right p q)
+pub common-right : (p q : Pos) → q ≼ commonPrefix p q
+common-right [] q = record { by = q; eq = refl }
+common-right (i ∷ p) [] = ≼-refl []
+common-right (i ∷ p) (j ∷ q) = go (eqb i j) refl (common-right p q)
   where
-    go : (b : Bool) → eqb i j ≡ b → q ≼ join p q → (j ∷ q) ≼ cond b (i ∷ join p q) []
+    go : (b : Bool) → eqb i j ≡ b → q ≼ commonPrefix p q → (j ∷ q) ≼ cond b (i ∷ commonPrefix p q) []
     go true e h = ≼-cons (eqb-is i j e) h
     go false e h = record { by = j ∷ q; eq = refl }
 
-pub join-least : (p q r : Pos) → p ≼ r → q ≼ r → join p q ≼ r
-join-least p q [] a b = record { by = join p q; eq = refl }
-join-least [] q (k ∷ r) a b = absurd (let z : length (k ∷ r) ≤ 0 = ≼-length a in omega arith)
-join-least (i ∷ p) [] (k ∷ r) a b = absurd (let z : length (k ∷ r) ≤ 0 = ≼-length b in omega arith)
-join-least (i ∷ p) (j ∷ q) (k ∷ r) a b =
+pub common-least : (p q r : Pos) → p ≼ r → q ≼ r → commonPrefix p q ≼ r
+common-least p q [] a b = record { by = commonPrefix p q; eq = refl }
+common-least [] q (k ∷ r) a b = absurd (let z : length (k ∷ r) ≤ 0 = ≼-length a in omega arith)
+common-least (i ∷ p) [] (k ∷ r) a b = absurd (let z : length (k ∷ r) ≤ 0 = ≼-length b in omega arith)
+common-least (i ∷ p) (j ∷ q) (k ∷ r) a b =
     let ik : i ≡ k = cc in
     let jk : j ≡ k = cc in
-    let ih : join p q ≼ r = join-least p q r (record { by = a .by; eq = cc }) (record { by = b .by; eq = cc }) in
+    let ih : commonPrefix p q ≼ r = common-least p q r (record { by = a .by; eq = cc }) (record { by = b .by; eq = cc }) in
     rw (is-eqb i j (ik ∙ sym jk)) (≼-cons (sym ik) ih)
 
 -- ---- strip
@@ -133,12 +133,6 @@ pub strip-strip : (c p x : Pos) → p ≼ c → x ≼ p → strip (strip c p) (s
 strip-strip c p x u v = rw (v .eq, strip-more c p (v .by) u, strip-append (strip c p) (v .by), strip-append p (v .by))
 
 -- ---- as a test
--- r is a prefix of q
-abbrev pub prefix : Pos → Pos → Bool
-prefix [] q = true
-prefix (i ∷ r) [] = false
-prefix (i ∷ r) (j ∷ q) = eqb i j && prefix r q
-
 pub prefix-is : (r q : Pos) → prefix r q ≡ true → q ≼ r
 prefix-is [] q e = record { by = q; eq = refl }
 prefix-is (i ∷ r) [] e = absurd (false≢true e)

@@ -6,7 +6,8 @@ use Prim.Native.Nat.{ℕ, _+_}
 use native.Mathlib.Omega.{arith}
 use native.Mathlib.Nat.{zero-add}
 use Rattle.kinds.specs.Lists.{sum}
-use Rattle.kinds.proofs.Members.{_∈_, here, there, Perm, done, keep, swap, then}
+use Rattle.kinds.proofs.Members.{Perm, done, keep, swap, then}
+use Rattle.kinds.specs.Members.{_∈_, here, there}
 
 module _ {ℓ} {A : Type ℓ} where
   pub sum-same : (F G : A → ℕ) (xs : List A) → ((x : A) → x ∈ xs → F x ≡ G x) → sum (map F xs) ≡ sum (map G xs)

@@ -1,7 +1,7 @@
 -- Bits of a mark or a mask.
 --   bit       bit j of m, 0 or 1
 --   withBit   m with bit j set
---   upTo      f 0 + f 1 + … + f (k - 1)
+--   sumTo      f 0 + f 1 + … + f (k - 1)
 use Prim.Native.Nat.{ℕ, zero, suc, _+_, _/_, _%_, _^_}
 use mathlib.Core.Bool.{Bool, cond}
 use lib.Dec.{eqb}
@@ -12,6 +12,6 @@ bit m j = m / 2 ^ j % 2
 abbrev pub withBit : ℕ → ℕ → ℕ
 withBit m j = cond (eqb (bit m j) 1) m (m + 2 ^ j)
 
-abbrev pub upTo : ℕ → (ℕ → ℕ) → ℕ
-upTo zero f = 0
-upTo (suc k) f = f 0 + upTo k (λ j. f (suc j))
+abbrev pub sumTo : ℕ → (ℕ → ℕ) → ℕ
+sumTo zero f = 0
+sumTo (suc k) f = f 0 + sumTo k (λ j. f (suc j))

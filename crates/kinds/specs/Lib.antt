@@ -1,5 +1,6 @@
 -- The definitions that every layer shares.
 pub mod Lists
+pub mod Members
 pub mod Positions
 pub mod Bits
 pub mod Reasons

@@ -1,7 +1,8 @@
 -- "A position is a list of child numbers from 1. Its code is 0 for the root, and five times the code of p plus i for p followed by i."
 --   Pos        a list of child numbers
 --   before     "Document order: a position before those under it, and children from left to right."
---   join       the greatest common prefix of two
+--   prefix        one position stands above another, or is it
+--   commonPrefix  the greatest common prefix of two
 --   strip      what is left of a position below a prefix of it
 --   code       the code of a position
 --   decode     the base-five digits of a code, the first one first
@@ -23,10 +24,15 @@ before [] (j ∷ q) = true
 before (i ∷ p) [] = false
 before (i ∷ p) (j ∷ q) = ltb i j || (eqb i j && before p q)
 
-abbrev pub join : Pos → Pos → Pos
-join [] q = []
-join (i ∷ p) [] = []
-join (i ∷ p) (j ∷ q) = cond (eqb i j) (i ∷ join p q) []
+abbrev pub prefix : Pos → Pos → Bool
+prefix [] q = true
+prefix (i ∷ r) [] = false
+prefix (i ∷ r) (j ∷ q) = eqb i j && prefix r q
+
+abbrev pub commonPrefix : Pos → Pos → Pos
+commonPrefix [] q = []
+commonPrefix (i ∷ p) [] = []
+commonPrefix (i ∷ p) (j ∷ q) = cond (eqb i j) (i ∷ commonPrefix p q) []
 
 -- p′ with p = g.p′; nothing is asked of a p that g is no prefix of
 abbrev pub strip : Pos → Pos → Pos

@@ -22,9 +22,9 @@ use Rattle.kinds.specs.declared.State.{State}
 use Rattle.kinds.specs.declared.Reason.{Reason}
 use Rattle.kinds.specs.declared.Reason.the-variants.{BadShapes, ShortScratch, LongPlan}
 use Rattle.kinds.proofs.Bools.{both, is-eqb, or-l, or-r}
-use Rattle.kinds.proofs.Members.{_∈_, here, there}
+use Rattle.kinds.specs.Members.{_∈_, here, there}
 use Rattle.kinds.proofs.ListLaws.{onto-sets}
-use Rattle.lent.specs.Again.{shapesGood}
+use Rattle.checks.specs.Again.{shapesGood}
 use Rattle.automaton.specs.Exploring.{Block, Made, refused, made, explored}
 use Rattle.automaton.specs.PlanWords.{Plan, halted, too-long, plan-of, planWords, toPlan, planned}
 use Rattle.automaton.specs.FinalBlocks.{allBlocks, SmallOn}
@@ -34,7 +34,7 @@ use Rattle.goals.specs.WordStages.{sameW, amongW, withinW, sameStateW}
 use Rattle.decoding.specs.WordMachine.{words, statesIn, Kept}
 use Rattle.decoding.specs.GoodStates.{Ready}
 use Rattle.states.specs.Meeting.{AllGood, wordsOf, ExploredIs}
-use Rattle.plan.specs.Building.{Out, cleared, size, written, planOf, buildOf, refuse}
+use Rattle.plan.specs.Building.{BuildOutcome, cleared, size, written, planOf, buildOf, refuseBuild}
 use Rattle.folio.specs.Folio.{shapeTerms}
 use Rattle.plan.specs.declared.Built.{Built}
 use Rattle.plan.specs.declared.Built.the-variants as built
@@ -155,22 +155,22 @@ module _ (ar tab : List ℕ) (n : ℕ) where
         (ap (λ k. built.Plan (size m k)) size-is ∙ sym (ap (λ p. written p plan scratch .answer) is), d ∙ sym (ap (λ p. written p plan scratch .plan) is))
 
 -- ---- the whole
-passed : (a b : Bool) (x y z : Out) → a ≡ true → b ≡ true → unless a x (unless b y z) ≡ z
+passed : (a b : Bool) (x y z : BuildOutcome) → a ≡ true → b ≡ true → unless a x (unless b y z) ≡ z
 passed a b x y z e d = rw (e, d) refl
 
 module _ (ar ws st plan scratch : List ℕ) where
-  pub built-bad : shapesGood ar ws st ≡ false → buildOf ar ws st plan scratch ≡ refuse BadShapes plan scratch
+  pub built-bad : shapesGood ar ws st ≡ false → buildOf ar ws st plan scratch ≡ refuseBuild BadShapes plan scratch
   unfolding buildOf
   built-bad e = rw e refl
 
-  pub built-short : shapesGood ar ws st ≡ true → length scratch < 32768 → buildOf ar ws st plan scratch ≡ refuse ShortScratch plan scratch
+  pub built-short : shapesGood ar ws st ≡ true → length scratch < 32768 → buildOf ar ws st plan scratch ≡ refuseBuild ShortScratch plan scratch
   unfolding buildOf
   built-short e h = rw (e, lt-leb 32768 (length scratch) h) refl
 
   pub built-on : shapesGood ar ws st ≡ true → 32768 ≤ length scratch → (p : Plan) → p ≡ planOf ar (shapeTerms ar ws) (length plan) → buildOf ar ws st plan scratch ≡ written p plan scratch
   unfolding buildOf
   built-on e h p d =
-      passed (shapesGood ar ws st) (leb 32768 (length scratch)) (refuse BadShapes plan scratch) (refuse ShortScratch plan scratch) (written (planOf ar (shapeTerms ar ws) (length plan)) plan scratch) e (le-leb 32768 (length scratch) h)
+      passed (shapesGood ar ws st) (leb 32768 (length scratch)) (refuseBuild BadShapes plan scratch) (refuseBuild ShortScratch plan scratch) (written (planOf ar (shapeTerms ar ws) (length plan)) plan scratch) e (le-leb 32768 (length scratch) h)
       ∙ ap (λ q. written q plan scratch) (sym d)
 
 pub written-clears : (p : Plan) (plan scratch : List ℕ) → written p plan scratch .scratch ≡ cleared scratch

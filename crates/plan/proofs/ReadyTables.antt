@@ -24,9 +24,9 @@ use Rattle.kinds.proofs.Options.{none-not}
 use Rattle.kinds.proofs.Places.{at-in, at-getD}
 use Rattle.term.specs.Terms.{Term, blank, node, Terms, tnil, tcons, count, span, flatten, flattens}
 use Rattle.term.specs.Places.{sub, dom}
-use Rattle.folio.specs.Folio.{IsShape, GoodSymbols, Shaped, startsAt, shapeTerms}
-use Rattle.lent.specs.Again.{shapesGood}
-use Rattle.folio.proofs.ShapesFound.{length-starts, Each}
+use Rattle.folio.specs.Folio.{IsShape, GoodSymbols, Shaped, startsAt, shapeTerms, AreShapes}
+use Rattle.checks.specs.Again.{shapesGood}
+use Rattle.folio.proofs.ShapesFound.{length-starts}
 use Rattle.folio.proofs.GoodTables.{shapes-good-shaped}
 use Rattle.folio.proofs.Accepted.{shape-terms}
 use Rattle.automaton.specs.Exploring.{construction}
@@ -143,7 +143,7 @@ ready-for ar ws st tab g s long filled = record {
 held : (ar ws st : List ℕ) → Shaped ar ws st → Shaped ar ws st
 held ar ws st s = record {
   trees = shapeTerms ar ws;
-  each = subst (Each ar) is (s .each);
+  each = subst (AreShapes ar) is (s .each);
   some-shape = subst (λ ts. 1 ≤ length ts) is (s .some-shape);
   few-shapes = subst (λ ts. length ts ≤ 16) is (s .few-shapes);
   words = s .words ∙ ap (gather flatten) is;

@@ -1,8 +1,8 @@
 -- Building the plan: "Build: 19, 23; then 20 or 21; then 22." "A refusal writes nothing, except that 20, 21 and 22 leave the first 32,768 scratch
 -- words zero, as does success. Words past those an answer writes keep their values."
---   Out         an answer, and the two buffers as they are then
+--   BuildOutcome         an answer, and the two buffers as they are then
 --   cleared     the first 32,768 scratch words zero, later ones as they were
---   refuse      a refusal before any work writes nothing
+--   refuseBuild      a refusal before any work writes nothing
 --   planOf      the plan of the paper's construction for the shapes that the shape words hold
 --   built       19, 23, 20 or 21, 22; then the plan at the buffer's start
 --   builtSays   the answer in document 01's numbers: "Build answers m and the length"
@@ -17,7 +17,7 @@ use Rattle.kinds.specs.declared.State.{State}
 use Rattle.kinds.specs.declared.Reason.{Reason}
 use Rattle.kinds.specs.declared.Reason.the-variants.{BadShapes, ShortScratch, LongPlan}
 use Rattle.term.specs.Terms.{Term}
-use Rattle.lent.specs.Again.{shapesGood}
+use Rattle.checks.specs.Again.{shapesGood}
 use Rattle.folio.specs.Folio.{shapeTerms}
 use Rattle.automaton.specs.Paper.{paper}
 use Rattle.automaton.specs.Exploring.{construction}
@@ -26,7 +26,7 @@ use Rattle.plan.specs.declared.Size.{Size}
 use Rattle.plan.specs.declared.Built.{Built}
 use Rattle.plan.specs.declared.Built.the-variants as built
 
-pub record Out : Type 0 where
+pub record BuildOutcome : Type 0 where
   pub answer : Built
   pub plan : List ℕ
   pub scratch : List ℕ
@@ -43,10 +43,10 @@ size m w = record { states = m; words = w }
 abbrev pub stateNumber : ℕ → State
 stateNumber i = record { 0 = i }
 
-abbrev pub refuse : Reason → List ℕ → List ℕ → Out
-refuse r plan scratch = record { answer = built.Refused r; plan = plan; scratch = scratch }
+abbrev pub refuseBuild : Reason → List ℕ → List ℕ → BuildOutcome
+refuseBuild r plan scratch = record { answer = built.Refused r; plan = plan; scratch = scratch }
 
-abbrev pub written : Plan → List ℕ → List ℕ → Out
+abbrev pub written : Plan → List ℕ → List ℕ → BuildOutcome
 written (halted r i) plan scratch = record { answer = built.Stopped r (stateNumber i); plan = plan; scratch = cleared scratch }
 written too-long plan scratch = record { answer = built.Refused LongPlan; plan = plan; scratch = cleared scratch }
 written (plan-of m ws) plan scratch = record { answer = built.Plan (size m (length ws)); plan = sets plan 0 ws; scratch = cleared scratch }
@@ -54,10 +54,10 @@ written (plan-of m ws) plan scratch = record { answer = built.Plan (size m (leng
 abbrev pub planOf : List ℕ → List Term → ℕ → Plan
 planOf ar shapes room = planned (construction (paper shapes)) ar (length shapes) room
 
-unfoldable pub buildOf : List ℕ → List ℕ → List ℕ → List ℕ → List ℕ → Out
+unfoldable pub buildOf : List ℕ → List ℕ → List ℕ → List ℕ → List ℕ → BuildOutcome
 buildOf ar ws st plan scratch =
-    unless (shapesGood ar ws st) (refuse BadShapes plan scratch)
-    (unless (leb scratchWords (length scratch)) (refuse ShortScratch plan scratch)
+    unless (shapesGood ar ws st) (refuseBuild BadShapes plan scratch)
+    (unless (leb scratchWords (length scratch)) (refuseBuild ShortScratch plan scratch)
     (written (planOf ar (shapeTerms ar ws) (length plan)) plan scratch))
 
 abbrev pub builtSays : Built → Says

@@ -2,7 +2,7 @@ use crate::Built;
 use crate::Size;
 use exploring::meeting::explore;
 use kinds::Reason;
-use lent::checking::shapes_good;
+use checks::checking::shapes_good;
 use states::Explored;
 use tables::filling::fill_tables;
 use writing::blocks::write_plan;

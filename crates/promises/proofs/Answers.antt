@@ -18,17 +18,17 @@ use Rattle.kinds.specs.declared.Reason.{Reason}
 use Rattle.kinds.specs.declared.Reason.the-variants.{BadScore, ShortBuffers}
 use Rattle.kinds.proofs.Bools.{test, ltb-not, or-first}
 use Rattle.folio.specs.Folio.{shapeTerms}
-use Rattle.lent.specs.Again.{shapesGood, scoreGood}
+use Rattle.checks.specs.Again.{shapesGood, scoreGood}
 use Rattle.kinds.proofs.ListLaws.{stored-back}
 use Rattle.automaton.specs.Paper.{paper}
 use Rattle.automaton.specs.Exploring.{Construction, Block, Made, refused, made, explored, construction}
 use Rattle.automaton.specs.PlanWords.{Plan, halted, too-long, plan-of, planWords, toPlan, planned}
-use Rattle.plan.specs.Building.{Out, size, planOf, written, buildOf}
+use Rattle.plan.specs.Building.{BuildOutcome, size, planOf, written, buildOf}
 use Rattle.plan.specs.declared.Size.{Size}
 use Rattle.plan.specs.declared.Built.the-variants as building
 use Rattle.plan.proofs.BuildLaws.{built-bad, built-short, built-on}
 use Rattle.walk.specs.Starting.{Walk, begun, roomFor, started}
-use Rattle.walk.specs.Starting.{Out as Walking}
+use Rattle.walk.specs.Starting.{WalkOutcome}
 use Rattle.walk.specs.declared.Record.{Record}
 use Rattle.walk.specs.declared.Walked.the-variants as walking
 use Rattle.walking.proofs.PlanRead.{on-planned}
@@ -78,14 +78,14 @@ module _ (ar ws st plan scratch : List ℕ) (s : Size) where
       record {
         words = w;
         is = ep ∙ ap (λ x. plan-of x w) a;
-        back = ap (take (s .words)) (ap (λ (o : Out). o .plan) eb) ∙ ap (λ x. take x (sets plan 0 w)) (sym b) ∙ stored-back w plan room;
+        back = ap (take (s .words)) (ap (λ (o : BuildOutcome). o .plan) eb) ∙ ap (λ x. take x (sets plan 0 w)) (sym b) ∙ stored-back w plan room;
       }
 
   pub built-as : buildOf ar ws st plan scratch .answer ≡ building.Plan s → BuiltAs
   built-as e = go (test (shapesGood ar ws st)) (decLt (length scratch) 32768)
     where
-      answer-is : {o : Out} → buildOf ar ws st plan scratch ≡ o → o .answer ≡ building.Plan s
-      answer-is d = sym (ap (λ (o : Out). o .answer) d) ∙ e
+      answer-is : {o : BuildOutcome} → buildOf ar ws st plan scratch ≡ o → o .answer ≡ building.Plan s
+      answer-is d = sym (ap (λ (o : BuildOutcome). o .answer) d) ∙ e
 
       go : (shapesGood ar ws st ≡ true) ⊎ (shapesGood ar ws st ≡ false) → Dec (length scratch < 32768) → BuiltAs
       go (inr bad) d = not-plan (answer-is (built-bad ar ws st plan scratch bad))
@@ -101,7 +101,7 @@ module _ (ar score spans : List ℕ) (w : Walk) (r : Record) where
   unfolding started
   started-as e = go (scoreGood ar score spans) (roomFor (length score) w) e
     where
-      tell : Bool → Bool → Walking
+      tell : Bool → Bool → WalkOutcome
       tell a b = unless a (record { answer = walking.Refused BadScore; walk = w }) (unless b (record { answer = walking.Refused ShortBuffers; walk = w }) (record { answer = walking.On (begun (length score) w .count); walk = begun (length score) w }))
 
       go : (a b : Bool) → tell a b .answer ≡ walking.On r → (b ≡ true) × (tell a b .walk ≡ begun (length score) w)

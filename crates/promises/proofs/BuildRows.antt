@@ -8,12 +8,12 @@ use native.Mathlib.Omega.{arith}
 use native.Mathlib.Decide.{decLt}
 use lib.ListN.{length}
 use Rattle.kinds.proofs.Bools.{test, false-true}
-use Rattle.lent.specs.Again.{shapesGood}
+use Rattle.checks.specs.Again.{shapesGood}
 use Rattle.folio.specs.Folio.{shapeTerms}
 use Rattle.folio.proofs.GoodTables.{shapes-good-shaped, shaped-good}
 use Rattle.automaton.specs.PlanWords.{Plan, halted, too-long, plan-of}
 use Rattle.plan.specs.Building.{planOf, written, buildOf}
-use Rattle.plan.specs.Building.{Out as Building}
+use Rattle.plan.specs.Building.{BuildOutcome}
 use Rattle.plan.proofs.BuildLaws.{built-bad, built-short, built-on}
 use Rattle.promises.specs.Demand1 as rows
 use Rattle.promises.specs.Demand1.{By, BuildRow, GoodShapes}
@@ -52,7 +52,7 @@ module _ (ar ws st plan scratch : List ℕ) where
       go (inl g) (yes h) = rw (built-short ar ws st plan scratch (is-good g) h) (rows.build-23 g h)
       go (inl g) (no h) = let k : 32768 ≤ length scratch = omega arith in rw (on-with g k (planOf ar (shapeTerms ar ws) (length plan)) refl) (on g k (planOf ar (shapeTerms ar ws) (length plan)) refl)
 
-  build-only : (o : Building) → BuildRow ar ws st plan scratch o → buildOf ar ws st plan scratch ≡ o
+  build-only : (o : BuildOutcome) → BuildRow ar ws st plan scratch o → buildOf ar ws st plan scratch ≡ o
   build-only _ (rows.build-19 n) = built-bad ar ws st plan scratch (is-bad n)
   build-only _ (rows.build-23 g h) = built-short ar ws st plan scratch (is-good g) h
   build-only _ (rows.build-20-21 g h r i e) = on-with g h (halted r i) e

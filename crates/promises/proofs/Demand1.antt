@@ -2,10 +2,9 @@
 use mathlib.Core.Path.{_≡_, refl}
 use mathlib.Core.List.{List}
 use Prim.Native.Nat.{ℕ, _<_}
-use Rattle.kinds.proofs.Members.{_∈_}
+use Rattle.kinds.specs.Members.{_∈_, Below}
 use Rattle.kinds.proofs.Places.{on-in}
-use Rattle.folio.specs.Opening.{Lent, opened}
-use Rattle.folio.specs.Opening.{Out as Opening}
+use Rattle.folio.specs.Opening.{Lent, opened, OpenOutcome}
 use Rattle.folio.specs.declared.Opened.{Opened}
 use Rattle.folio.specs.declared.Opened.the-variants as opening
 use Rattle.folio.proofs.Accepted.{Accepted, accepted, made}
@@ -13,8 +12,7 @@ use Rattle.sections.proofs.LawsSections.{sections-in}
 use Rattle.counting.specs.Counting.{total}
 use Rattle.counting.specs.Clashes.{clash, clashNumber}
 use Rattle.promises.specs.Demand1 as rows
-use Rattle.promises.specs.Refusals.{Below}
-use Rattle.promises.specs.Demand1.{By, Means, OpenRow, Demand1}
+use Rattle.promises.specs.Demand1.{By, OpenRow, Demand1}
 use Rattle.promises.proofs.TrailerRows.{trailer-framed, framed-trailer}
 use Rattle.promises.proofs.OpenExactly.{refused-given, given-refused}
 use Rattle.promises.proofs.SubtreeRows.{by-subtree}
@@ -30,31 +28,16 @@ module _ (file : List ℕ) (l : Lent) (small : Below 256 file) where
   open-row : OpenRow file l (opened file l)
   open-row = go (opened file l .answer) refl
     where
-      bytes : (b : ℕ) → b ∈ file → b < 256
-      bytes b m = on-in m (λ i e. small i b e)
-
       means : Accepted file l → OpenRow file l (opened file l)
-      means a = rw (a .is) (rows.opens m (a .room))
-        where
-          m : Means file
-          m = record {
-            at = a .places;
-            framed = trailer-framed file (a .places) (sections-in file (a .places) (a .placed) .0);
-            shapes = a .meaning .shapes;
-            score = a .meaning .score;
-            limits = a .meaning .limits;
-            shape-words = a .meaning .shape-words;
-            score-words = a .meaning .score-words;
-          }
+      means a = rw (a .is) (rows.opens (a .places) (trailer-framed file (a .places) (sections-in file (a .places) (a .placed) .0)) (a .meaning) (a .room))
 
       go : (x : Opened) → opened file l .answer ≡ x → OpenRow file l (opened file l)
-      go (opening.Refused r p) e = let g = refused-given file l bytes r p e in rw (given-refused file l g) (rows.refused r p g)
-      go (opening.Folio c) e = means (accepted file l c bytes e)
+      go (opening.Refused r p) e = let g = refused-given file l small r p e in rw (given-refused file l g) (rows.refused r p g)
+      go (opening.Folio c) e = means (accepted file l c small e)
 
-  open-only : (o : Opening) → OpenRow file l o → opened file l ≡ o
+  open-only : (o : OpenOutcome) → OpenRow file l o → opened file l ≡ o
   open-only _ (rows.refused r p g) = given-refused file l g
-  open-only _ (rows.opens m room) =
-      made file (m .at) (record { shapes = m .shapes; score = m .score; limits = m .limits; shape-words = m .shape-words; score-words = m .score-words }) l (framed-trailer file (m .at) (m .framed)) room
+  open-only _ (rows.opens at framed m room) = made file at m l (framed-trailer file at framed) room
 
   by-opening : By (OpenRow file l) (opened file l)
   by-opening = (open-row, open-only)

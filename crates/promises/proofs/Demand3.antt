@@ -10,7 +10,8 @@ use lib.Seq.{ext-getD, length-take-le, getD-take}
 use Rattle.kinds.specs.Bits.{bit}
 use Rattle.kinds.specs.declared.Reason.the-variants.{NoSuchItem, OutOfRange}
 use Rattle.kinds.proofs.BitLaws.{bits-same}
-use Rattle.kinds.proofs.Members.{_∈_, Distinct}
+use Rattle.kinds.proofs.Members.{Distinct}
+use Rattle.kinds.specs.Members.{_∈_}
 use Rattle.kinds.proofs.Places.{on-in, at-below, getD-at, getD-in, distinct-at}
 use Rattle.term.specs.Terms.{span}
 use Rattle.term.specs.Places.{Matches, number}
@@ -19,7 +20,7 @@ use Rattle.term.proofs.Sizes.{length-sizes}
 use Rattle.counting.specs.Counting.{total}
 use Rattle.counting.specs.Clashes.{clash, clashNumber}
 use Rattle.report.specs.Text.{firstLine, lines, report}
-use Rattle.walk.specs.Starting.{Walk, Out, refuse}
+use Rattle.walk.specs.Starting.{Walk, WalkOutcome, refuseWalk}
 use Rattle.walk.specs.declared.Walked.the-variants.{On, Refused}
 use Rattle.walking.specs.OneFolio.{walkIn}
 use Rattle.walking.proofs.AnyWalk as any-walk
@@ -68,20 +69,20 @@ module _ {file : List ℕ} (S : OneFile file) (choices : List ℕ) where
   logged-is = ap (λ (v : Walk). v .count .logged) is
 
   never-34 : (i : ℕ) → stepAfter S choices i .answer ≡ Refused OutOfRange → ⊥
-  never-34 i e = any-walk.never-34 (told S .folio) (S .walk) (told S .lent) choices i (sym (ap (λ (o : Out). o .answer) (told S .step-is choices i)) ∙ e)
+  never-34 i e = any-walk.never-34 (told S .folio) (S .walk) (told S .lent) choices i (sym (ap (λ (o : WalkOutcome). o .answer) (told S .step-is choices i)) ∙ e)
 
-  refused : (i : ℕ) → after S choices .count .waiting ≤ i → stepAfter S choices i ≡ refuse NoSuchItem (after S choices)
+  refused : (i : ℕ) → after S choices .count .waiting ≤ i → stepAfter S choices i ≡ refuseWalk NoSuchItem (after S choices)
   refused i h =
       told S .step-is choices i ∙ any-walk.refused-32 (told S .folio) (S .walk) (told S .lent) choices i (rw waiting-is at h)
-      ∙ ap (refuse NoSuchItem) (sym is)
+      ∙ ap (refuseWalk NoSuchItem) (sym is)
 
   taken : (i : ℕ) → i < after S choices .count .waiting
       → (stepAfter S choices i .answer ≡ On (stepAfter S choices i .walk .count)) × (stepAfter S choices i .walk .count .logged ≡ suc (after S choices .count .logged))
   taken i h =
       let d = told S .step-is choices i in
       let l = rw waiting-is at h in (
-        ap (λ (o : Out). o .answer) d ∙ any-walk.taken (told S .folio) (S .walk) (told S .lent) choices i l ∙ ap (λ (o : Out). On (o .walk .count)) (sym d),
-        ap (λ (o : Out). o .walk .count .logged) d ∙ any-walk.one-logged (told S .folio) (S .walk) (told S .lent) choices i l ∙ ap suc (sym logged-is),
+        ap (λ (o : WalkOutcome). o .answer) d ∙ any-walk.taken (told S .folio) (S .walk) (told S .lent) choices i l ∙ ap (λ (o : WalkOutcome). On (o .walk .count)) (sym d),
+        ap (λ (o : WalkOutcome). o .walk .count .logged) d ∙ any-walk.one-logged (told S .folio) (S .walk) (told S .lent) choices i l ∙ ap suc (sym logged-is),
       )
 
   steps : (acceptedIn S choices ≡ after S choices .count .logged) × (acceptedIn S choices ≤ span (scoreIn S)) × ((after S choices .count .waiting ≡ 0) ↔ (acceptedIn S choices ≡ span (scoreIn S)))

@@ -3,12 +3,12 @@
 -- κs are the lifetimes, a the arguments, r a result, e the arguments as they are afterwards. There is no exception.
 use mathlib.Core.Path.{_≡_, refl, ap, sym, _∙_}
 use denote.Ref.{now}
-use Rattle.folio.specs.Opening.{Out}
-use Rattle.report.specs.Lines.{Out as Line}
-use Rattle.lent.proofs.checking.score_good.Reads as score-good
-use Rattle.lent.proofs.checking.shapes_good.Reads as shapes-good
+use Rattle.folio.specs.Opening.{OpenOutcome}
+use Rattle.report.specs.Lines.{LineOutcome}
+use Rattle.checks.proofs.checking.score_good.Reads as score-good
+use Rattle.checks.proofs.checking.shapes_good.Reads as shapes-good
 use Rattle.folio.proofs.opening.open.Reads as open-folio
-use Rattle.lent.proofs.showing.subtree.Reads as subtree
+use Rattle.checks.proofs.showing.subtree.Reads as subtree
 use Rattle.kinds.proofs.Position.before.Reads as before
 use Rattle.kinds.proofs.Position.child.Reads as child
 use Rattle.kinds.proofs.Position.is_good.Reads as is-good
@@ -115,7 +115,7 @@ pub subtree-determined : (κs : _) (a : _) (r r′ : _) (e e′ : _) → subtree
 subtree-determined κs a r r′ e e′ h h′ = h ∙ sym h′
 
 pub open-folio-determined : (κs : _) (a : _) (r r′ : _) (e e′ : _) → open-folio.Learnt κs a r e → open-folio.Learnt κs a r′ e′ → (r ≡ r′) × (now (e .1 .0) ≡ now (e′ .1 .0)) × (now (e .1 .1 .0) ≡ now (e′ .1 .1 .0)) × (now (e .1 .1 .1 .0) ≡ now (e′ .1 .1 .1 .0)) × (now (e .1 .1 .1 .1 .0) ≡ now (e′ .1 .1 .1 .1 .0))
-open-folio-determined κs a r r′ e e′ h h′ = let x = h ∙ sym h′ in (ap (λ (o : Out). o .answer) x, ap (λ (o : Out). o .tables .words) x, ap (λ (o : Out). o .tables .starts) x, ap (λ (o : Out). o .tables .score) x, ap (λ (o : Out). o .tables .spans) x)
+open-folio-determined κs a r r′ e e′ h h′ = let x = h ∙ sym h′ in (ap (λ (o : OpenOutcome). o .answer) x, ap (λ (o : OpenOutcome). o .tables .words) x, ap (λ (o : OpenOutcome). o .tables .starts) x, ap (λ (o : OpenOutcome). o .tables .score) x, ap (λ (o : OpenOutcome). o .tables .spans) x)
 
 pub build-determined : (κs : _) (a : _) (r r′ : _) (e e′ : _) → build.Learnt κs a r e → build.Learnt κs a r′ e′ → (r ≡ r′) × (now (e .1 .1 .1 .0) ≡ now (e′ .1 .1 .1 .0)) × (now (e .1 .1 .1 .1 .0) ≡ now (e′ .1 .1 .1 .1 .0))
 build-determined κs a r r′ e e′ h h′ = (h .0 ∙ sym (h′ .0), h .1 .0 ∙ sym (h′ .1 .0), h .1 .1 ∙ sym (h′ .1 .1))
@@ -127,13 +127,13 @@ pub step-determined : (κs : _) (a : _) (r r′ : _) (e e′ : _) → step.Learn
 step-determined κs a r r′ e e′ h h′ = (h .0 ∙ sym (h′ .0), h .1 .0 ∙ sym (h′ .1 .0), h .1 .1 .0 ∙ sym (h′ .1 .1 .0), h .1 .1 .1 ∙ sym (h′ .1 .1 .1))
 
 pub put-line-determined : (κs : _) (a : _) (r r′ : _) (e e′ : _) → put-line.Learnt κs a r e → put-line.Learnt κs a r′ e′ → (r ≡ r′) × (now (e .1 .1 .1 .0) ≡ now (e′ .1 .1 .1 .0))
-put-line-determined κs a r r′ e e′ h h′ = let x = h ∙ sym h′ in (ap (λ (o : Line). o .answer) x, ap (λ (o : Line). o .out) x)
+put-line-determined κs a r r′ e e′ h h′ = let x = h ∙ sym h′ in (ap (λ (o : LineOutcome). o .answer) x, ap (λ (o : LineOutcome). o .out) x)
 
 pub put-refusal-determined : (κs : _) (a : _) (r r′ : _) (e e′ : _) → put-refusal.Learnt κs a r e → put-refusal.Learnt κs a r′ e′ → (r ≡ r′) × (now (e .1 .1 .0) ≡ now (e′ .1 .1 .0))
-put-refusal-determined κs a r r′ e e′ h h′ = let x = h ∙ sym h′ in (ap (λ (o : Line). o .answer) x, ap (λ (o : Line). o .out) x)
+put-refusal-determined κs a r r′ e e′ h h′ = let x = h ∙ sym h′ in (ap (λ (o : LineOutcome). o .answer) x, ap (λ (o : LineOutcome). o .out) x)
 
 pub put-first-determined : (κs : _) (a : _) (r r′ : _) (e e′ : _) → put-first.Learnt κs a r e → put-first.Learnt κs a r′ e′ → (r ≡ r′) × (now (e .1 .1 .1 .1 .0) ≡ now (e′ .1 .1 .1 .1 .0))
-put-first-determined κs a r r′ e e′ h h′ = let x = h ∙ sym h′ in (ap (λ (o : Line). o .answer) x, ap (λ (o : Line). o .out) x)
+put-first-determined κs a r r′ e e′ h h′ = let x = h ∙ sym h′ in (ap (λ (o : LineOutcome). o .answer) x, ap (λ (o : LineOutcome). o .out) x)
 
 -- ---- the view's calls
 -- The checker reads no contract off a call that takes or gives a view: here each clause itself is shown to be one equation for the result.

@@ -13,7 +13,7 @@ use Rattle.kinds.proofs.ListLaws.{onto-sets}
 use Rattle.counting.specs.Counting.{matchAt}
 use Rattle.report.specs.Paths.{pathTo}
 use Rattle.report.specs.Text.{digits, pathText, line, firstLine, refusalText}
-use Rattle.report.specs.Lines.{Out, outOf, written, lineOut, firstOut, refusalOut}
+use Rattle.report.specs.Lines.{LineOutcome, outOf, written, lineOut, firstOut, refusalOut}
 use Rattle.report.specs.declared.Written.the-variants as answer
 use Rattle.report.proofs.TextLaws.{line-short, line-is, digits-short, path-few, text-few}
 use Rattle.promises.specs.Demand1.{By, LineRow, line-30, writes}
@@ -30,7 +30,7 @@ module _ (text buffer : List ℕ) (small : length text ≤ 1400) where
       row (yes h) = rw (← line-short text buffer h) (line-30 h)
       row (no h) = let k : 1400 ≤ length buffer = omega arith in rw (whole k) (writes k)
 
-      only : (o : Out) → LineRow text buffer o → written text buffer ≡ o
+      only : (o : LineOutcome) → LineRow text buffer o → written text buffer ≡ o
       only _ (line-30 h) = sym (line-short text buffer h)
       only _ (writes h) = whole h
 

@@ -14,9 +14,9 @@ use Rattle.kinds.specs.declared.Reason.the-variants as reason
 use Rattle.kinds.proofs.Members.{in-take, in-drop}
 use Rattle.term.specs.Terms.{span}
 use Rattle.term.proofs.Sizes.{length-flatten}
-use Rattle.sections.specs.Sections.{trailerOf, symbolsOf}
-use Rattle.contents.specs.Tables.{blankWord, Row, shapesOf, scoreOf}
-use Rattle.folio.specs.Opening.{Lent, Room, Out, refuse, stored, held, opened}
+use Rattle.sections.specs.Sections.{trailerOf, symbolsOf, symbolsAt, shapesAt, scoreAt}
+use Rattle.contents.specs.Tables.{blankWord, ShapesRead, shapesOf, scoreOf}
+use Rattle.folio.specs.Opening.{Lent, Room, OpenOutcome, refuseOpening, stored, held, opened}
 use Rattle.folio.specs.Folio.{GoodSymbols, Shaped, Scored}
 use Rattle.sections.specs.declared.Places.{Places}
 use Rattle.sections.specs.declared.Sections.{Sections}
@@ -33,9 +33,10 @@ use Rattle.sections.proofs.LawsBytes.{length-words}
 use Rattle.sections.proofs.LawsSections.{Placed, trailer-in, sections-trailer, sections-symbols, sections-good}
 use Rattle.folio.proofs.LawsOpening.{stored-words, stored-starts, stored-score, stored-spans, stored-all, held-shapes, held-score, held-on, opened-refused, opened-at}
 use Rattle.folio.proofs.Symbols.{symbols-is, symbols-of}
-use Rattle.folio.proofs.ScoreWhole.{Below, words-below, score-is, score-of}
+use Rattle.folio.proofs.ScoreWhole.{words-below, score-is, score-of}
+use Rattle.kinds.specs.Members.{Below}
 use Rattle.folio.proofs.ShapesFound.{length-starts, found-shapes}
-use Rattle.promises.specs.Refusals.{symbolsAt, shapesAt, scoreAt, Framed, Given, in-trailer, in-symbols, in-shapes, in-score, row-18}
+use Rattle.promises.specs.Refusals.{Framed, Given, in-trailer, in-symbols, in-shapes, in-score, row-18}
 use Rattle.promises.proofs.TrailerRows.{trailer-row, row-trailer, trailer-framed, framed-trailer, symbol-row, row-symbol}
 use Rattle.promises.proofs.ShapeRows.{shape-row, row-shape, pass-shapes}
 use Rattle.promises.proofs.ScoreRows.{score-row, row-score}
@@ -59,8 +60,8 @@ module _ (file : List ℕ) (l : Lent) where
 
   -- ---- a refusal has its row
   module _ (small : Below 256 file) (r : Reason) (p : ℕ) (e : opened file l .answer ≡ opening.Refused r p) where
-    told : (o : Out) → opened file l ≡ o → o .answer ≡ opening.Refused r p
-    told o d = sym (ap (λ (x : Out). x .answer) d) ∙ e
+    told : (o : OpenOutcome) → opened file l ≡ o → o .answer ≡ opening.Refused r p
+    told o d = sym (ap (λ (x : OpenOutcome). x .answer) d) ∙ e
 
     module _ (q : Places) (eq : trailerOf file ≡ sections.At q) (good : symbolsOf (symbolsAt file q) ≡ verdict.Good) where
       abbrev ar : List ℕ
@@ -84,17 +85,17 @@ module _ (file : List ℕ) (l : Lent) where
           n-is : length sc ≡ span (t .tree)
           n-is = ap length (t .words) ∙ length-flatten (t .tree)
 
-          given : (Room l (length ws) (length (s .trees)) (span (t .tree)) → ⊥) → stored ar ws st sc l ≡ refuse reason.Tables 0 l → Given file l r p
-          given n x = same-refusal (sym (ap (λ (o : Out). o .answer) x) ∙ d) λ a b. row-18 q (trailer-framed file q eq) (symbols-is ar good) st s t n (sym a) (sym b)
+          given : (Room l (length ws) (length (s .trees)) (span (t .tree)) → ⊥) → stored ar ws st sc l ≡ refuseOpening reason.Tables 0 l → Given file l r p
+          given n x = same-refusal (sym (ap (λ (o : OpenOutcome). o .answer) x) ∙ d) λ a b. row-18 q (trailer-framed file q eq) (symbols-is ar good) st s t n (sym a) (sym b)
 
           go : Dec (length (l .words) < length ws) → Dec (length (l .starts) < length st) → Dec (length (l .score) < length sc) → Dec (length (l .spans) < length sc) → Given file l r p
           go (yes a) b c d = given (λ x. let y = x .words in omega arith) (stored-words ar ws st sc l a)
           go (no a) (yes b) c d = given (λ x. let y = x .starts in omega (arith, b, st-is)) (stored-starts ar ws st sc l (omega arith) b)
           go (no a) (no b) (yes c) d = given (λ x. let y = x .score in omega (arith, c, n-is)) (stored-score ar ws st sc l (omega arith) (omega arith) c)
           go (no a) (no b) (no c) (yes d) = given (λ x. let y = x .spans in omega (arith, d, n-is)) (stored-spans ar ws st sc l (omega arith) (omega arith) (omega arith) d)
-          go (no a) (no b) (no c) (no x) = no-refusal (sym (ap (λ (o : Out). o .answer) (stored-all ar ws st sc l (omega arith) (omega arith) (omega arith) (omega arith))) ∙ d)
+          go (no a) (no b) (no c) (no x) = no-refusal (sym (ap (λ (o : OpenOutcome). o .answer) (stored-all ar ws st sc l (omega arith) (omega arith) (omega arith) (omega arith))) ∙ d)
 
-      on-score : (n : ℕ) → shapesOf ar blankWord ws .answer ≡ shapes.Found n → (x : Score) → scoreOf ar sc ≡ x → Given file l r p
+      on-score : (n : ℕ) → shapesOf ar blankWord ws .answer ≡ shapes.Whole n → (x : Score) → scoreOf ar sc ≡ x → Given file l r p
       on-score n es (score.Refused s i) ex =
           same-refusal (told _ (whole ∙ held-score ar ws sc (q .shapes) l es ex)) λ a b.
           in-score q (trailer-framed file q eq) (symbols-is ar good) (shapesOf ar blankWord ws .starts) (found-shapes ar ws n es) i (score-row ar sc r i (ex ∙ ap (λ y. score.Refused y i) a))
@@ -104,14 +105,14 @@ module _ (file : List ℕ) (l : Lent) where
           let t = score-is ar sc (words-below _ (λ w m. small w (in-drop (q .score) file (in-take (q .end - q .score) (drop (q .score) file) m)))) ex in
           no-room (shapesOf ar blankWord ws .starts) s t (rw-told (held-on ar ws sc (q .shapes) l es ex))
         where
-          rw-told : {o : Out} → held ar ws sc (q .shapes) l ≡ o → o .answer ≡ opening.Refused r p
+          rw-told : {o : OpenOutcome} → held ar ws sc (q .shapes) l ≡ o → o .answer ≡ opening.Refused r p
           rw-told d = told _ (whole ∙ d)
 
       on-shapes : (x : Shapes) → shapesOf ar blankWord ws .answer ≡ x → Given file l r p
       on-shapes (shapes.Refused s i) ex =
           same-refusal (told _ (whole ∙ held-shapes ar ws sc (q .shapes) l ex)) λ a b.
           in-shapes q (trailer-framed file q eq) (symbols-is ar good) i (shape-row ar ws r i (ex ∙ ap (λ y. shapes.Refused y i) a)) (sym b)
-      on-shapes (shapes.Found n) ex = on-score n ex (scoreOf ar sc) refl
+      on-shapes (shapes.Whole n) ex = on-score n ex (scoreOf ar sc) refl
 
     on-symbols : (q : Places) → trailerOf file ≡ sections.At q → (v : Verdict) → symbolsOf (symbolsAt file q) ≡ v → Given file l r p
     on-symbols q eq (verdict.Bad s i) ev =
@@ -132,21 +133,21 @@ module _ (file : List ℕ) (l : Lent) where
   framed-at : (q : Places) → Framed file q → GoodSymbols (symbolsAt file q) → opened file l ≡ held (symbolsAt file q) (shapesAt file q) (scoreAt file q) (q .shapes) l
   framed-at q f g = opened-at file l q (sections-good file q (framed-trailer file q f) (symbols-of (symbolsAt file q) g))
 
-  pub given-refused : {r : Reason} {p : ℕ} → Given file l r p → opened file l ≡ refuse r p l
+  pub given-refused : {r : Reason} {p : ℕ} → Given file l r p → opened file l ≡ refuseOpening r p l
   given-refused (in-trailer x) = opened-refused file l (sections-trailer file (row-trailer file x))
   given-refused (in-symbols q f x) = opened-refused file l (sections-symbols file q (framed-trailer file q f) (row-symbol (symbolsAt file q) x))
   given-refused {r} {p} (in-shapes q f g i x e) =
-      framed-at q f g ∙ held-shapes (symbolsAt file q) (shapesAt file q) (scoreAt file q) (q .shapes) l (row-shape (symbolsAt file q) (shapesAt file q) x) ∙ ap (λ y. refuse r y l) (sym e)
+      framed-at q f g ∙ held-shapes (symbolsAt file q) (shapesAt file q) (scoreAt file q) (q .shapes) l (row-shape (symbolsAt file q) (shapesAt file q) x) ∙ ap (λ y. refuseOpening r y l) (sym e)
   given-refused {r} {p} (in-score q f g st s i x e) =
       framed-at q f g
-      ∙ held-score (symbolsAt file q) (shapesAt file q) (scoreAt file q) (q .shapes) l (ap (λ (y : Row). y .answer) (pass-shapes (symbolsAt file q) (shapesAt file q) st s)) (row-score (symbolsAt file q) (scoreAt file q) x)
-      ∙ ap (λ y. refuse r (y + 2 * i) l) (score-begins q (trailer-in file q (framed-trailer file q f))) ∙ ap (λ y. refuse r y l) (sym e)
+      ∙ held-score (symbolsAt file q) (shapesAt file q) (scoreAt file q) (q .shapes) l (ap (λ (y : ShapesRead). y .answer) (pass-shapes (symbolsAt file q) (shapesAt file q) st s)) (row-score (symbolsAt file q) (scoreAt file q) x)
+      ∙ ap (λ y. refuseOpening r (y + 2 * i) l) (score-begins q (trailer-in file q (framed-trailer file q f))) ∙ ap (λ y. refuseOpening r y l) (sym e)
   given-refused {r} {p} (row-18 q f g st s t n er ep) =
       framed-at q f g
-      ∙ held-on ar ws sc (q .shapes) l (ap (λ (y : Row). y .answer) (pass-shapes ar ws st s)) (ap (scoreOf ar) (t .words) ∙ score-of ar (t .tree) (t .is))
-      ∙ ap (λ (y : Row). stored ar ws (y .starts) sc l) (pass-shapes ar ws st s)
+      ∙ held-on ar ws sc (q .shapes) l (ap (λ (y : ShapesRead). y .answer) (pass-shapes ar ws st s)) (ap (scoreOf ar) (t .words) ∙ score-of ar (t .tree) (t .is))
+      ∙ ap (λ (y : ShapesRead). stored ar ws (y .starts) sc l) (pass-shapes ar ws st s)
       ∙ go (decLt (length (l .words)) (length ws)) (decLt (length (l .starts)) (length st)) (decLt (length (l .score)) (length sc)) (decLt (length (l .spans)) (length sc))
-      ∙ ap₂ (λ x y. refuse x y l) (sym er) (sym ep)
+      ∙ ap₂ (λ x y. refuseOpening x y l) (sym er) (sym ep)
     where
       ar : List ℕ
       ar = symbolsAt file q
@@ -163,7 +164,7 @@ module _ (file : List ℕ) (l : Lent) where
       n-is : length sc ≡ span (t .tree)
       n-is = ap length (t .words) ∙ length-flatten (t .tree)
 
-      go : Dec (length (l .words) < length ws) → Dec (length (l .starts) < length st) → Dec (length (l .score) < length sc) → Dec (length (l .spans) < length sc) → stored ar ws st sc l ≡ refuse reason.Tables 0 l
+      go : Dec (length (l .words) < length ws) → Dec (length (l .starts) < length st) → Dec (length (l .score) < length sc) → Dec (length (l .spans) < length sc) → stored ar ws st sc l ≡ refuseOpening reason.Tables 0 l
       go (yes a) b c d = stored-words ar ws st sc l a
       go (no a) (yes b) c d = stored-starts ar ws st sc l (omega arith) b
       go (no a) (no b) (yes c) d = stored-score ar ws st sc l (omega arith) (omega arith) c
@@ -171,4 +172,4 @@ module _ (file : List ℕ) (l : Lent) where
       go (no a) (no b) (no c) (no d) = absurd (n (record { words = omega arith; starts = omega (arith, b, st-is); score = omega (arith, c, n-is); spans = omega (arith, d, n-is) }))
 
   pub refused-exactly : Below 256 file → (r : Reason) (p : ℕ) → (opened file l .answer ≡ opening.Refused r p) ↔ Given file l r p
-  refused-exactly small r p = (refused-given small r p, λ x. ap (λ (o : Out). o .answer) (given-refused x))
+  refused-exactly small r p = (refused-given small r p, λ x. ap (λ (o : OpenOutcome). o .answer) (given-refused x))

@@ -20,7 +20,7 @@ use Rattle.kinds.specs.declared.Reason.the-variants.{OutOfRange}
 use Rattle.kinds.proofs.Bools.{test, both, and-l, and-r}
 use Rattle.kinds.proofs.Options.{on-bind, on-need}
 use Rattle.kinds.proofs.Places.{at-below}
-use Rattle.readers.specs.PlanParts.{within, viewGood, labelWord, toLabel, pairAt, labelOf, lengthsOf, announcementOf, successorOf}
+use Rattle.readers.specs.PlanParts.{within, viewGood, labelWord, toLabel, pairAt, labelOf, lengthsOf, toAnnouncement, announcementOf, toSuccessor, successorOf}
 use Rattle.readers.specs.BlockWords.{middle, pairList, outsAt, nextsAt, blockFits, blockStart}
 use Rattle.readers.specs.declared.Label.the-variants as label
 use Rattle.readers.specs.declared.Block.the-variants as block
@@ -145,25 +145,27 @@ module _ (plan : List ℕ) (m k : ℕ) where
     -- ---- a pair of a block
     module _ (i : ℕ) where
       pub by-announcement : By (FoundRow (AnnouncementFound plan m k s f i) (announcement.Refused OutOfRange) (λ x. announcement.Of (record { 0 = x .0 }) (position (x .1)))) (announcementOf plan m k s f i)
+      unfolding announcementOf
       by-announcement =
           by-found (AnnouncementFound plan m k s f i) (announcement.Refused OutOfRange) (λ x. announcement.Of (record { 0 = x .0 }) (position (x .1))) (announcementOf plan m k s f i)
           (λ x e. let z : _≡_ {A = ℕ} 0 1 = cc in absurd (omega arith))
-          (λ x h. laws.announcement-some plan m k (view-good (h .block .view)) s f (h .begin) (block-of (h .begin) (h .block)) i (x .0) (x .1) (pair-of plan (h .begin) (getD plan 2 0) i x (h .pair)))
-          (on-block (λ b h. in-block b h (pairAt (getD plan 2 0) (outsAt plan b) i) refl) (λ n. inr (laws.announcement-view plan m k s f i n)) (λ g e. inr (laws.announcement-start plan m k g s f i e)))
+          (λ x h. ap toAnnouncement (laws.pair-in plan m k (view-good (h .block .view)) s f (h .begin) (block-of (h .begin) (h .block)) false i ∙ pair-of plan (h .begin) (getD plan 2 0) i x (h .pair)))
+          (on-block (λ b h. in-block b h (pairAt (getD plan 2 0) (outsAt plan b) i) refl) (λ n. inr (ap toAnnouncement (laws.pair-view plan m k false s f i n))) (λ g e. inr (ap toAnnouncement (laws.pair-start plan m k g s f false i e))))
         where
           in-block : (b : ℕ) → BlockFound plan m k s f b → (o : Option (ℕ × ℕ)) → pairAt (getD plan 2 0) (outsAt plan b) i ≡ o
               → ((x : ℕ × ℕ) × AnnouncementFound plan m k s f i x) ⊎ (announcementOf plan m k s f i ≡ announcement.Refused OutOfRange)
-          in-block b h none e = inr (laws.announcement-pair plan m k (view-good (h .view)) s f b (block-of b h) i e)
+          in-block b h none e = inr (ap toAnnouncement (laws.pair-in plan m k (view-good (h .view)) s f b (block-of b h) false i ∙ e))
           in-block b h (some x) e = inl (x, record { begin = b; block = h; pair = of-pair plan b (getD plan 2 0) i x e })
 
       pub by-successor : By (FoundRow (SuccessorFound plan m k s f i) (successor.Refused OutOfRange) (λ x. successor.Of (record { 0 = x .0 }) (position (x .1)))) (successorOf plan m k s f i)
+      unfolding successorOf
       by-successor =
           by-found (SuccessorFound plan m k s f i) (successor.Refused OutOfRange) (λ x. successor.Of (record { 0 = x .0 }) (position (x .1))) (successorOf plan m k s f i)
           (λ x e. let z : _≡_ {A = ℕ} 0 1 = cc in absurd (omega arith))
-          (λ x h. laws.successor-some plan m k (view-good (h .block .view)) s f (h .begin) (block-of (h .begin) (h .block)) i (x .0) (x .1) (pair-of plan (middle plan (h .begin)) m i x (h .pair)))
-          (on-block (λ b h. in-block b h (pairAt m (nextsAt plan b) i) refl) (λ n. inr (laws.successor-view plan m k s f i n)) (λ g e. inr (laws.successor-start plan m k g s f i e)))
+          (λ x h. ap toSuccessor (laws.pair-in plan m k (view-good (h .block .view)) s f (h .begin) (block-of (h .begin) (h .block)) true i ∙ pair-of plan (middle plan (h .begin)) m i x (h .pair)))
+          (on-block (λ b h. in-block b h (pairAt m (nextsAt plan b) i) refl) (λ n. inr (ap toSuccessor (laws.pair-view plan m k true s f i n))) (λ g e. inr (ap toSuccessor (laws.pair-start plan m k g s f true i e))))
         where
           in-block : (b : ℕ) → BlockFound plan m k s f b → (o : Option (ℕ × ℕ)) → pairAt m (nextsAt plan b) i ≡ o
               → ((x : ℕ × ℕ) × SuccessorFound plan m k s f i x) ⊎ (successorOf plan m k s f i ≡ successor.Refused OutOfRange)
-          in-block b h none e = inr (laws.successor-pair plan m k (view-good (h .view)) s f b (block-of b h) i e)
+          in-block b h none e = inr (ap toSuccessor (laws.pair-in plan m k (view-good (h .view)) s f b (block-of b h) true i ∙ e))
           in-block b h (some x) e = inl (x, record { begin = b; block = h; pair = of-pair plan (middle plan b) m i x e })

@@ -23,12 +23,12 @@ use Rattle.folio.specs.declared.Counts.{Counts}
 use Rattle.folio.specs.declared.Opened.the-variants as opening
 use Rattle.plan.specs.Building.{size, buildOf}
 use Rattle.plan.specs.declared.Built.the-variants as building
-use Rattle.walk.specs.Starting.{Walk, Out, walkOf, counting, goOn, begun, started}
+use Rattle.walk.specs.Starting.{Walk, WalkOutcome, walkOf, counting, goOn, begun, started}
 use Rattle.walk.specs.Stepping.{run}
 use Rattle.report.specs.Text.{report}
 use Rattle.promises.specs.Computing.{computing}
 use Rattle.promises.specs.Sample.{file, symbols, shapeWords, starts, score, spans, plan, marks, text, nines}
-use Rattle.promises.specs.OneFile.{OneFile, wordsOf, startsOf, nodesOf, spansOf, nodesIn, spansIn, shapesIn, scoreIn, planIn, begunIn, after, acceptedIn, reported}
+use Rattle.promises.specs.OneFile.{OneFile, openedWords, openedStarts, openedNodes, spansOf, nodesIn, spansIn, shapesIn, scoreIn, planIn, begunIn, after, acceptedIn, reported}
 use Rattle.promises.proofs.Demand2.{demand-2}
 use Rattle.promises.proofs.Demand3.{demand-3}
 
@@ -49,15 +49,15 @@ pub opens-are : opened file tables .answer ≡ opening.Folio known
 unfolding computing
 opens-are = refl
 
-pub words-are : wordsOf file tables known ≡ shapeWords
+pub words-are : openedWords file tables known ≡ shapeWords
 unfolding computing
 words-are = refl
 
-pub starts-are : startsOf file tables known ≡ starts
+pub starts-are : openedStarts file tables known ≡ starts
 unfolding computing
 starts-are = refl
 
-pub nodes-are : nodesOf file tables known ≡ score
+pub nodes-are : openedNodes file tables known ≡ score
 unfolding computing
 nodes-are = refl
 
@@ -89,7 +89,7 @@ one-file = record {
   builds = ap₂ (λ w s. buildOf symbols w s (nines 57) (nines 32768) .answer) words-are starts-are ∙ build-is;
   walk = walk;
   first = counting 1 0;
-  starts = ap₂ (λ n s. started symbols n s walk .answer) nodes-are spans-are ∙ ap (λ (o : Out). o .answer) start-is;
+  starts = ap₂ (λ n s. started symbols n s walk .answer) nodes-are spans-are ∙ ap (λ (o : WalkOutcome). o .answer) start-is;
 }
 
 -- ---- item 0 each time
@@ -99,7 +99,7 @@ zeros = replicate 10 0
 after-is : (choices : List ℕ) → after one-file choices ≡ run plan score spans choices (begun 10 walk)
 after-is choices =
     let p : planIn one-file ≡ plan = ap₂ (λ w s. take 56 (buildOf symbols w s (nines 57) (nines 32768) .plan)) words-are starts-are ∙ plan-is in
-    let b : begunIn one-file ≡ begun 10 walk = ap₂ (λ n s. started symbols n s walk .walk) nodes-are spans-are ∙ ap (λ (o : Out). o .walk) start-is in
+    let b : begunIn one-file ≡ begun 10 walk = ap₂ (λ n s. started symbols n s walk .walk) nodes-are spans-are ∙ ap (λ (o : WalkOutcome). o .walk) start-is in
     ap (λ q. run q (nodesIn one-file) (spansIn one-file) choices (begunIn one-file)) p
     ∙ ap₂ (λ n s. run plan n s choices (begunIn one-file)) nodes-are spans-are
     ∙ ap (run plan score spans choices) b

@@ -21,7 +21,7 @@ use Rattle.term.proofs.LawsReading.{whole-in}
 use Rattle.term.proofs.WholeTerm.{whole-term}
 use Rattle.term.proofs.TermWhole.{read-back}
 use Rattle.term.proofs.FirstFault.{fault-of, of-fault}
-use Rattle.contents.specs.Tables.{scoreLevels, scoreLimits, scoreReason, alone, scoreOf}
+use Rattle.contents.specs.Tables.{scoreLevels, scoreLimits, scoreReason, wholeScore, scoreOf}
 use Rattle.contents.specs.declared.Score.the-variants as score
 use Rattle.promises.specs.Refusals.{ScoreFault, ScoreRow, row-13, row-14, row-15, row-16, row-17}
 
@@ -50,7 +50,7 @@ module _ (ar sc : List ℕ) where
           let y : m .end ≡ i = cc in
           rw (← x, ← y) (surplus m em (ltb-true (m .end) (length sc) eb))
 
-      go : (x : Reading) → reading ar sc (scoreLimits 0) scoreLevels 0 ≡ x → alone x (length sc) ≡ score.Refused r i → ScoreRow ar sc r i
+      go : (x : Reading) → reading ar sc (scoreLimits 0) scoreLevels 0 ≡ x → wholeScore x (length sc) ≡ score.Refused r i → ScoreRow ar sc r i
       go (read.Refused f p) ex d =
           let y : scoreReason f ≡ r = cc in
           let z : p ≡ i = cc in
@@ -59,7 +59,7 @@ module _ (ar sc : List ℕ) where
 
   fault-row : (f : Fault) (i : ℕ) → ScoreFault ar sc f i → scoreOf ar sc ≡ score.Refused (scoreReason f) i
   unfolding scoreOf
-  fault-row f i x = ap (λ y. alone y (length sc)) (of-fault ar sc (scoreLimits 0) x)
+  fault-row f i x = ap (λ y. wholeScore y (length sc)) (of-fault ar sc (scoreLimits 0) x)
 
   pub row-score : {r : Reason} {i : ℕ} → ScoreRow ar sc r i → scoreOf ar sc ≡ score.Refused r i
   unfolding scoreOf
@@ -68,5 +68,5 @@ module _ (ar sc : List ℕ) where
   row-score (row-15 i x) = fault-row Deep i x
   row-score (row-16 t fits flat small words h) =
       let b = read-back ar sc (scoreLimits 0) t scoreLevels 0 (drop (span t) sc) fits (omega arith) (omega arith) words in
-      ap (λ y. alone y (length sc)) (b .0) ∙ ap (λ x. alone (read.Whole (met x)) (length sc)) (zero-add (span t)) ∙ rw (lt-ltb (span t) (length sc) h) refl
+      ap (λ y. wholeScore y (length sc)) (b .0) ∙ ap (λ x. wholeScore (read.Whole (met x)) (length sc)) (zero-add (span t)) ∙ rw (lt-ltb (span t) (length sc) h) refl
   row-score (row-17 i x) = fault-row Many i x

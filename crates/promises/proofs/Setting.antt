@@ -10,7 +10,6 @@ use Prim.Native.Nat.{ℕ, _-_}
 use lib.ListN.{length, take, drop}
 use Rattle.kinds.specs.Lists.{gather}
 use Rattle.kinds.proofs.ListLaws.{stored-back, take-again}
-use Rattle.kinds.proofs.Places.{on-in}
 use Rattle.term.specs.Terms.{Term, span, flatten, sizes}
 use Rattle.term.proofs.Sizes.{length-flatten, length-sizes}
 use Rattle.sections.specs.Bytes as file-words
@@ -18,12 +17,10 @@ use Rattle.folio.specs.declared.Counts.{Counts}
 use Rattle.sections.specs.declared.Sections.the-variants as sections
 use Rattle.folio.specs.declared.Opened.the-variants as opening
 use Rattle.sections.specs.declared.Places.{Places}
-use Rattle.folio.specs.Opening.{counts}
-use Rattle.folio.specs.Opening.{Out as Opening}
+use Rattle.folio.specs.Opening.{counts, OpenOutcome}
 use Rattle.folio.specs.Folio.{Folio, startsAt, answered, shapeTerms, scoreTerm}
-use Rattle.folio.proofs.ScoreWhole.{Below}
 use Rattle.folio.proofs.ShapesFound.{length-starts}
-use Rattle.folio.proofs.Accepted.{Accepted, accepted, each-shape, shape-terms, score-term}
+use Rattle.folio.proofs.Accepted.{Accepted, accepted, shape-terms, score-term}
 use Rattle.automaton.specs.Paper.{paper}
 use Rattle.automaton.specs.Exploring.{construction}
 use Rattle.automaton.specs.PlanWords.{plan-of}
@@ -31,7 +28,7 @@ use Rattle.plan.specs.Building.{planOf}
 use Rattle.walk.specs.Starting.{Walk, begun, roomFor}
 use Rattle.walk.specs.Stepping.{stepped, run}
 use Rattle.walk.specs.Stepping.{accepted as acceptedOf}
-use Rattle.walking.specs.OneFolio.{OneFolio, Lent, stepIn, walkIn}
+use Rattle.walking.specs.OneFolio.{OneFolio, EnoughLent, stepIn, walkIn}
 use Rattle.walking.specs.OneFolio.{acceptedIn as acceptedOn}
 use Rattle.walking.proofs.FolioWalk.{scoredOf, on-plan}
 use Rattle.promises.specs.OneFile.{OneFile, symbolsIn, wordsIn, startsIn, nodesIn, spansIn, shapesIn, scoreIn, planIn, begunIn, after, stepAfter, acceptedIn}
@@ -41,11 +38,8 @@ ap₄ : {A : Type 0} (f : List ℕ → List ℕ → List ℕ → Walk → A) {a 
 ap₄ f {a} {a′} {b} {b′} {c} {c′} {v} {v′} p q r s = ap₂ (λ x y. f x y c v) p q ∙ ap₂ (λ x y. f a′ b′ x y) r s
 
 module _ {file : List ℕ} (S : OneFile file) where
-  small : Below 256 file
-  small b m = on-in m (λ i e. S .bytes i b e)
-
   acc : Accepted file (S .tables)
-  acc = accepted file (S .tables) (S .counts) small (S .opens)
+  acc = accepted file (S .tables) (S .counts) (S .bytes) (S .opens)
 
   abbrev ss : List Term
   ss = acc .meaning .shapes
@@ -58,7 +52,7 @@ module _ {file : List ℕ} (S : OneFile file) where
 
   counted : S .counts ≡ counts (length (take (p .shapes) file)) (length ss) (length (gather flatten ss)) (span t)
   counted =
-      let z : opening.Folio (S .counts) ≡ opening.Folio (counts (length (take (p .shapes) file)) (length ss) (length (gather flatten ss)) (span t)) = sym (S .opens) ∙ ap (λ (o : Opening). o .answer) (acc .is) in
+      let z : opening.Folio (S .counts) ≡ opening.Folio (counts (length (take (p .shapes) file)) (length ss) (length (gather flatten ss)) (span t)) = sym (S .opens) ∙ ap (λ (o : OpenOutcome). o .answer) (acc .is) in
       cc
 
   symbols-are : symbolsIn S ≡ take (p .shapes) file
@@ -66,29 +60,29 @@ module _ {file : List ℕ} (S : OneFile file) where
 
   words-are : wordsIn S ≡ gather flatten ss
   words-are =
-      ap₂ (λ (c : Counts) (o : Opening). take (c .words) (o .tables .words)) counted (acc .is)
+      ap₂ (λ (c : Counts) (o : OpenOutcome). take (c .words) (o .tables .words)) counted (acc .is)
       ∙ stored-back (gather flatten ss) (S .tables .words) (acc .room .words)
 
   starts-are : startsIn S ≡ startsAt 0 ss
   starts-are =
-      ap₂ (λ (c : Counts) (o : Opening). take (c .shapes) (o .tables .starts)) counted (acc .is)
+      ap₂ (λ (c : Counts) (o : OpenOutcome). take (c .shapes) (o .tables .starts)) counted (acc .is)
       ∙ ap (λ n. take n (answered (take (p .shapes) file) ss t (S .tables) .tables .starts)) (sym (length-starts 0 ss))
       ∙ stored-back (startsAt 0 ss) (S .tables .starts) (rw (length-starts 0 ss) (acc .room .starts))
 
   nodes-are : nodesIn S ≡ flatten t
   nodes-are =
-      ap₂ (λ (c : Counts) (o : Opening). take (c .nodes) (o .tables .score)) counted (acc .is)
+      ap₂ (λ (c : Counts) (o : OpenOutcome). take (c .nodes) (o .tables .score)) counted (acc .is)
       ∙ ap (λ n. take n (answered (take (p .shapes) file) ss t (S .tables) .tables .score)) (sym (length-flatten t))
       ∙ stored-back (flatten t) (S .tables .score) (rw (length-flatten t) (acc .room .score))
 
   spans-are : spansIn S ≡ sizes t
   spans-are =
-      ap₂ (λ (c : Counts) (o : Opening). take (c .nodes) (o .tables .spans)) counted (acc .is)
+      ap₂ (λ (c : Counts) (o : OpenOutcome). take (c .nodes) (o .tables .spans)) counted (acc .is)
       ∙ ap (λ n. take n (answered (take (p .shapes) file) ss t (S .tables) .tables .spans)) (sym (length-sizes t))
       ∙ stored-back (sizes t) (S .tables .spans) (rw (length-sizes t) (acc .room .spans))
 
   shapes-are : shapesIn S ≡ ss
-  shapes-are = ap₂ shapeTerms symbols-are words-are ∙ shape-terms (take (p .shapes) file) ss (each-shape _ _ _ (acc .meaning .limits)) (acc .meaning .limits .few-shapes)
+  shapes-are = ap₂ shapeTerms symbols-are words-are ∙ shape-terms (take (p .shapes) file) ss (acc .meaning .limits .are-shapes) (acc .meaning .limits .few-shapes)
 
   score-is : scoreIn S ≡ t
   score-is = ap₂ scoreTerm symbols-are nodes-are ∙ score-term (take (p .shapes) file) t (acc .meaning .limits .is-score)
@@ -121,7 +115,7 @@ module _ {file : List ℕ} (S : OneFile file) where
 
   pub record Told : Type 0 where
     pub folio : OneFolio (scoredOf is-folio)
-    pub lent : Lent folio (S .walk)
+    pub lent : EnoughLent folio (S .walk)
     pub after-is : (choices : List ℕ) → after S choices ≡ walkIn folio choices (S .walk)
     pub step-is : (choices : List ℕ) (i : ℕ) → stepAfter S choices i ≡ stepIn folio i (walkIn folio choices (S .walk))
     pub accepted-is : (choices : List ℕ) → acceptedIn S choices ≡ acceptedOn folio choices (S .walk)

@@ -14,7 +14,8 @@ use lib.ListN.{length, getD, drop, length-append}
 use Rattle.kinds.specs.Lists.{gather}
 use Rattle.kinds.specs.declared.Reason.{Reason}
 use Rattle.kinds.specs.declared.Reason.the-variants as reason
-use Rattle.kinds.proofs.Members.{here, there, in-one, ∈-append}
+use Rattle.kinds.proofs.Members.{in-one, ∈-append, in-none}
+use Rattle.kinds.specs.Members.{here, there}
 use Rattle.kinds.proofs.Places.{at-in, on-in}
 use Rattle.kinds.proofs.ListLaws.{from, gather-append}
 use Rattle.kinds.proofs.Options.{none-not}
@@ -29,19 +30,19 @@ use Rattle.term.proofs.WholeTerm.{TermAt, whole-term}
 use Rattle.term.proofs.TermWhole.{read-back}
 use Rattle.term.proofs.Sizes.{length-flatten}
 use Rattle.term.proofs.FirstFault.{fault-of, of-fault}
-use Rattle.contents.specs.Tables.{blankWord, shapeLevels, shapeLimits, shapeReason, Row, row, push, shape, shapesFrom, shapesOf}
-use Rattle.folio.specs.Folio.{IsShape, Shaped}
+use Rattle.contents.specs.Tables.{blankWord, shapeLevels, shapeLimits, shapeReason, ShapesRead, shapesRead, push, oneShape, shapesFrom, shapesOf}
+use Rattle.folio.specs.Folio.{IsShape, Shaped, AreShapes}
 use Rattle.contents.specs.declared.Shapes.{Shapes}
 use Rattle.contents.specs.declared.Shapes.the-variants as shapes
 use Rattle.contents.proofs.LawsTables.{shapes-none, shapes-some}
-use Rattle.folio.proofs.ShapesFound.{Each, solid, head-word, shapes-found}
+use Rattle.folio.proofs.ShapesFound.{solid, head-word, shapes-found}
 use Rattle.promises.specs.Refusals.{ShapesTo, ShapeFault, ShapeRow, row-7, row-8, row-9, row-10, row-11, row-12-none, row-12-more}
 
-not-refused {κ} : {C : Type κ} {r : Reason} {n i : ℕ} → shapes.Found n ≡ shapes.Refused r i → C
+not-refused {κ} : {C : Type κ} {r : Reason} {n i : ℕ} → shapes.Whole n ≡ shapes.Refused r i → C
 not-refused e = let z : _≡_ {A = ℕ} 0 1 = cc in absurd (omega arith)
 
 module _ (ar ws : List ℕ) where
-  abbrev all : ℕ → ℕ → ℕ → Row
+  abbrev all : ℕ → ℕ → ℕ → ShapesRead
   all c n at = shapesFrom ar blankWord ws c n at
 
   -- ---- from the tests
@@ -59,7 +60,7 @@ module _ (ar ws : List ℕ) where
       record {
         shapes = s .shapes ++ (t ∷ []);
         many = length-append (s .shapes) (t ∷ []) ∙ ap (λ x. x + 1) (s .many);
-        each = λ i u m. ⊎-elim (λ x. on-in x (λ k d. s .each k u d)) (λ x. subst (IsShape ar) (sym (in-one x)) is) (∈-append (s .shapes) (at-in (s .shapes ++ (t ∷ [])) i m));
+        each = λ u m. ⊎-elim (s .each u) (λ x. subst (IsShape ar) (sym (in-one x)) is) (∈-append (s .shapes) m);
         words = s .words ∙ ap (λ x. gather flatten (s .shapes) ++ x) (a .words) ∙ sym (append-assoc (gather flatten (s .shapes)) (flatten t) (drop e ws)) ∙ ap (λ x. x ++ drop e ws) (sym split);
         size = let b = ap length split ∙ length-append (gather flatten (s .shapes)) (flatten t) in omega (arith, a .size, s .size, b, length-flatten t);
       }
@@ -68,7 +69,7 @@ module _ (ar ws : List ℕ) where
   unfolding shapesFrom
   from-row zero n at r i h s e = go (ltb at (length ws)) refl e
     where
-      go : (b : Bool) → ltb at (length ws) ≡ b → cond b (row (shapes.Refused reason.Shapes at) []) (row (shapes.Found n) []) .answer ≡ shapes.Refused r i → ShapeRow ar ws r i
+      go : (b : Bool) → ltb at (length ws) ≡ b → cond b (shapesRead (shapes.Refused reason.Shapes at) []) (shapesRead (shapes.Whole n) []) .answer ≡ shapes.Refused r i → ShapeRow ar ws r i
       go false eb d = not-refused d
       go true eb d =
           let x : reason.Shapes ≡ r = cc in
@@ -79,7 +80,7 @@ module _ (ar ws : List ℕ) where
       go (ltb at (length ws)) refl (reading ar ws (shapeLimits blankWord at) shapeLevels at) refl (leb blankWord (getD ws at 0)) refl e (λ e s′. from-row c (n + 1) e r i (omega arith) s′)
     where
       go : (b : Bool) → ltb at (length ws) ≡ b → (x : Reading) → reading ar ws (shapeLimits blankWord at) shapeLevels at ≡ x → (lone : Bool) → leb blankWord (getD ws at 0) ≡ lone
-          → cond b (shape x at lone (all c (n + 1))) (row (shapes.Found n) []) .answer ≡ shapes.Refused r i
+          → cond b (oneShape x at lone (all c (n + 1))) (shapesRead (shapes.Whole n) []) .answer ≡ shapes.Refused r i
           → ((e : ℕ) → ShapesTo ar ws e (n + 1) → all c (n + 1) e .answer ≡ shapes.Refused r i → ShapeRow ar ws r i) → ShapeRow ar ws r i
       go false eb x ex lone el d ih = not-refused d
       go true eb (read.Refused f p) ex lone el d ih =
@@ -96,13 +97,13 @@ module _ (ar ws : List ℕ) where
           ih (m .end) (one-more at (m .end) n (ltb-true at (length ws) eb) (leb-false blankWord (getD ws at 0) el) (w .few) a s) d
 
   none-yet : ShapesTo ar ws 0 0
-  none-yet = record { shapes = []; many = refl; each = λ i t e. none-not e; words = refl; size = refl }
+  none-yet = record { shapes = []; many = refl; each = λ t m. in-none m; words = refl; size = refl }
 
   pub shape-row : (r : Reason) (i : ℕ) → shapesOf ar blankWord ws .answer ≡ shapes.Refused r i → ShapeRow ar ws r i
   unfolding shapesOf
   shape-row r i e = go (ltb 0 (length ws)) refl e
     where
-      go : (b : Bool) → ltb 0 (length ws) ≡ b → cond b (all 16 0 0) (row (shapes.Refused reason.Shapes 0) []) .answer ≡ shapes.Refused r i → ShapeRow ar ws r i
+      go : (b : Bool) → ltb 0 (length ws) ≡ b → cond b (all 16 0 0) (shapesRead (shapes.Refused reason.Shapes 0) []) .answer ≡ shapes.Refused r i → ShapeRow ar ws r i
       go true eb d = from-row 16 0 0 r i refl none-yet d
       go false eb d =
           let x : reason.Shapes ≡ r = cc in
@@ -111,7 +112,7 @@ module _ (ar ws : List ℕ) where
           rw (← x, ← y) (row-12-none (omega arith))
 
   -- ---- to the tests
-  past : (ts : List Term) (c n at : ℕ) (r : List ℕ) → Each ar ts → drop at ws ≡ gather flatten ts ++ r
+  past : (ts : List Term) (c n at : ℕ) (r : List ℕ) → AreShapes ar ts → drop at ws ≡ gather flatten ts ++ r
       → all (length ts + c) n at .answer ≡ all c (n + length ts) (at + length (gather flatten ts)) .answer
   unfolding shapesFrom
   past [] c n at r s e = ap₃ (zero-add c) (sym (add-zero n)) (sym (add-zero at))
@@ -130,16 +131,15 @@ module _ (ar ws : List ℕ) where
       let step : all (suc (length ts + c)) n at ≡ push at (all (length ts + c) (n + 1) (at + span t)) = rw (lt-ltb _ _ (w .0), b .0, lt-leb _ _ (w .1)) in
       let y : n + 1 + length ts ≡ n + suc (length ts) = omega arith in
       let z : at + span t + length (gather flatten ts) ≡ at + length (flatten t ++ gather flatten ts) = omega (arith, length-append (flatten t) (gather flatten ts), length-flatten t) in
-      ap (λ x. all x n at .answer) more ∙ ap (λ (x : Row). x .answer) step ∙ ih ∙ ap₂ (λ a b. all c a b .answer) y z
+      ap (λ x. all x n at .answer) more ∙ ap (λ (x : ShapesRead). x .answer) step ∙ ih ∙ ap₂ (λ a b. all c a b .answer) y z
 
   to-there : (at n c : ℕ) → n + c ≡ 16 → ShapesTo ar ws at n → 0 < length ws → shapesOf ar blankWord ws .answer ≡ all c n at .answer
   to-there at n c h s some-word =
-      let each : Each ar (s .shapes) = λ t m. on-in m (λ i e. s .each i t e) in
-      let p = past (s .shapes) c 0 0 (drop at ws) each (s .words) in
+      let p = past (s .shapes) c 0 0 (drop at ws) (s .each) (s .words) in
       let k : length (s .shapes) + c ≡ 16 = omega (arith, s .many) in
       let y : 0 + length (s .shapes) ≡ n = omega (arith, s .many) in
       let z : 0 + length (gather flatten (s .shapes)) ≡ at = omega (arith, s .size) in
-      ap (λ (x : Row). x .answer) (shapes-some ar blankWord ws (λ e. omega arith)) ∙ ap (λ x. all x 0 0 .answer) (sym k) ∙ p ∙ ap₂ (λ a b. all c a b .answer) y z
+      ap (λ (x : ShapesRead). x .answer) (shapes-some ar blankWord ws (λ e. omega arith)) ∙ ap (λ x. all x 0 0 .answer) (sym k) ∙ p ∙ ap₂ (λ a b. all c a b .answer) y z
 
   fault-row : (f : Fault) (i : ℕ) → ShapeFault ar ws f i → shapesOf ar blankWord ws .answer ≡ shapes.Refused (shapeReason f) i
   unfolding shapesFrom
@@ -161,9 +161,9 @@ module _ (ar ws : List ℕ) where
       lone i h b = read-back ar ws (shapeLimits blankWord i) (blank (getD ws i 0)) shapeLevels i (drop (i + 1) ws) b (omega arith) (omega arith) (from ws i h) .0
   row-shape (row-10 i x) = fault-row Many i x
   row-shape (row-11 i x) = fault-row Deep i x
-  row-shape (row-12-none e) = ap (λ (x : Row). x .answer) (shapes-none ar blankWord ws e)
+  row-shape (row-12-none e) = ap (λ (x : ShapesRead). x .answer) (shapes-none ar blankWord ws e)
   row-shape (row-12-more i h s) = to-there i 16 0 refl s (omega arith) ∙ rw (lt-ltb i (length ws) h) refl
 
   -- ---- where they give nothing
-  pub pass-shapes : (st : List ℕ) (s : Shaped ar ws st) → shapesOf ar blankWord ws ≡ row (shapes.Found (0 + length (s .trees))) st
-  pass-shapes st s = ap (shapesOf ar blankWord) (s .words) ∙ shapes-found ar (s .trees) (s .each) (s .some-shape) (s .few-shapes) ∙ ap (row (shapes.Found (0 + length (s .trees)))) (sym (s .begins))
+  pub pass-shapes : (st : List ℕ) (s : Shaped ar ws st) → shapesOf ar blankWord ws ≡ shapesRead (shapes.Whole (0 + length (s .trees))) st
+  pass-shapes st s = ap (shapesOf ar blankWord) (s .words) ∙ shapes-found ar (s .trees) (s .each) (s .some-shape) (s .few-shapes) ∙ ap (shapesRead (shapes.Whole (0 + length (s .trees)))) (sym (s .begins))

@@ -25,8 +25,8 @@ use Rattle.readers.proofs.LawsPairs.{pairList-at, pairs-list, pairs-none}
 use Rattle.readers.proofs.LawsParts.{block-start}
 use Rattle.queue.specs.Targets.{targets}
 use Rattle.walk.specs.Starting.{Walk}
-use Rattle.walk.specs.Starting.{Out as Walking}
-use Rattle.walk.specs.Stepping.{Found, look, onward, roomy, moved, tried, stepped}
+use Rattle.walk.specs.Starting.{WalkOutcome}
+use Rattle.walk.specs.Stepping.{Finding, look, onward, roomy, moved, tried, stepped}
 use Rattle.walking.proofs.StepParts.{look-of, tried-of}
 use Rattle.promises.specs.StepFound.{ItemFound, StepFound}
 use Rattle.promises.specs.Demand1 as rows
@@ -35,7 +35,7 @@ use Rattle.promises.proofs.ReaderRows.{view-good, good-view, block-of, 
 use Rattle.promises.proofs.LeadRows.{lead-targets, targets-lead}
 
 -- ---- what an item finds
-module _ (plan score spans : List ℕ) (state node : ℕ) (found : Found) where
+module _ (plan score spans : List ℕ) (state node : ℕ) (found : Finding) where
   abbrev states : ℕ
   states = getD plan 0 0
 
@@ -120,7 +120,7 @@ module _ (plan score spans : List ℕ) (i : ℕ) (w : Walk) where
     unfolding tried
     tried-found v e = go (decLe (2 * w .count .waiting) (length (w .items)))
       where
-        then : List (ℕ × ℕ) → Found → Option Walk
+        then : List (ℕ × ℕ) → Finding → Option Walk
         then l found = need (roomy w found (onward i l (found .nexts))) (some (moved w found (onward i l (found .nexts))))
 
         go : Dec (2 * w .count .waiting ≤ length (w .items)) → StepFound plan score spans i w v
@@ -154,7 +154,7 @@ module _ (plan score spans : List ℕ) (i : ℕ) (w : Walk) where
       go (yes h) none e = rw (lt-ltb i (w .count .waiting) h, e) (rows.step-34 h (λ v s. none-not (sym e ∙ found-tried h v s)))
       go (yes h) (some v) e = rw (lt-ltb i (w .count .waiting) h, e) (rows.takes h v (tried-found h v e))
 
-  step-only : (o : Walking) → StepRow plan score spans i w o → stepped plan score spans i w ≡ o
+  step-only : (o : WalkOutcome) → StepRow plan score spans i w o → stepped plan score spans i w ≡ o
   unfolding stepped
   step-only _ (rows.step-32 h) = rw (le-ltb i (w .count .waiting) h) refl
   step-only _ (rows.step-34 h n) = rw (lt-ltb i (w .count .waiting) h, nothing (tried plan score spans i w) refl) refl

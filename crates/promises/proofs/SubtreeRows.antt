@@ -8,21 +8,21 @@ use native.Mathlib.Omega.{arith}
 use lib.ListN.{length, drop}
 use Rattle.kinds.specs.declared.Node.{Node}
 use Rattle.kinds.proofs.Bools.{test}
-use Rattle.kinds.proofs.Members.{_∈_, ∈-left, in-drop}
+use Rattle.kinds.proofs.Members.{∈-left, in-drop}
+use Rattle.kinds.specs.Members.{_∈_, Below}
 use Rattle.kinds.proofs.Places.{on-in}
 use Rattle.term.specs.Terms.{Term, flatten}
 use Rattle.term.proofs.Sizes.{length-flatten, span-pos}
 use Rattle.contents.specs.Tables.{blankWord, shapeLimits, shapeLevels, scoreLimits, scoreLevels}
-use Rattle.lent.specs.Again.{symbolsGood, pieceAt, subtreeAt}
+use Rattle.checks.specs.Again.{symbolsGood, pieceAt, subtreeAt}
 use Rattle.folio.specs.Folio.{GoodSymbols, IsScore}
-use Rattle.lent.specs.declared.Asked.{Asked}
-use Rattle.lent.specs.declared.Asked.the-variants as asked
-use Rattle.lent.proofs.LawsAgain.{symbols-good-is}
+use Rattle.checks.specs.declared.Asked.{Asked}
+use Rattle.checks.specs.declared.Asked.the-variants as asked
+use Rattle.checks.proofs.LawsAgain.{symbols-good-is}
 use Rattle.folio.proofs.ScoreWhole.{whole-of}
 use Rattle.folio.proofs.Subtrees.{Piece, piece-term, piece-or-none, subtree-shape, subtree-score}
 use Rattle.folio.proofs.Symbols.{symbols-is}
 use Rattle.promises.specs.Found.{FoundRow, InShape, Standing, in-shapes, in-score}
-use Rattle.promises.specs.Refusals.{Below}
 use Rattle.promises.specs.Demand1.{By}
 use Rattle.promises.proofs.FoundRows.{by-found}
 
@@ -39,7 +39,7 @@ module _ (ar shapes score : List ℕ) (small : Below 65536 score) where
 
   -- words of a slice have no word from 65,536 on, so a term of them has no blank
   words-small : (at e : ℕ) (t : Term) → drop at score ≡ flatten t ++ drop e score → (w : ℕ) → w ∈ flatten t → w < 65536
-  words-small at e t q w m = on-in (in-drop at score (rw q (∈-left (drop e score) m))) (λ i d. small i w d)
+  words-small at e t q w m = small w (in-drop at score (rw q (∈-left (drop e score) m)))
 
   module _ (g : GoodSymbols ar) where
     shape-either : (at : ℕ) → ((t : Term) × Standing ar shapes score (asked.Shapes at) t) ⊎ (subtreeAt (asked.Shapes at) ar shapes score ≡ [])

@@ -11,32 +11,26 @@ use lib.Dec.{leb}
 use lib.ListN.{length, take}
 use Rattle.kinds.specs.declared.Reason.the-variants.{BadScore, ShortBuffers}
 use Rattle.kinds.proofs.Bools.{test, both, and-l, and-r, false-true}
-use Rattle.kinds.proofs.Members.{_∈_}
-use Rattle.kinds.proofs.Places.{on-in}
-use Rattle.lent.specs.Again.{scoreGood}
+use Rattle.kinds.specs.Members.{Below}
+use Rattle.checks.specs.Again.{scoreGood}
 use Rattle.folio.proofs.GoodTables.{score-good-scored, scored-good}
-use Rattle.walk.specs.Starting.{Walk, goOn, begun, roomFor, started}
-use Rattle.walk.specs.Starting.{Out as Walking, refuse as refuseWalk}
+use Rattle.walk.specs.Starting.{Walk, goOn, begun, roomFor, started, WalkOutcome, refuseWalk}
 use Rattle.counting.specs.Counting.{counted}
 use Rattle.counting.specs.declared.Counted.{Counted}
 use Rattle.counting.specs.declared.Counted.the-variants as count
 use Rattle.promises.specs.Demand1 as rows
-use Rattle.promises.specs.Refusals.{Below}
 use Rattle.promises.specs.Demand1.{By, Good, Roomy, StartRow, CountRow}
 
 module _ (ar score spans : List ℕ) (small : Below 65536 score) where
-  words : (w : ℕ) → w ∈ score → w < 65536
-  words w m = on-in m (λ i e. small i w e)
-
   score-or-not : (scoreGood ar score spans ≡ true) ⊎ (scoreGood ar score spans ≡ false) → Good ar score spans ⊎ (Good ar score spans → ⊥)
-  score-or-not (inl e) = inl (score-good-scored ar score spans words e)
+  score-or-not (inl e) = inl (score-good-scored ar score spans small e)
   score-or-not (inr e) = inr (λ g. false-true (sym e ∙ scored-good ar score spans (g .0) (g .1)))
 
   score-bad : (Good ar score spans → ⊥) → scoreGood ar score spans ≡ false
   score-bad n = go (test (scoreGood ar score spans))
     where
       go : (scoreGood ar score spans ≡ true) ⊎ (scoreGood ar score spans ≡ false) → scoreGood ar score spans ≡ false
-      go (inl e) = absurd (n (score-good-scored ar score spans words e))
+      go (inl e) = absurd (n (score-good-scored ar score spans small e))
       go (inr e) = e
 
   score-fine : Good ar score spans → scoreGood ar score spans ≡ true
@@ -79,7 +73,7 @@ module _ (ar score spans : List ℕ) (small : Below 65536 score) where
         go (inl g) (inr d) = rw (started-short (score-fine g) d) (rows.start-30 g (λ r. false-true (sym d ∙ room-is r)))
         go (inl g) (inl d) = rw (started-on (score-fine g) d) (rows.starts g (is-room d))
 
-    start-only : (o : Walking) → StartRow ar score spans w o → started ar score spans w ≡ o
+    start-only : (o : WalkOutcome) → StartRow ar score spans w o → started ar score spans w ≡ o
     start-only _ (rows.start-31 n) = started-bad (score-bad n)
     start-only _ (rows.start-30 g n) = started-short (score-fine g) (no-room n)
     start-only _ (rows.starts g r) = started-on (score-fine g) (room-is r)

@@ -8,18 +8,18 @@ use Rattle.sections.specs.Bytes.{wordsOf}
 use Rattle.sections.specs.Sections.{distancesOf, trailerOf, overAt, symbolsOf, sectionsOf}
 use Rattle.contents.specs.Tables.{shapesFrom, shapesOf, scoreOf}
 use Rattle.folio.specs.Opening.{stored, held, opened}
-use Rattle.lent.specs.Again.{symbolsGood, shapesGood, scoreGood, pieceAt, subtreeAt}
+use Rattle.checks.specs.Again.{symbolsGood, shapesGood, scoreGood, pieceAt, subtreeAt}
 use Rattle.plan.specs.Building.{cleared, buildOf}
-use Rattle.readers.specs.PlanParts.{pairs, counted, blockAt, labelWord, blockOf, pairAt, labelOf, lengthsOf, announcementOf, successorOf}
+use Rattle.readers.specs.PlanParts.{pairs, countedPairs, blockAt, labelWord, blockOf, pairAt, pairIn, labelOf, lengthsOf, announcementOf, successorOf}
 use Rattle.walk.specs.Starting.{started}
 use Rattle.walk.specs.Stepping.{look, tried, stepped, run, runBy}
 use Rattle.queue.specs.Targets.{targets, marked}
-use Rattle.counting.specs.Counting.{anyTo, sumTo, someMatch, numberAt, total}
-use Rattle.counting.specs.Counting.{counted as countedIn}
+use Rattle.counting.specs.Counting.{anyTo, someMatch, numberAt, total}
+use Rattle.counting.specs.Counting.{counted}
 use Rattle.report.specs.Lines.{written}
 use Rattle.report.specs.Paths.{childOn, pathTo}
-use Rattle.report.specs.Text.{digitsTo, digits, pathText, texts, lines, report}
+use Rattle.report.specs.Text.{digitsTo, digits, dotted, pathText, texts, lines, report}
 
 unfoldable pub computing : ℕ
-unfolding decodeTo childrenOf headOf reading over spansOf sibling childAt follow target wordsOf distancesOf trailerOf overAt symbolsOf sectionsOf shapesFrom shapesOf scoreOf stored held opened symbolsGood shapesGood scoreGood pieceAt subtreeAt cleared buildOf pairs counted blockAt labelWord blockOf pairAt labelOf lengthsOf announcementOf successorOf started targets look marked tried stepped run runBy anyTo sumTo someMatch numberAt total countedIn childOn pathTo digitsTo digits pathText texts lines report written
+unfolding decodeTo childrenOf headOf reading over spansOf sibling childAt follow target wordsOf distancesOf trailerOf overAt symbolsOf sectionsOf shapesFrom shapesOf scoreOf stored held opened symbolsGood shapesGood scoreGood pieceAt subtreeAt cleared buildOf pairs countedPairs blockAt labelWord blockOf pairAt pairIn labelOf lengthsOf announcementOf successorOf started targets look marked tried stepped run runBy anyTo someMatch numberAt total counted childOn pathTo digitsTo digits dotted pathText texts lines report written
 computing = 0

@@ -20,18 +20,15 @@ use Rattle.kinds.specs.declared.Child.the-variants as child
 use Rattle.kinds.specs.declared.Reason.{Reason}
 use Rattle.kinds.specs.declared.Reason.the-variants.{BadShapes, ShortScratch, LongPlan, ShortBuffers, BadScore, NoSuchItem, OutOfRange}
 use Rattle.term.specs.Terms.{Term, span, flatten}
-use Rattle.folio.specs.Opening.{Lent, Room, refuse, opened}
-use Rattle.folio.specs.Opening.{Out as Opening}
-use Rattle.folio.specs.Folio.{Folio, GoodSymbols, Shaped, GoodScore, shapeTerms, answered}
-use Rattle.lent.specs.Again.{subtreeAt}
-use Rattle.lent.specs.declared.Asked.{Asked}
+use Rattle.folio.specs.Opening.{Lent, Room, refuseOpening, opened, OpenOutcome}
+use Rattle.folio.specs.Folio.{Meaning, GoodSymbols, Shaped, GoodScore, shapeTerms, answered}
+use Rattle.checks.specs.Again.{subtreeAt}
+use Rattle.checks.specs.declared.Asked.{Asked}
 use Rattle.sections.specs.declared.Places.{Places}
 use Rattle.automaton.specs.PlanWords.{halted, too-long, plan-of}
-use Rattle.plan.specs.Building.{scratchWords, cleared, size, stateNumber, planOf, buildOf}
-use Rattle.plan.specs.Building.{Out as Building, refuse as refuseBuild}
+use Rattle.plan.specs.Building.{scratchWords, cleared, size, stateNumber, planOf, buildOf, BuildOutcome, refuseBuild}
 use Rattle.plan.specs.declared.Built.the-variants as built
-use Rattle.walk.specs.Starting.{Walk, goOn, begun, started}
-use Rattle.walk.specs.Starting.{Out as Walking, refuse as refuseWalk}
+use Rattle.walk.specs.Starting.{Walk, goOn, begun, started, WalkOutcome, refuseWalk}
 use Rattle.walk.specs.Stepping.{stepped}
 use Rattle.counting.specs.Counting.{counted, total, matchAt}
 use Rattle.counting.specs.Clashes.{clashNumber, clash}
@@ -44,30 +41,22 @@ use Rattle.readers.specs.declared.Block.the-variants as block
 use Rattle.readers.specs.declared.Announcement.the-variants as announcement
 use Rattle.readers.specs.declared.Successor.the-variants as successor
 use Rattle.report.specs.Text.{line, firstLine, refusalText}
-use Rattle.report.specs.Lines.{lineRoom, outOf, lineOut, firstOut, refusalOut}
-use Rattle.report.specs.Lines.{Out as Line}
+use Rattle.report.specs.Lines.{lineRoom, outOf, lineOut, firstOut, refusalOut, LineOutcome}
 use Rattle.report.specs.declared.Written.the-variants as written
 use Rattle.promises.specs.Found.{FoundRow, Standing, LabelFound, BlockFound, AnnouncementFound, SuccessorFound, ChildFound}
 use Rattle.promises.specs.StepFound.{StepFound}
-use Rattle.promises.specs.Refusals.{Below, Given, Framed, symbolsAt, shapesAt, scoreAt}
+use Rattle.promises.specs.Refusals.{Given, Framed}
+use Rattle.kinds.specs.Members.{Below}
+use Rattle.sections.specs.Sections.{symbolsAt, shapesAt, scoreAt}
 
 abbrev pub By : {A : Type 0} → (A → Type 0) → A → Type 0
 By {A} Row outcome = Row outcome × ((o : A) → Row o → outcome ≡ o)
 
 -- ---- opening
--- the folio that a file means
-pub record Means (file : List ℕ) : Type 0 where
-  pub at : Places
-  pub framed : Framed file at
-  pub shapes : List Term
-  pub score : Term
-  pub limits : Folio (symbolsAt file at) shapes score
-  pub shape-words : shapesAt file at ≡ gather flatten shapes
-  pub score-words : scoreAt file at ≡ flatten score
-
-pub data OpenRow (file : List ℕ) (l : Lent) : Opening → Type 0 where
-  refused : (r : Reason) (p : ℕ) → Given file l r p → OpenRow file l (refuse r p l)
-  opens : (m : Means file) → Room l (length (gather flatten (m .shapes))) (length (m .shapes)) (span (m .score)) → OpenRow file l (answered (symbolsAt file (m .at)) (m .shapes) (m .score) l)
+pub data OpenRow (file : List ℕ) (l : Lent) : OpenOutcome → Type 0 where
+  refused : (r : Reason) (p : ℕ) → Given file l r p → OpenRow file l (refuseOpening r p l)
+  opens : (at : Places) → Framed file at → (m : Meaning file at) → Room l (length (gather flatten (m .shapes))) (length (m .shapes)) (span (m .score))
+      → OpenRow file l (answered (symbolsAt file at) (m .shapes) (m .score) l)
 
 -- ---- building
 module _ (ar ws st plan scratch : List ℕ) where
@@ -75,7 +64,7 @@ module _ (ar ws st plan scratch : List ℕ) where
   abbrev pub GoodShapes : Type 0
   GoodShapes = GoodSymbols ar × Shaped ar ws st
 
-  pub data BuildRow : Building → Type 0 where
+  pub data BuildRow : BuildOutcome → Type 0 where
     build-19 : (GoodShapes → ⊥) → BuildRow (refuseBuild BadShapes plan scratch)
     build-23 : GoodShapes → length scratch < scratchWords → BuildRow (refuseBuild ShortScratch plan scratch)
     build-20-21 : GoodShapes → scratchWords ≤ length scratch → (r : Reason) (i : ℕ) → planOf ar (shapeTerms ar ws) (length plan) ≡ halted r i
@@ -94,7 +83,7 @@ module _ (ar score spans : List ℕ) where
   abbrev pub Roomy : Walk → Type 0
   Roomy w = (2 * length score ≤ length (w .items)) × (length score ≤ length (w .log)) × (length score ≤ length (w .marks))
 
-  pub data StartRow (w : Walk) : Walking → Type 0 where
+  pub data StartRow (w : Walk) : WalkOutcome → Type 0 where
     start-31 : (Good → ⊥) → StartRow w (refuseWalk BadScore w)
     start-30 : Good → (Roomy w → ⊥) → StartRow w (refuseWalk ShortBuffers w)
     starts : Good → Roomy w → StartRow w (goOn (begun (length score) w))
@@ -106,13 +95,13 @@ module _ (ar score spans : List ℕ) where
     counts : Good → length score ≤ length marks → CountRow f marks (count.Number (f (take (length score) marks)))
 
 -- ---- stepping
-pub data StepRow (plan score spans : List ℕ) (i : ℕ) (w : Walk) : Walking → Type 0 where
+pub data StepRow (plan score spans : List ℕ) (i : ℕ) (w : Walk) : WalkOutcome → Type 0 where
   step-32 : w .count .waiting ≤ i → StepRow plan score spans i w (refuseWalk NoSuchItem w)
   step-34 : i < w .count .waiting → ((v : Walk) → StepFound plan score spans i w v → ⊥) → StepRow plan score spans i w (refuseWalk OutOfRange w)
   takes : i < w .count .waiting → (v : Walk) → StepFound plan score spans i w v → StepRow plan score spans i w (goOn v)
 
 -- ---- a line of the report
-pub data LineRow (text buffer : List ℕ) : Line → Type 0 where
+pub data LineRow (text buffer : List ℕ) : LineOutcome → Type 0 where
   line-30 : length buffer < lineRoom → LineRow text buffer (outOf (written.Refused ShortBuffers) buffer)
   writes : lineRoom ≤ length buffer → LineRow text buffer (outOf (written.Bytes (length text)) (text ++ drop (length text) buffer))
 

@@ -14,13 +14,13 @@ use Prim.Native.Nat.{ℕ, suc, _+_, _<_, _≤_}
 use lib.ListN.{getD, take}
 use Rattle.kinds.specs.declared.Reason.the-variants.{NoSuchItem, OutOfRange}
 use Rattle.term.specs.Terms.{span}
-use Rattle.walk.specs.Starting.{refuse}
+use Rattle.walk.specs.Starting.{refuseWalk}
 use Rattle.walk.specs.declared.Walked.the-variants.{On, Refused}
 use Rattle.promises.specs.OneFile.{OneFile, scoreIn, after, stepAfter, acceptedIn, reported}
 
 pub record Demand3 {file : List ℕ} (S : OneFile file) : Type 0 where
   pub never-34 : (choices : List ℕ) (i : ℕ) → stepAfter S choices i .answer ≡ Refused OutOfRange → ⊥
-  pub refused : (choices : List ℕ) (i : ℕ) → after S choices .count .waiting ≤ i → stepAfter S choices i ≡ refuse NoSuchItem (after S choices)
+  pub refused : (choices : List ℕ) (i : ℕ) → after S choices .count .waiting ≤ i → stepAfter S choices i ≡ refuseWalk NoSuchItem (after S choices)
   pub taken : (choices : List ℕ) (i : ℕ) → i < after S choices .count .waiting
       → (stepAfter S choices i .answer ≡ On (stepAfter S choices i .walk .count)) × (stepAfter S choices i .walk .count .logged ≡ suc (after S choices .count .logged))
   pub steps : (choices : List ℕ)

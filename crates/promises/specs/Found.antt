@@ -20,8 +20,8 @@ use Rattle.kinds.specs.declared.Node.{Node}
 use Rattle.term.specs.Terms.{Term, span, depth, flatten, Fits}
 use Rattle.contents.specs.Tables.{blankWord}
 use Rattle.folio.specs.Folio.{GoodSymbols, IsScore}
-use Rattle.lent.specs.declared.Asked.{Asked}
-use Rattle.lent.specs.declared.Asked.the-variants as asked
+use Rattle.checks.specs.declared.Asked.{Asked}
+use Rattle.checks.specs.declared.Asked.the-variants as asked
 use Rattle.readers.specs.BlockWords.{middle}
 
 pub data FoundRow {A B : Type 0} (Found : A → Type 0) (refused : B) (answer : A → B) : B → Type 0 where

@@ -19,28 +19,28 @@ use Rattle.folio.specs.declared.Opened.the-variants as opening
 use Rattle.plan.specs.Building.{buildOf}
 use Rattle.plan.specs.declared.Size.{Size}
 use Rattle.plan.specs.declared.Built.the-variants as building
-use Rattle.walk.specs.Starting.{Walk, Out, started}
+use Rattle.walk.specs.Starting.{Walk, WalkOutcome, started}
 use Rattle.walk.specs.Stepping.{stepped, run, accepted}
 use Rattle.walk.specs.declared.Record.{Record}
 use Rattle.walk.specs.declared.Walked.the-variants as walking
 use Rattle.report.specs.Text.{report}
-use Rattle.promises.specs.Refusals.{Below}
+use Rattle.kinds.specs.Members.{Below}
 
 module _ (file : List ℕ) (tables : Lent) (counts : Counts) where
-  abbrev pub symbolsOf : List ℕ
-  symbolsOf = take (counts .symbols) file
+  abbrev pub openedSymbols : List ℕ
+  openedSymbols = take (counts .symbols) file
 
-  abbrev pub wordsOf : List ℕ
-  wordsOf = take (counts .words) (opened file tables .tables .words)
+  abbrev pub openedWords : List ℕ
+  openedWords = take (counts .words) (opened file tables .tables .words)
 
-  abbrev pub startsOf : List ℕ
-  startsOf = take (counts .shapes) (opened file tables .tables .starts)
+  abbrev pub openedStarts : List ℕ
+  openedStarts = take (counts .shapes) (opened file tables .tables .starts)
 
-  abbrev pub nodesOf : List ℕ
-  nodesOf = take (counts .nodes) (opened file tables .tables .score)
+  abbrev pub openedNodes : List ℕ
+  openedNodes = take (counts .nodes) (opened file tables .tables .score)
 
-  abbrev pub spansOf : List ℕ
-  spansOf = take (counts .nodes) (opened file tables .tables .spans)
+  abbrev pub openedSpans : List ℕ
+  openedSpans = take (counts .nodes) (opened file tables .tables .spans)
 
 pub record OneFile (file : List ℕ) : Type 0 where
   pub bytes : Below 256 file
@@ -50,26 +50,26 @@ pub record OneFile (file : List ℕ) : Type 0 where
   pub plan : List ℕ
   pub scratch : List ℕ
   pub size : Size
-  pub builds : buildOf (symbolsOf file tables counts) (wordsOf file tables counts) (startsOf file tables counts) plan scratch .answer ≡ building.Plan size
+  pub builds : buildOf (openedSymbols file tables counts) (openedWords file tables counts) (openedStarts file tables counts) plan scratch .answer ≡ building.Plan size
   pub walk : Walk
   pub first : Record
-  pub starts : started (symbolsOf file tables counts) (nodesOf file tables counts) (spansOf file tables counts) walk .answer ≡ walking.On first
+  pub starts : started (openedSymbols file tables counts) (openedNodes file tables counts) (openedSpans file tables counts) walk .answer ≡ walking.On first
 
 module _ {file : List ℕ} (S : OneFile file) where
   abbrev pub symbolsIn : List ℕ
-  symbolsIn = symbolsOf file (S .tables) (S .counts)
+  symbolsIn = openedSymbols file (S .tables) (S .counts)
 
   abbrev pub wordsIn : List ℕ
-  wordsIn = wordsOf file (S .tables) (S .counts)
+  wordsIn = openedWords file (S .tables) (S .counts)
 
   abbrev pub startsIn : List ℕ
-  startsIn = startsOf file (S .tables) (S .counts)
+  startsIn = openedStarts file (S .tables) (S .counts)
 
   abbrev pub nodesIn : List ℕ
-  nodesIn = nodesOf file (S .tables) (S .counts)
+  nodesIn = openedNodes file (S .tables) (S .counts)
 
   abbrev pub spansIn : List ℕ
-  spansIn = spansOf file (S .tables) (S .counts)
+  spansIn = openedSpans file (S .tables) (S .counts)
 
   abbrev pub shapesIn : List Term
   shapesIn = shapeTerms symbolsIn wordsIn
@@ -86,7 +86,7 @@ module _ {file : List ℕ} (S : OneFile file) where
   abbrev pub after : List ℕ → Walk
   after choices = run planIn nodesIn spansIn choices begunIn
 
-  abbrev pub stepAfter : List ℕ → ℕ → Out
+  abbrev pub stepAfter : List ℕ → ℕ → WalkOutcome
   stepAfter choices i = stepped planIn nodesIn spansIn i (after choices)
 
   abbrev pub acceptedIn : List ℕ → ℕ

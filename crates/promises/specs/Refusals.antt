@@ -1,5 +1,4 @@
 -- The table of refusals for opening, row by row: "Given exactly when", and the place. Places in a section are word numbers here; `Given` makes them bytes.
---   Below         numbers as a slice of bytes, or of words, holds them
 --   TrailerRow    1 to 4
 --   SymbolRow     5, 6
 --   ShapeRow      7 to 12: "12 where a shape begins; else at each node 8, 7, 10, 11; then 9 when the shape is complete"
@@ -8,9 +7,8 @@
 --   Given         "Order: 1 to 6, then shapes, then score, then 18": a row counts where the sections before it pass
 use mathlib.Core.Path.{_≡_}
 use mathlib.Core.List.{List, _++_}
-use mathlib.Core.Option.{some}
 use Prim.Native.Nat.{ℕ, _+_, _-_, _*_, _%_, _<_, _≤_}
-use lib.ListN.{length, getD, getElem?, take, drop}
+use lib.ListN.{length, getD, drop}
 use Rattle.kinds.specs.Lists.{gather}
 use Rattle.kinds.specs.declared.Reason.{Reason}
 use Rattle.kinds.specs.declared.Reason.the-variants.{Short, Long, EndBytes, Trailer, Symbols, Children, ShapeWord, ShapeEnds, LoneBlank, ShapeNodes, ShapeDepth, Shapes, ScoreWord, ScoreEnds, ScoreDepth, Surplus, ScoreNodes, Tables}
@@ -18,15 +16,12 @@ use Rattle.term.specs.Terms.{Term, span, depth, flatten, Fits}
 use Rattle.term.specs.Faults.{FaultIn}
 use Rattle.term.specs.declared.Fault.{Fault}
 use Rattle.term.specs.declared.Fault.the-variants.{Ends, NoSymbol, Many, Deep}
-use Rattle.sections.specs.Bytes.{wordAt, wordsOf}
-use Rattle.sections.specs.Sections.{places}
+use Rattle.sections.specs.Bytes.{wordAt}
+use Rattle.sections.specs.Sections.{places, symbolsAt, shapesAt, scoreAt}
 use Rattle.contents.specs.Tables.{blankWord, noBlank, shapeLevels, scoreLevels, shapeLimits, scoreLimits}
 use Rattle.folio.specs.Opening.{Lent, Room}
-use Rattle.folio.specs.Folio.{IsShape, GoodSymbols, Shaped, Scored}
+use Rattle.folio.specs.Folio.{AreShapes, GoodSymbols, Shaped, Scored}
 use Rattle.sections.specs.declared.Places.{Places}
-
-abbrev pub Below : ℕ → List ℕ → Type 0
-Below n l = (i w : ℕ) → getElem? l i ≡ some w → w < n
 
 -- ---- 1 to 4
 module _ (file : List ℕ) where
@@ -76,7 +71,7 @@ module _ (ar ws : List ℕ) where
   pub record ShapesTo (at k : ℕ) : Type 0 where
     pub shapes : List Term
     pub many : length shapes ≡ k
-    pub each : (i : ℕ) (t : Term) → getElem? shapes i ≡ some t → IsShape ar t
+    pub each : AreShapes ar shapes
     pub words : ws ≡ gather flatten shapes ++ drop at ws
     pub size : at ≡ length (gather flatten shapes)
 
@@ -111,16 +106,6 @@ module _ (ar sc : List ℕ) where
     row-17 : (i : ℕ) → ScoreFault Many i → ScoreRow ScoreNodes i
 
 -- ---- the sections
-module _ (file : List ℕ) (q : Places) where
-  abbrev pub symbolsAt : List ℕ
-  symbolsAt = take (q .shapes) file
-
-  abbrev pub shapesAt : List ℕ
-  shapesAt = wordsOf (take (q .score - q .shapes) (drop (q .shapes) file))
-
-  abbrev pub scoreAt : List ℕ
-  scoreAt = wordsOf (take (q .end - q .score) (drop (q .score) file))
-
 pub data Given (file : List ℕ) (l : Lent) (r : Reason) (p : ℕ) : Type 0 where
   in-trailer : TrailerRow file r p → Given file l r p
   in-symbols : (q : Places) → Framed file q → SymbolRow (symbolsAt file q) r p → Given file l r p

@@ -10,9 +10,9 @@ use lib.ListN.{length, take, drop, replicate}
 use Rattle.kinds.specs.Positions.{code}
 use Rattle.kinds.specs.Reasons.{Says}
 use Rattle.folio.specs.Opening.{lent, opened, openedSays}
-use Rattle.folio.specs.Opening.{Out as Opening}
+use Rattle.folio.specs.Opening.{OpenOutcome}
 use Rattle.plan.specs.Building.{buildOf, builtSays}
-use Rattle.plan.specs.Building.{Out as Building}
+use Rattle.plan.specs.Building.{BuildOutcome}
 use Rattle.kinds.specs.Kinds.{position, childOf, childSays}
 use Rattle.following.specs.Following.{target, reached, reachedSays}
 use Rattle.readers.specs.PlanParts.{labelOf, labelSays, lengthsOf, blockSays, announcementOf, announcementSays, successorOf, successorSays}
@@ -65,11 +65,11 @@ text = bytes "nodes 10 states 3 matches 4 clashes 4\n0 0 -\n0 1 -\n1 0 1\n6 0 2.
 abbrev pub nines : ℕ → List ℕ
 nines n = replicate n 9
 
-pub opening : Opening
+pub opening : OpenOutcome
 opening = opened file (lent (nines 9) (nines 2) (nines 10) (nines 10))
 
 -- a plan buffer of one word more
-pub building : Building
+pub building : BuildOutcome
 building = buildOf symbols shapeWords starts (nines 57) (nines 32768)
 
 abbrev begun : List ℕ → List ℕ → Walk

@@ -19,7 +19,7 @@ use lib.ListN.{length, getD, getElem?}
 use Rattle.following.specs.Following.{target}
 use Rattle.readers.specs.BlockWords.{pairList, middle}
 use Rattle.walk.specs.Starting.{Walk}
-use Rattle.walk.specs.Stepping.{Found, onward, moved}
+use Rattle.walk.specs.Stepping.{Finding, onward, moved}
 use Rattle.promises.specs.Found.{PairFound, LabelFound, BlockFound}
 
 -- a number and a node; the number is a shape's or a state's, below its count
@@ -46,7 +46,7 @@ module _ (plan score spans : List ℕ) (state node : ℕ) where
   abbrev to : ℕ → Option ℕ
   to = target (length score) spans node
 
-  pub record ItemFound (found : Found) : Type 0 where
+  pub record ItemFound (found : Finding) : Type 0 where
     pub code : ℕ
     pub label : LabelFound plan states symbols state code
     pub node-read : to code ≡ some (found .node)
@@ -59,7 +59,7 @@ module _ (plan score spans : List ℕ) (state node : ℕ) where
 
 -- "An item is two words, state then node." "A step takes item i; later ones close up."
 pub record StepFound (plan score spans : List ℕ) (i : ℕ) (w v : Walk) : Type 0 where
-  pub found : Found
+  pub found : Finding
   pub item : ItemFound plan score spans (getD (w .items) (2 * i) 0) (getD (w .items) (2 * i + 1) 0) found
   pub log-room : w .count .logged < length (w .log)
   pub room-before : 2 * w .count .waiting ≤ length (w .items)

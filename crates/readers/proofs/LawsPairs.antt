@@ -17,7 +17,7 @@ use lib.ListN.{length, getD, getElem?, take, drop, length-drop, drop-of-length-l
 use lib.Seq.{drop-cons}
 use Rattle.kinds.specs.Lists.{bind}
 use Rattle.kinds.proofs.Bools.{leb-is, leb-not}
-use Rattle.readers.specs.PlanParts.{pairs, pairWords, counted, blockAt}
+use Rattle.readers.specs.PlanParts.{pairs, pairWords, countedPairs, blockAt}
 use Rattle.readers.specs.BlockWords.{pairList, middle, outsAt, nextsAt, blockFits}
 
 module _ (ws : List ℕ) (b : ℕ) where
@@ -87,17 +87,17 @@ pairs-none (suc n) [] h = refl
 pairs-none (suc n) (a ∷ []) h = refl
 pairs-none (suc n) (a ∷ b ∷ ws) h = rw (pairs-none n ws (omega arith))
 
-pub counted-list : (ws : List ℕ) (b : ℕ) → b + 1 + 2 * getD ws b 0 ≤ length ws → counted (drop b ws) ≡ some (pairList ws (b + 1) (getD ws b 0), drop (b + 1 + 2 * getD ws b 0) ws)
-unfolding counted
+pub counted-list : (ws : List ℕ) (b : ℕ) → b + 1 + 2 * getD ws b 0 ≤ length ws → countedPairs (drop b ws) ≡ some (pairList ws (b + 1) (getD ws b 0), drop (b + 1 + 2 * getD ws b 0) ws)
+unfolding countedPairs
 counted-list ws b h =
     let e : suc b ≡ b + 1 = omega arith in
-    ap counted (drop-cons ws b 0 (omega arith)) ∙ ap (λ (k : ℕ). pairs (getD ws b 0) (drop k ws)) e ∙ pairs-list (getD ws b 0) ws (b + 1) h
+    ap countedPairs (drop-cons ws b 0 (omega arith)) ∙ ap (λ (k : ℕ). pairs (getD ws b 0) (drop k ws)) e ∙ pairs-list (getD ws b 0) ws (b + 1) h
 
-pub counted-none : (ws : List ℕ) (b : ℕ) → length ws < b + 1 + 2 * getD ws b 0 → counted (drop b ws) ≡ none
-unfolding counted
+pub counted-none : (ws : List ℕ) (b : ℕ) → length ws < b + 1 + 2 * getD ws b 0 → countedPairs (drop b ws) ≡ none
+unfolding countedPairs
 counted-none ws b h = go (decLt b (length ws))
   where
-    go : Dec (b < length ws) → counted (drop b ws) ≡ none
+    go : Dec (b < length ws) → countedPairs (drop b ws) ≡ none
     go (yes l) = rw (drop-cons ws b 0 l) (pairs-none (getD ws b 0) (drop (suc b) ws) (let k = length-drop (suc b) ws in omega arith))
     go (no l) = rw (drop-of-length-le ws {i = b} (omega arith))
 

@@ -3,14 +3,14 @@
 --   product                                  a product of two words
 --   label-state label-out label-at           a label
 --   no-label a-label                         a label that is answered, taken apart
---   start-state start-symbol start-out start-cut start-at start-fits   a block's start
+--   start-state start-symbol start-out start-cut start-at start-fits start-in   a block's start
 --   block-start                              the block is what stands at its start
 --   second pair-none pair-number pair-code pair-some   a pair of a block
 --   view-counts view-last                    the view's counts
 --   label-view label-none label-bad label-good, lengths-view lengths-none lengths-some,
---   announcement-view announcement-start announcement-pair announcement-some, successor-view successor-start successor-pair successor-some
-use mathlib.Core.Path.{_≡_, refl, ap}
-use mathlib.Core.Bool.{Bool, true, false, _&&_}
+--   pair-view pair-start pair-in
+use mathlib.Core.Path.{_≡_, refl, ap, sym, _∙_}
+use mathlib.Core.Bool.{Bool, true, false, cond, _&&_}
 use mathlib.Core.List.{List}
 use mathlib.Core.Option.{Option, none, some}
 use Prim.Native.Nat.{ℕ, zero, suc, _+_, _*_, _<_, _≤_}
@@ -27,13 +27,13 @@ use Rattle.kinds.specs.declared.Reason.the-variants.{OutOfRange}
 use Rattle.kinds.proofs.Bools.{and-l, and-r, leb-is}
 use Rattle.kinds.proofs.Options.{on-bind, on-need}
 use Rattle.kinds.proofs.Places.{getElem-some, getElem-none}
-use Rattle.readers.specs.PlanParts.{countsGood, labelWord, toLabel, blockAt, blockOf, pairAt, viewGood, labelOf, lengthsOf, announcementOf, successorOf}
-use Rattle.readers.specs.BlockWords.{pairList, middle, outsAt, nextsAt, blockFits, blockStart}
+use Rattle.readers.specs.PlanParts.{countsGood, labelWord, toLabel, blockAt, blockOf, pairAt, viewGood, labelOf, lengthsOf, pairIn}
+use Rattle.readers.specs.BlockWords.{pairList, middle, outsAt, nextsAt, blockFits, blockStart, begins}
+use Rattle.readers.specs.declared.Start.{Start}
+use Rattle.readers.specs.declared.Start.the-variants as start
 use Rattle.readers.specs.declared.Label.the-variants as label
 use Rattle.readers.specs.declared.Block.the-variants as block
-use Rattle.readers.specs.declared.Announcement.the-variants as announcement
-use Rattle.readers.specs.declared.Successor.the-variants as successor
-use Rattle.readers.proofs.LawsPairs.{pairList-at, pairList-none, pairList-length, block-list, block-none}
+use Rattle.readers.proofs.LawsPairs.{fits-in, pairList-at, pairList-none, pairList-length, block-list, block-none}
 
 -- ---- the counts
 pub counts-of : (plan : List ℕ) → countsGood plan ≡ true → (4 ≤ length plan) × (getD plan 0 0 ≤ 128) × (getD plan 1 0 ≤ 32) × (getD plan 2 0 ≤ 16)
@@ -114,6 +114,10 @@ module _ (plan : List ℕ) (m k s f : ℕ) where
       on-need (blockFits plan a) _ d₂ λ t₃ d₃.
       let z : a ≡ b = cc in rw z at t₃
 
+  -- a start that is answered: the whole block lies within the words
+  pub start-in : {r : Start} (b : ℕ) → begins r ≡ blockStart plan m k s f → r ≡ start.At b → middle plan b + 1 + 2 * getD plan (middle plan b) 0 ≤ length plan
+  start-in b e d = fits-in plan b (start-fits (sym e ∙ ap begins d))
+
   pub block-start : blockOf plan m k s f ≡ bind (blockStart plan m k s f) (λ b. some (outsAt plan b, nextsAt plan b))
   unfolding blockOf blockStart
   block-start = go (ltb s m) (ltb f k) (getElem? plan (4 + m + (s * k + f)))
@@ -175,13 +179,9 @@ module _ (plan : List ℕ) (m k : ℕ) where
   unfolding lengthsOf
   lengths-view s f e = rw e
 
-  pub announcement-view : (s f i : ℕ) → viewGood plan m k ≡ false → announcementOf plan m k s f i ≡ announcement.Refused OutOfRange
-  unfolding announcementOf
-  announcement-view s f i e = rw e
-
-  pub successor-view : (s f i : ℕ) → viewGood plan m k ≡ false → successorOf plan m k s f i ≡ successor.Refused OutOfRange
-  unfolding successorOf
-  successor-view s f i e = rw e
+  pub pair-view : (nexts : Bool) (s f i : ℕ) → viewGood plan m k ≡ false → pairIn nexts plan m k s f i ≡ none
+  unfolding pairIn
+  pair-view nexts s f i e = rw e
 
   module _ (good : viewGood plan m k ≡ true) (s : ℕ) where
     pub label-none : {r : Reason} → toLabel (labelWord plan m s) ≡ label.Refused r → labelOf plan m k s ≡ label.Refused OutOfRange
@@ -201,31 +201,15 @@ module _ (plan : List ℕ) (m k : ℕ) where
       unfolding lengthsOf
       lengths-none e = rw (good, block-start plan m k s f, e)
 
-      pub announcement-start : (i : ℕ) → blockStart plan m k s f ≡ none → announcementOf plan m k s f i ≡ announcement.Refused OutOfRange
-      unfolding announcementOf
-      announcement-start i e = rw (good, block-start plan m k s f, e)
-
-      pub successor-start : (i : ℕ) → blockStart plan m k s f ≡ none → successorOf plan m k s f i ≡ successor.Refused OutOfRange
-      unfolding successorOf
-      successor-start i e = rw (good, block-start plan m k s f, e)
+      pub pair-start : (nexts : Bool) (i : ℕ) → blockStart plan m k s f ≡ none → pairIn nexts plan m k s f i ≡ none
+      unfolding pairIn
+      pair-start nexts i e = rw (good, block-start plan m k s f, e)
 
       module _ (b : ℕ) (e : blockStart plan m k s f ≡ some b) where
         pub lengths-some : lengthsOf plan m k s f ≡ block.Of (record { announcements = getD plan b 0; successors = getD plan (middle plan b) 0 })
         unfolding lengthsOf
         lengths-some = rw (good, block-start plan m k s f, e, pairList-length (getD plan b 0) plan (b + 1), pairList-length (getD plan (middle plan b) 0) plan (middle plan b + 1))
 
-        pub announcement-pair : (i : ℕ) → pairAt (getD plan 2 0) (outsAt plan b) i ≡ none → announcementOf plan m k s f i ≡ announcement.Refused OutOfRange
-        unfolding announcementOf
-        announcement-pair i d = rw (good, block-start plan m k s f, e, d)
-
-        pub announcement-some : (i j c : ℕ) → pairAt (getD plan 2 0) (outsAt plan b) i ≡ some (j, c) → announcementOf plan m k s f i ≡ announcement.Of (record { 0 = j }) (position c)
-        unfolding announcementOf
-        announcement-some i j c d = rw (good, block-start plan m k s f, e, d)
-
-        pub successor-pair : (i : ℕ) → pairAt m (nextsAt plan b) i ≡ none → successorOf plan m k s f i ≡ successor.Refused OutOfRange
-        unfolding successorOf
-        successor-pair i d = rw (good, block-start plan m k s f, e, d)
-
-        pub successor-some : (i j c : ℕ) → pairAt m (nextsAt plan b) i ≡ some (j, c) → successorOf plan m k s f i ≡ successor.Of (record { 0 = j }) (position c)
-        unfolding successorOf
-        successor-some i j c d = rw (good, block-start plan m k s f, e, d)
+        pub pair-in : (nexts : Bool) (i : ℕ) → pairIn nexts plan m k s f i ≡ cond nexts (pairAt m (nextsAt plan b) i) (pairAt (getD plan 2 0) (outsAt plan b) i)
+        unfolding pairIn
+        pair-in nexts i = rw (good, block-start plan m k s f, e)

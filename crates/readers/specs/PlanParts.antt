@@ -2,15 +2,15 @@
 --   within       1 to a most
 --   countsGood   "there are 1 to 128 states, 1 to 32 symbols and 1 to 16 shapes", and the header is there
 --   pairs        that many pairs at the head of the words, and the words after them
---   counted      a count and that many pairs
+--   countedPairs      a count and that many pairs
 --   blockAt      a block at the head of the words: announcements and successors
 --   labelWord    the label of a state, in a plan of m states
 --   blockOf      the block of a state and symbol, in a plan of m states and k symbols
---   pairAt       a pair of a list, its number below a limit and its code a good one
+--   pairAt       a pair of a list, its number below a limit and its code a good one; pairIn: one of a block
 --   labelOf …    the plan readers, over the words and the view's counts of states and symbols
 use Prim.Native.Nat.{ℕ, zero, suc, _+_, _*_}
 use mathlib.Core.List.{List, [], _∷_}
-use mathlib.Core.Bool.{Bool, _&&_}
+use mathlib.Core.Bool.{Bool, true, false, cond, _&&_}
 use mathlib.Core.Option.{Option, none, some}
 use lib.Dec.{eqb, ltb, leb}
 use lib.ListN.{length, getD, getElem?, drop}
@@ -43,12 +43,12 @@ pairs (suc n) (a ∷ b ∷ ws) = bind (pairs n ws) (λ r. some ((a, b) ∷ r .0,
 abbrev pub pairWords : List (ℕ × ℕ) → List ℕ
 pairWords xs = gather (λ x. x .0 ∷ x .1 ∷ []) xs
 
-unfoldable pub counted : List ℕ → Option (List (ℕ × ℕ) × List ℕ)
-counted [] = none
-counted (n ∷ ws) = pairs n ws
+unfoldable pub countedPairs : List ℕ → Option (List (ℕ × ℕ) × List ℕ)
+countedPairs [] = none
+countedPairs (n ∷ ws) = pairs n ws
 
 unfoldable pub blockAt : List ℕ → Option (List (ℕ × ℕ) × List (ℕ × ℕ))
-blockAt ws = bind (counted ws) (λ a. bind (counted (a .1)) (λ b. some (a .0, b .0)))
+blockAt ws = bind (countedPairs ws) (λ a. bind (countedPairs (a .1)) (λ b. some (a .0, b .0)))
 
 unfoldable pub labelWord : List ℕ → ℕ → ℕ → Option ℕ
 labelWord plan m s = need (ltb s m) (getElem? plan (4 + s))
@@ -80,19 +80,23 @@ toLengths (some b) = block.Of (record { announcements = length (b .0); successor
 unfoldable pub lengthsOf : List ℕ → ℕ → ℕ → ℕ → ℕ → Block
 lengthsOf plan m k s f = toLengths (need (viewGood plan m k) (blockOf plan m k s f))
 
+-- pair i of a block: of its announcements, whose numbers are shapes; or of its successors, whose numbers are states
+unfoldable pub pairIn : Bool → List ℕ → ℕ → ℕ → ℕ → ℕ → ℕ → Option (ℕ × ℕ)
+pairIn nexts plan m k s f i = need (viewGood plan m k) (bind (blockOf plan m k s f) (λ b. cond nexts (pairAt m (b .1) i) (pairAt (getD plan 2 0) (b .0) i)))
+
 abbrev pub toAnnouncement : Option (ℕ × ℕ) → Announcement
 toAnnouncement none = announcement.Refused OutOfRange
 toAnnouncement (some x) = announcement.Of (record { 0 = x .0 }) (position (x .1))
 
 unfoldable pub announcementOf : List ℕ → ℕ → ℕ → ℕ → ℕ → ℕ → Announcement
-announcementOf plan m k s f i = toAnnouncement (need (viewGood plan m k) (bind (blockOf plan m k s f) (λ b. pairAt (getD plan 2 0) (b .0) i)))
+announcementOf plan m k s f i = toAnnouncement (pairIn false plan m k s f i)
 
 abbrev pub toSuccessor : Option (ℕ × ℕ) → Successor
 toSuccessor none = successor.Refused OutOfRange
 toSuccessor (some x) = successor.Of (record { 0 = x .0 }) (position (x .1))
 
 unfoldable pub successorOf : List ℕ → ℕ → ℕ → ℕ → ℕ → ℕ → Successor
-successorOf plan m k s f i = toSuccessor (need (viewGood plan m k) (bind (blockOf plan m k s f) (λ b. pairAt m (b .1) i)))
+successorOf plan m k s f i = toSuccessor (pairIn true plan m k s f i)
 
 -- the answers in document 01's numbers
 abbrev pub labelSays : Label → Says

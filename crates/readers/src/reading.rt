@@ -1,6 +1,7 @@
 ghost use mathlib.Core.Path.{_≡_};
 ghost use Prim.Native.Nat.{ℕ};
-ghost use Rattle.readers.specs.PlanParts.{viewGood, labelOf, lengthsOf, announcementOf, successorOf};
+ghost use Rattle.readers.specs.PlanParts.{viewGood, labelOf, lengthsOf, announcementOf, successorOf, pairIn};
+ghost use Rattle.readers.specs.BlockWords.{pairOf};
 use crate::Announcement;
 use crate::Block;
 use crate::Label;
@@ -67,17 +68,7 @@ pub fn announcement_of(
 ) -> Announcement
     ensures { λ r. ⌜ r ≡ announcementOf (now (words .entry)) states symbols (state .0) (symbol .0) i ⌝ }
 {
-    let good = view_good(words, states, symbols);
-    if !good {
-        return Announcement::Refused(Reason::OutOfRange);
-    }
-    let b = match block_start(words, states, symbols, state, symbol) {
-        Start::Nowhere => {
-            return Announcement::Refused(Reason::OutOfRange);
-        }
-        Start::At(b) => b,
-    };
-    match pair_at(words, b, words[2], i) {
+    match find_pair(words, states, symbols, state, symbol, false, i) {
         Pair::Nothing => Announcement::Refused(Reason::OutOfRange),
         Pair::Of(j, p) => Announcement::Of(Shape(j), p),
     }
@@ -94,20 +85,37 @@ pub fn successor_of(
 ) -> Successor
     ensures { λ r. ⌜ r ≡ successorOf (now (words .entry)) states symbols (state .0) (symbol .0) i ⌝ }
 {
-    let good = view_good(words, states, symbols);
-    if !good {
-        return Successor::Refused(Reason::OutOfRange);
-    }
-    let b = match block_start(words, states, symbols, state, symbol) {
-        Start::Nowhere => {
-            return Successor::Refused(Reason::OutOfRange);
-        }
-        Start::At(b) => b,
-    };
-    let mid = b + 1 + 2 * words[b] as usize;
-    match pair_at(words, mid, states, i) {
+    match find_pair(words, states, symbols, state, symbol, true, i) {
         Pair::Nothing => Successor::Refused(Reason::OutOfRange),
         Pair::Of(s, p) => Successor::Of(State(s), p),
+    }
+}
+
+// Pair i of a block's announcements, or of its successors.
+fn find_pair(
+    words: &[u16],
+    states: u16,
+    symbols: u16,
+    state: State,
+    symbol: Symbol,
+    nexts: bool,
+    i: usize,
+) -> Pair
+    ensures { λ r. ⌜ pairOf r ≡ pairIn nexts (now (words .entry)) states symbols (state .0) (symbol .0) i ⌝ }
+{
+    let good = view_good(words, states, symbols);
+    if !good {
+        return Pair::Nothing;
+    }
+    match block_start(words, states, symbols, state, symbol) {
+        Start::Nowhere => Pair::Nothing,
+        Start::At(b) => {
+            if nexts {
+                let mid = b + 1 + 2 * words[b] as usize;
+                return pair_at(words, mid, states, i);
+            }
+            pair_at(words, b, words[2], i)
+        }
     }
 }
 

@@ -21,7 +21,7 @@ use Rattle.kinds.specs.Positions.{Pos}
 use Rattle.kinds.proofs.ListLaws.{sets-append, from, from-end}
 use Rattle.kinds.specs.declared.Reason.the-variants.{ShortBuffers}
 use Rattle.report.specs.Paths.{childOn, through, pathTo}
-use Rattle.report.specs.Text.{digits, digitsTo, dotted, dottedOn, pathText}
+use Rattle.report.specs.Text.{digits, digitsTo, dotted, pathText}
 use Rattle.kinds.specs.Reasons.{numberOf}
 use Rattle.kinds.specs.declared.Reason.{Reason}
 use Rattle.report.specs.Quoted.{bytes}
@@ -47,17 +47,16 @@ pub text-end : (o t : List ℕ) (at i : ℕ) → length t ≤ i → sets o (at +
 text-end o t at i h = ap (sets o (at + i)) (from-end t i h)
 
 -- ---- child numbers
-pub dotted-is : (i : ℕ) (p : Pos) → pathText (i ∷ p) ≡ digits i ++ dottedOn p
-unfolding pathText dottedOn
-dotted-is i [] = sym (append-nil (digits i))
-dotted-is i (j ∷ p) = ap (λ l. digits i ++ (46 ∷ l)) (dotted-is j p)
+pub dotted-is : (i : ℕ) (p : Pos) → pathText (i ∷ p) ≡ digits i ++ dotted p
+unfolding pathText
+dotted-is i p = refl
 
-pub dotted-next : (p : Pos) (i : ℕ) → i < length p → dottedOn (drop i p) ≡ 46 ∷ (digits (getD p i 0) ++ dottedOn (drop (i + 1) p))
-unfolding dottedOn
+pub dotted-next : (p : Pos) (i : ℕ) → i < length p → dotted (drop i p) ≡ 46 ∷ (digits (getD p i 0) ++ dotted (drop (i + 1) p))
+unfolding dotted
 dotted-next p i h = ap (λ l. gather (λ j. 46 ∷ digits j) l) (from p i h)
 
-pub dotted-end : (p : Pos) (i : ℕ) → length p ≤ i → dottedOn (drop i p) ≡ []
-unfolding dottedOn
+pub dotted-end : (p : Pos) (i : ℕ) → length p ≤ i → dotted (drop i p) ≡ []
+unfolding dotted
 dotted-end p i h = ap (λ l. gather (λ j. 46 ∷ digits j) l) (from-end p i h)
 
 pub digits-short : (n : ℕ) → length (digits n) ≤ 20
@@ -70,8 +69,8 @@ pub record Dots (p : Pos) (o₀ : List ℕ) (a₀ : ℕ) (o : List ℕ) (a i : �
   pub some : 1 ≤ i
   pub inside : i ≤ length p
   pub room : a + 21 * (length p - i) ≤ a₀ + 21 * (length p - 1)
-  pub end : a₀ + length (dottedOn (drop 1 p)) ≡ a + length (dottedOn (drop i p))
-  pub text : sets o₀ a₀ (dottedOn (drop 1 p)) ≡ sets o a (dottedOn (drop i p))
+  pub end : a₀ + length (dotted (drop 1 p)) ≡ a + length (dotted (drop i p))
+  pub text : sets o₀ a₀ (dotted (drop 1 p)) ≡ sets o a (dotted (drop i p))
 
 pub dots-begin : (p : Pos) (o : List ℕ) (a : ℕ) → 1 ≤ length p → Dots p o a o a 1
 dots-begin p o a h = record { long = refl; some = omega arith; inside = h; room = omega arith; end = refl; text = refl }
@@ -82,7 +81,7 @@ unfolding digits
 dots-next {p} {o₀} {o} {a₀} {a} {i} o′ e d h q t =
     let s = dotted-next p i h in
     let few = digits-few 20 (getD p i 0) in
-    let l : length (dottedOn (drop i p)) ≡ suc (length (digitsTo 20 (getD p i 0)) + length (dottedOn (drop (i + 1) p))) = ap length s ∙ ap suc (length-append (digitsTo 20 (getD p i 0)) (dottedOn (drop (i + 1) p))) in
+    let l : length (dotted (drop i p)) ≡ suc (length (digitsTo 20 (getD p i 0)) + length (dotted (drop (i + 1) p))) = ap length s ∙ ap suc (length-append (digitsTo 20 (getD p i 0)) (dotted (drop (i + 1) p))) in
     let r = d .room in let n = d .end in
     record {
       long = ap length t ∙ length-sets (set o a 46) (a + 1) (digitsTo 20 (getD p i 0)) ∙ length-set o a 46 ∙ d .long;
@@ -90,8 +89,8 @@ dots-next {p} {o₀} {o} {a₀} {a} {i} o′ e d h q t =
       inside = omega arith;
       room = omega arith;
       end = omega arith;
-      text = d .text ∙ ap (sets o a) s ∙ ap (λ k. sets (set o a 46) k (digitsTo 20 (getD p i 0) ++ dottedOn (drop (i + 1) p))) (sym (add-one a))
-          ∙ sets-append (set o a 46) (a + 1) (digitsTo 20 (getD p i 0)) (dottedOn (drop (i + 1) p)) ∙ ap₂ (λ x k. sets x k (dottedOn (drop (i + 1) p))) (sym t) (sym q);
+      text = d .text ∙ ap (sets o a) s ∙ ap (λ k. sets (set o a 46) k (digitsTo 20 (getD p i 0) ++ dotted (drop (i + 1) p))) (sym (add-one a))
+          ∙ sets-append (set o a 46) (a + 1) (digitsTo 20 (getD p i 0)) (dotted (drop (i + 1) p)) ∙ ap₂ (λ x k. sets x k (dotted (drop (i + 1) p))) (sym t) (sym q);
     }
 
 pub dots-end : {p : Pos} {o₀ o : List ℕ} {a₀ a i : ℕ} (z : List ℕ) (at : ℕ) → Dots p o₀ a₀ o a i → length p ≤ i
@@ -100,15 +99,15 @@ unfolding digits
 dots-end {p} {o₀} {o} {a₀} {a} {i} z at d h q t =
     let n : length p ≤ i = h in
     let s = dotted-end p i n in
-    let w : pathText p ≡ digitsTo 20 (getD p 0 0) ++ dottedOn (drop 1 p) = whole p (omega (arith, d .some, d .inside)) in
+    let w : pathText p ≡ digitsTo 20 (getD p 0 0) ++ dotted (drop 1 p) = whole p (omega (arith, d .some, d .inside)) in
     let e = d .end in
-    let l : length (dottedOn (drop i p)) ≡ 0 = ap length s in
-    let m : length (pathText p) ≡ length (digitsTo 20 (getD p 0 0)) + length (dottedOn (drop 1 p)) = ap length w ∙ length-append (digitsTo 20 (getD p 0 0)) (dottedOn (drop 1 p)) in (
+    let l : length (dotted (drop i p)) ≡ 0 = ap length s in
+    let m : length (pathText p) ≡ length (digitsTo 20 (getD p 0 0)) + length (dotted (drop 1 p)) = ap length w ∙ length-append (digitsTo 20 (getD p 0 0)) (dotted (drop 1 p)) in (
       omega arith,
-      sym (ap (sets z at) w ∙ sets-append z at (digitsTo 20 (getD p 0 0)) (dottedOn (drop 1 p)) ∙ ap₂ (λ x k. sets x k (dottedOn (drop 1 p))) (sym t) (sym q) ∙ d .text ∙ ap (sets o a) s),
+      sym (ap (sets z at) w ∙ sets-append z at (digitsTo 20 (getD p 0 0)) (dotted (drop 1 p)) ∙ ap₂ (λ x k. sets x k (dotted (drop 1 p))) (sym t) (sym q) ∙ d .text ∙ ap (sets o a) s),
     )
   where
-    whole : (p : Pos) → 1 ≤ length p → pathText p ≡ digits (getD p 0 0) ++ dottedOn (drop 1 p)
+    whole : (p : Pos) → 1 ≤ length p → pathText p ≡ digits (getD p 0 0) ++ dotted (drop 1 p)
     whole [] g = absurd (omega arith)
     whole (j ∷ r) g = dotted-is j r
 
@@ -151,15 +150,15 @@ path-few (suc d) sp x a = go (eqb a x) (childOn sp x 4 (a + 1) 1) (path-few d sp
     go false none ih = omega arith
     go false (some c) ih = let h = ih (c .1) in omega arith
 
-pub dotted-few : (p : Pos) → length (dottedOn p) ≤ 21 * length p
-unfolding dottedOn digits
+pub dotted-few : (p : Pos) → length (dotted p) ≤ 21 * length p
+unfolding dotted digits
 dotted-few [] = omega arith
-dotted-few (i ∷ p) = let ih = dotted-few p in let f = digits-few 20 i in rw (length-append (46 ∷ digitsTo 20 i) (dottedOn p)) (omega arith)
+dotted-few (i ∷ p) = let ih = dotted-few p in let f = digits-few 20 i in rw (length-append (46 ∷ digitsTo 20 i) (dotted p)) (omega arith)
 
 pub text-few : (p : Pos) → length (pathText p) ≤ 21 * length p + 1
 unfolding pathText
 text-few [] = omega arith
-text-few (i ∷ p) = let f = digits-short i in let g = dotted-few p in let e : length (pathText (i ∷ p)) ≡ length (digits i) + length (dottedOn p) = ap length (dotted-is i p) ∙ length-append (digits i) (dottedOn p) in omega arith
+text-few (i ∷ p) = let f = digits-short i in let g = dotted-few p in let e : length (pathText (i ∷ p)) ≡ length (digits i) + length (dotted p) = ap length (dotted-is i p) ∙ length-append (digits i) (dotted p) in omega arith
 
 pub path-end : (p : Pos) (a e : ℕ) → length p ≤ 64 → e ≡ a + length (pathText p) → e ≤ a + 1345
 path-end p a e l h = let f = text-few p in omega arith

@@ -1,5 +1,5 @@
 -- The lines as calls write them into a lent buffer, which must have 1,400 bytes: the longest line fits.
---   Out           an answer, and the buffer as it is then
+--   LineOutcome           an answer, and the buffer as it is then
 --   written       the text at the buffer's start and its length, or 30 for a buffer that is too short
 --   lineOut firstOut refusalOut   a match's line, the first line, a refusal's line
 --   writtenSays   the answer in document 01's numbers
@@ -17,26 +17,26 @@ use Rattle.report.specs.Text.{line, firstLine, refusalText}
 use Rattle.report.specs.declared.Written.{Written}
 use Rattle.report.specs.declared.Written.the-variants.{Bytes, Refused}
 
-pub record Out : Type 0 where
+pub record LineOutcome : Type 0 where
   pub answer : Written
   pub out : List ℕ
 
-abbrev pub outOf : Written → List ℕ → Out
+abbrev pub outOf : Written → List ℕ → LineOutcome
 outOf a o = record { answer = a; out = o }
 
 abbrev pub lineRoom : ℕ
 lineRoom = 1400
 
-unfoldable pub written : List ℕ → List ℕ → Out
+unfoldable pub written : List ℕ → List ℕ → LineOutcome
 written text o = unless (leb lineRoom (length o)) (outOf (Refused ShortBuffers) o) (outOf (Bytes (length text)) (sets o 0 text))
 
-abbrev pub lineOut : List ℕ → ℕ → ℕ → List ℕ → Out
+abbrev pub lineOut : List ℕ → ℕ → ℕ → List ℕ → LineOutcome
 lineOut spans x j o = written (line spans (matchAt x j)) o
 
-abbrev pub firstOut : ℕ → ℕ → ℕ → ℕ → List ℕ → Out
+abbrev pub firstOut : ℕ → ℕ → ℕ → ℕ → List ℕ → LineOutcome
 firstOut n s m c o = written (firstLine n s m c) o
 
-abbrev pub refusalOut : Reason → ℕ → List ℕ → Out
+abbrev pub refusalOut : Reason → ℕ → List ℕ → LineOutcome
 refusalOut r p o = written (refusalText r p) o
 
 abbrev pub writtenSays : Written → Says

@@ -1,7 +1,7 @@
 -- "First line: nodes, states, matches (ones in all marks), clashes. Then one line a match, by node, then shape: node, shape, path in dotted child
 -- numbers, the root as `-`. A refusal prints only `refused N at P`." Every line ends with a line feed; a text is its bytes.
 --   digitsTo      a number in decimal, of at most d digits; digits: of any length that is met
---   dotted        child numbers with dots between
+--   dotted        child numbers, each behind a dot
 --   pathText      a position, the root as `-`
 --   line          one match
 --   firstLine     the four numbers
@@ -33,14 +33,12 @@ digitsTo (suc d) n = cond (ltb n 10) ((48 + n) ∷ []) (digitsTo d (n / 10) ++ (
 unfoldable pub digits : ℕ → List ℕ
 digits n = digitsTo 20 n
 
-abbrev pub dotted : Pos → List ℕ
-dotted [] = []
-dotted (i ∷ []) = digits i
-dotted (i ∷ j ∷ p) = digits i ++ (bytes "." ++ dotted (j ∷ p))
+unfoldable pub dotted : Pos → List ℕ
+dotted p = gather (λ i. bytes "." ++ digits i) p
 
 unfoldable pub pathText : Pos → List ℕ
 pathText [] = bytes "-"
-pathText (i ∷ p) = dotted (i ∷ p)
+pathText (i ∷ p) = digits i ++ dotted p
 
 abbrev pub line : List ℕ → Match → List ℕ
 line spans m = digits (m .node) ++ (bytes " " ++ (digits (m .shape) ++ (bytes " " ++ (pathText (pathTo 64 spans (m .node) 0) ++ bytes "\n"))))
@@ -67,10 +65,6 @@ report spans states marks =
 
 abbrev pub refusalText : Reason → ℕ → List ℕ
 refusalText r p = bytes "refused " ++ (digits (numberOf r) ++ (bytes " at " ++ (digits p ++ bytes "\n")))
-
--- numbers, each behind a dot
-unfoldable pub dottedOn : Pos → List ℕ
-dottedOn p = gather (λ i. 46 ∷ digits i) p
 
 -- a step as what it finds
 abbrev pub stepOf : Step → Option (ℕ × ℕ)

@@ -5,13 +5,14 @@
 --   overAt        6: the first count above 4
 --   symbolsOf     5 and 6
 --   sectionsOf    1 to 6
+--   symbolsAt shapesAt scoreAt   the three sections of a file whose places are known
 use Prim.Native.Nat.{ℕ, _+_, _-_, _%_}
 use mathlib.Core.List.{List, [], _∷_}
 use lib.Dec.{leb, eqb}
-use lib.ListN.{length, getD, take}
+use lib.ListN.{length, getD, take, drop}
 use Rattle.kinds.specs.Lists.{unless}
 use Rattle.kinds.specs.declared.Reason.the-variants.{Short, Long, EndBytes, Trailer, Symbols, Children}
-use Rattle.sections.specs.Bytes.{wordAt}
+use Rattle.sections.specs.Bytes.{wordAt, wordsOf}
 use Rattle.sections.specs.declared.Places.{Places}
 use Rattle.sections.specs.declared.Sections.{Sections}
 use Rattle.sections.specs.declared.Sections.the-variants.{At, Refused}
@@ -49,13 +50,23 @@ symbolsOf ar =
     (unless (leb (length ar) 32) (Bad Symbols 0)
     (overAt 0 ar))
 
+module _ (file : List ℕ) (p : Places) where
+  abbrev pub symbolsAt : List ℕ
+  symbolsAt = take (p .shapes) file
+
+  abbrev pub shapesAt : List ℕ
+  shapesAt = wordsOf (take (p .score - p .shapes) (drop (p .shapes) file))
+
+  abbrev pub scoreAt : List ℕ
+  scoreAt = wordsOf (take (p .end - p .score) (drop (p .score) file))
+
 abbrev pub judged : Verdict → Sections → Sections
 judged Good s = s
 judged (Bad r p) s = Refused r p
 
 abbrev pub withSymbols : List ℕ → Sections → Sections
 withSymbols file (Refused r p) = Refused r p
-withSymbols file (At p) = judged (symbolsOf (take (p .shapes) file)) (At p)
+withSymbols file (At p) = judged (symbolsOf (symbolsAt file p)) (At p)
 
 unfoldable pub sectionsOf : List ℕ → Sections
 sectionsOf file = withSymbols file (trailerOf file)

@@ -27,18 +27,18 @@ pub fn find_sections(file: &[u8]) -> Sections
 }
 
 // Tests 5 and 6.
-pub fn test_symbols(arity: &[u8]) -> Verdict
-    ensures { λ r. ⌜ r ≡ symbolsOf (now (arity .entry)) ⌝ }
+pub fn test_symbols(symbols: &[u8]) -> Verdict
+    ensures { λ r. ⌜ r ≡ symbolsOf (now (symbols .entry)) ⌝ }
 {
-    if arity.len() < 1 {
+    if symbols.len() < 1 {
         return Verdict::Bad(Reason::Symbols, 0);
     }
-    if MOST_SYMBOLS < arity.len() {
+    if MOST_SYMBOLS < symbols.len() {
         return Verdict::Bad(Reason::Symbols, 0);
     }
     let mut i = 0;
-    while i < arity.len() {
-        if 4 < arity[i] {
+    while i < symbols.len() {
+        if 4 < symbols[i] {
             return Verdict::Bad(Reason::Children, i);
         }
         i += 1;

@@ -22,7 +22,8 @@ use Rattle.kinds.specs.Lists.{gather, concat, range, sort}
 use Rattle.kinds.specs.declared.Reason.{Reason}
 use Rattle.kinds.specs.declared.Reason.the-variants.{ManyStates}
 use Rattle.kinds.specs.Positions.{code}
-use Rattle.kinds.proofs.Members.{_∈_, in-one, length-range, perm-length, sort-perm}
+use Rattle.kinds.proofs.Members.{in-one, length-range, perm-length, sort-perm}
+use Rattle.kinds.specs.Members.{_∈_}
 use Rattle.kinds.proofs.ListLaws.{map-append, concat-append, from, from-end, run-whole}
 use Rattle.kinds.proofs.Places.{getElem-some, getD-in, getD-ext, ext-length}
 use Rattle.automaton.specs.Exploring.{Succ, Block, Met, met, Made, refused, meet, meets, row, run, explored}

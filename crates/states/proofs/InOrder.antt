@@ -13,7 +13,8 @@ use lib.Dec.{ltb, eqb}
 use lib.ListN.{length, getD, length-map}
 use Rattle.kinds.specs.Lists.{sort, gather, range}
 use Rattle.kinds.proofs.Bools.{bool-ext}
-use Rattle.kinds.proofs.Members.{_∈_, in-sort}
+use Rattle.kinds.proofs.Members.{in-sort}
+use Rattle.kinds.specs.Members.{_∈_}
 use Rattle.kinds.proofs.ListLaws.{gather-map}
 use Rattle.automaton.specs.Classes.{Square, entry, through, close, leads, rowsFrom}
 use Rattle.automaton.proofs.Closure.{Chain, link, step, chain-join, close-chain}

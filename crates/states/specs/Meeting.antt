@@ -11,7 +11,7 @@ use mathlib.Core.List.{List, _++_, map}
 use Prim.Native.Nat.{ℕ, _+_, _*_, _<_, _≤_}
 use lib.ListN.{length}
 use Rattle.kinds.specs.Lists.{find, concat, orElse}
-use Rattle.kinds.proofs.Members.{_∈_}
+use Rattle.kinds.specs.Members.{_∈_}
 use Rattle.automaton.specs.Exploring.{Succ, Block, Met, stopped, met, Made, refused, made}
 use Rattle.automaton.specs.PlanWords.{blockWords}
 use Rattle.goals.specs.GoalWords.{GoalWords}

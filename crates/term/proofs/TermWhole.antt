@@ -12,7 +12,7 @@ use native.Mathlib.Nat.{add-zero}
 use borrow.Author.Tests.{le-leb, lt-leb}
 use lib.ListN.{length, getD, drop, length-drop}
 use Rattle.kinds.specs.Lists.{gather}
-use Rattle.kinds.proofs.Members.{_∈_, here, there}
+use Rattle.kinds.specs.Members.{_∈_, here, there}
 use Rattle.kinds.proofs.ListLaws.{from}
 use Rattle.kinds.proofs.Places.{at-below, getD-at}
 use Rattle.term.specs.Terms.{Term, blank, node, Terms, tnil, tcons, count, depth, depths, span, spans, flatten, flattens, Fits, Fitss, Read, many, parse, andMore, parseAll}

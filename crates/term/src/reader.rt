@@ -8,10 +8,10 @@ use crate::Met;
 use crate::Reading;
 
 // The term that starts at `at`, at most `left` levels deep: what it was met with, or its first fault in preorder.
-pub fn read_term(arity: &[u8], words: &[u16], limits: Limits, at: usize, left: usize) -> Reading
-    ensures { λ r. ⌜ r ≡ reading (now (arity .entry)) (now (words .entry)) limits left at ⌝ }
+pub fn read_term(symbols: &[u8], words: &[u16], limits: Limits, at: usize, left: usize) -> Reading
+    ensures { λ r. ⌜ r ≡ reading (now (symbols .entry)) (now (words .entry)) limits left at ⌝ }
 {
-    match head(arity, words, limits, at) {
+    match head(symbols, words, limits, at) {
         Count::Bad(f) => {
             return Reading::Refused(f, at);
         }
@@ -22,7 +22,7 @@ pub fn read_term(arity: &[u8], words: &[u16], limits: Limits, at: usize, left: u
             let mut here = at + 1;
             let mut k = 0;
             while k < n {
-                match read_term(arity, words, limits, here, left - 1) {
+                match read_term(symbols, words, limits, here, left - 1) {
                     Reading::Whole(m) => {
                         here = m.end;
                     }
@@ -38,13 +38,13 @@ pub fn read_term(arity: &[u8], words: &[u16], limits: Limits, at: usize, left: u
 }
 
 // The tests at one node that need no depth, in their order; then the number of its children.
-fn head(arity: &[u8], words: &[u16], limits: Limits, at: usize) -> Count
-    ensures { λ r. ⌜ r ≡ headOf (now (arity .entry)) (now (words .entry)) limits at ⌝ }
+fn head(symbols: &[u8], words: &[u16], limits: Limits, at: usize) -> Count
+    ensures { λ r. ⌜ r ≡ headOf (now (symbols .entry)) (now (words .entry)) limits at ⌝ }
 {
     if words.len() <= at {
         return Count::Bad(Fault::Ends);
     }
-    match children(arity, limits.blanks, words[at]) {
+    match children(symbols, limits.blanks, words[at]) {
         Count::Bad(f) => Count::Bad(f),
         Count::Kids(n) => {
             if limits.stop <= at {
@@ -56,15 +56,15 @@ fn head(arity: &[u8], words: &[u16], limits: Limits, at: usize) -> Count
 }
 
 // How many children a word has: a blank none, a symbol as many as its count says.
-fn children(arity: &[u8], blanks: usize, word: u16) -> Count
-    ensures { λ r. ⌜ r ≡ childrenOf (now (arity .entry)) blanks word ⌝ }
+fn children(symbols: &[u8], blanks: usize, word: u16) -> Count
+    ensures { λ r. ⌜ r ≡ childrenOf (now (symbols .entry)) blanks word ⌝ }
 {
     let w = word as usize;
     if blanks <= w {
         return Count::Kids(0);
     }
-    if arity.len() <= w {
+    if symbols.len() <= w {
         return Count::Bad(Fault::NoSymbol);
     }
-    Count::Kids(arity[w] as usize)
+    Count::Kids(symbols[w] as usize)
 }

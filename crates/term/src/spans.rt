@@ -5,8 +5,8 @@ ghost use Rattle.kinds.specs.Lists.{same};
 ghost use Rattle.term.specs.Spans.{over, spansOf};
 
 // Whether `spans` are the spans of `words`, each by its whole length.
-pub fn spans_are(arity: &[u8], words: &[u16], spans: &[u16]) -> bool
-    ensures { λ r. ⌜ r ≡ same (now (spans .entry)) (spansOf (now (arity .entry)) (now (words .entry))) ⌝ }
+pub fn spans_are(symbols: &[u8], words: &[u16], spans: &[u16]) -> bool
+    ensures { λ r. ⌜ r ≡ same (now (spans .entry)) (spansOf (now (symbols .entry)) (now (words .entry))) ⌝ }
 {
     if spans.len() != words.len() {
         return false;
@@ -14,7 +14,7 @@ pub fn spans_are(arity: &[u8], words: &[u16], spans: &[u16]) -> bool
     let mut i = words.len();
     while 0 < i {
         i -= 1;
-        let k = count(arity, words[i]);
+        let k = count(symbols, words[i]);
         let e = skip(spans, i + 1, k);
         if spans[i] as usize != e - i {
             return false;
@@ -40,12 +40,12 @@ pub fn skip(spans: &[u16], at: usize, k: usize) -> usize
 }
 
 // A word's number of children, none where it is no symbol.
-pub fn count(arity: &[u8], word: u16) -> usize
-    ensures { λ r. ⌜ r ≡ getD (now (arity .entry)) word 0 ⌝ }
+pub fn count(symbols: &[u8], word: u16) -> usize
+    ensures { λ r. ⌜ r ≡ getD (now (symbols .entry)) word 0 ⌝ }
 {
     let w = word as usize;
-    if arity.len() <= w {
+    if symbols.len() <= w {
         return 0;
     }
-    arity[w] as usize
+    symbols[w] as usize
 }

@@ -19,15 +19,15 @@ use Rattle.kinds.specs.declared.Reason.the-variants.{ShortBuffers, BadScore}
 use Rattle.kinds.proofs.ListLaws.{onto-sets}
 use Rattle.term.proofs.LawsReading.{head-out, reading-bad}
 use Rattle.contents.specs.Tables.{scoreLimits, scoreLevels}
-use Rattle.lent.specs.Again.{scoreGood}
+use Rattle.checks.specs.Again.{scoreGood}
 use Rattle.contents.proofs.LawsTables.{score-refused}
-use Rattle.lent.proofs.LawsAgain.{score-good-is}
+use Rattle.checks.proofs.LawsAgain.{score-good-is}
 use Rattle.walk.specs.declared.Walked.{Walked}
 use Rattle.walk.specs.declared.Walked.the-variants.{On, Refused}
-use Rattle.walk.specs.Starting.{Walk, Out, walkOf, counting, refuse, goOn, begun, started}
+use Rattle.walk.specs.Starting.{Walk, WalkOutcome, walkOf, counting, refuseWalk, goOn, begun, started}
 
-pub told : (o : Out) (a : Walked) (w : Walk) → o ≡ record { answer = a; walk = w } → (a ≡ o .answer) × ((w .items ≡ o .walk .items) × ((w .log ≡ o .walk .log) × (w .marks ≡ o .walk .marks)))
-told o a w e = (sym (ap (λ (x : Out). x .answer) e), (sym (ap (λ (x : Out). x .walk .items) e), (sym (ap (λ (x : Out). x .walk .log) e), sym (ap (λ (x : Out). x .walk .marks) e))))
+pub told : (o : WalkOutcome) (a : Walked) (w : Walk) → o ≡ record { answer = a; walk = w } → (a ≡ o .answer) × ((w .items ≡ o .walk .items) × ((w .log ≡ o .walk .log) × (w .marks ≡ o .walk .marks)))
+told o a w e = (sym (ap (λ (x : WalkOutcome). x .answer) e), (sym (ap (λ (x : WalkOutcome). x .walk .items) e), (sym (ap (λ (x : WalkOutcome). x .walk .log) e), sym (ap (λ (x : WalkOutcome). x .walk .marks) e))))
 
 pub score-some : (ar ws sp : List ℕ) → scoreGood ar ws sp ≡ true → 1 ≤ length ws
 score-some ar [] sp e =
@@ -38,21 +38,21 @@ score-some ar [] sp e =
 score-some ar (w ∷ ws) sp e = omega arith
 
 module _ (ar score spans : List ℕ) (w : Walk) where
-  pub started-bad : scoreGood ar score spans ≡ false → started ar score spans w ≡ refuse BadScore w
+  pub started-bad : scoreGood ar score spans ≡ false → started ar score spans w ≡ refuseWalk BadScore w
   unfolding started
   started-bad e = rw e
 
   module _ (good : scoreGood ar score spans ≡ true) where
-    pub started-items : length (w .items) < 2 * length score → started ar score spans w ≡ refuse ShortBuffers w
+    pub started-items : length (w .items) < 2 * length score → started ar score spans w ≡ refuseWalk ShortBuffers w
     unfolding started
     started-items h = rw (good, lt-leb _ _ h)
 
     module _ (fits : 2 * length score ≤ length (w .items)) where
-      pub started-log : length (w .log) < length score → started ar score spans w ≡ refuse ShortBuffers w
+      pub started-log : length (w .log) < length score → started ar score spans w ≡ refuseWalk ShortBuffers w
       unfolding started
       started-log h = rw (good, le-leb _ _ fits, lt-leb _ _ h)
 
-      pub started-marks : length score ≤ length (w .log) → length (w .marks) < length score → started ar score spans w ≡ refuse ShortBuffers w
+      pub started-marks : length score ≤ length (w .log) → length (w .marks) < length score → started ar score spans w ≡ refuseWalk ShortBuffers w
       unfolding started
       started-marks h l = rw (good, le-leb _ _ fits, le-leb _ _ h, lt-leb _ _ l)
 

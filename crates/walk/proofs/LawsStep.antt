@@ -29,12 +29,12 @@ use Rattle.following.specs.Following.{target}
 use Rattle.following.proofs.LawsFollowing.{target-in}
 use Rattle.readers.specs.declared.Label.the-variants as label
 use Rattle.readers.specs.PlanParts.{countsGood, pairs, pairWords, labelWord, toLabel, blockOf}
-use Rattle.walk.specs.Starting.{Walk, walkOf, counting, refuse, goOn}
+use Rattle.walk.specs.Starting.{Walk, walkOf, counting, refuseWalk, goOn}
 use Rattle.walk.specs.declared.Record.{Record}
 use Rattle.walk.specs.declared.Walked.{Walked}
 use Rattle.walk.specs.declared.Walked.the-variants.{On, Refused}
 use Rattle.walk.proofs.LawsStart.{told}
-use Rattle.walk.specs.Stepping.{Found, look, onward, roomy, moved, tried, orRefuse, stepped}
+use Rattle.walk.specs.Stepping.{Finding, look, onward, roomy, moved, tried, orRefuse, stepped}
 use Rattle.queue.specs.Targets.{targets, marked}
 use Rattle.walk.specs.ByIndex.{lookHead, leadsFine, roomLeft, sighted}
 use Rattle.queue.specs.Targets.{fine, landed, closedUp}
@@ -46,17 +46,17 @@ use Rattle.queue.proofs.LawsTargets.{all-wider, fine-split, fine-fail, fine-sma
 
 -- ---- the refusals that need no look
 module _ (plan score spans : List ℕ) (i : ℕ) (w : Walk) where
-  pub step-32 : w .count .waiting ≤ i → stepped plan score spans i w ≡ refuse NoSuchItem w
+  pub step-32 : w .count .waiting ≤ i → stepped plan score spans i w ≡ refuseWalk NoSuchItem w
   unfolding stepped
   step-32 h = rw (le-ltb _ _ h)
 
-  pub step-few : i < w .count .waiting → length (w .items) < 2 * w .count .waiting → stepped plan score spans i w ≡ refuse OutOfRange w
+  pub step-few : i < w .count .waiting → length (w .items) < 2 * w .count .waiting → stepped plan score spans i w ≡ refuseWalk OutOfRange w
   unfolding stepped tried
   step-few h l = rw (lt-ltb _ _ h, pairs-none (w .count .waiting) (w .items) l)
 
 -- ---- the look
 module _ (plan score spans : List ℕ) (it : ℕ × ℕ) where
-  abbrev rest : ℕ × ℕ → Option Found
+  abbrev rest : ℕ × ℕ → Option Finding
   rest h =
       bind (targets (getD plan 2 0) (target (length score) spans (it .1)) (outsAt plan (h .1))) (λ os.
       bind (targets (getD plan 0 0) (target (length score) spans (it .1)) (nextsAt plan (h .1))) (λ ns.
@@ -70,7 +70,7 @@ module _ (plan score spans : List ℕ) (it : ℕ × ℕ) where
       bind-along (target (length score) spans (it .1) c) _ _ rest (λ x.
       bind-along (getElem? score x) _ _ rest (λ f. block x f))))
     where
-      from : ℕ → List (ℕ × ℕ) × List (ℕ × ℕ) → Option Found
+      from : ℕ → List (ℕ × ℕ) × List (ℕ × ℕ) → Option Finding
       from x b =
           bind (targets (getD plan 2 0) (target (length score) spans (it .1)) (b .0)) (λ os.
           bind (targets (getD plan 0 0) (target (length score) spans (it .1)) (b .1)) (λ ns.
@@ -224,7 +224,7 @@ module _ (plan score spans : List ℕ) (i : ℕ) (w : Walk) (h : i < w .count .w
   its = pairList (w .items) 0 (w .count .waiting)
 
   -- what is found, put to use
-  abbrev then : Found → Option Walk
+  abbrev then : Finding → Option Walk
   then found = need (roomy w found (onward i its (found .nexts))) (some (moved w found (onward i its (found .nexts))))
 
   step-by : stepped plan score spans i w ≡ orRefuse w (bind (look plan score spans item) then)
@@ -235,7 +235,7 @@ module _ (plan score spans : List ℕ) (i : ℕ) (w : Walk) (h : i < w .count .w
       let q : getElem? its i ≡ some item = pairList-at (w .count .waiting) (w .items) 0 i h ∙ ap (λ (k : ℕ). some (getD (w .items) k 0, getD (w .items) (k + 1) 0)) z in
       rw (lt-ltb _ _ h, p, q)
 
-  pub step-nothing : lookHead plan score spans item ≡ none → stepped plan score spans i w ≡ refuse OutOfRange w
+  pub step-nothing : lookHead plan score spans item ≡ none → stepped plan score spans i w ≡ refuseWalk OutOfRange w
   step-nothing e = step-by ∙ rw (look-head plan score spans item, e)
 
   module _ (x b : ℕ) (e : lookHead plan score spans item ≡ some (x, b)) where
@@ -248,11 +248,11 @@ module _ (plan score spans : List ℕ) (i : ℕ) (w : Walk) (h : i < w .count .w
     abbrev nexts : List (ℕ × ℕ)
     nexts = landed to (nextsAt plan b)
 
-    abbrev found : Found
+    abbrev found : Finding
     found = record { node = x; outs = outs; nexts = nexts }
 
     step-found : stepped plan score spans i w ≡ orRefuse w (bind (rest plan score spans item (x, b)) then)
-    step-found = step-by ∙ ap (λ (o : Option Found). orRefuse w (bind o then)) (look-head plan score spans item ∙ ap (λ (o : Option (ℕ × ℕ)). bind o (rest plan score spans item)) e)
+    step-found = step-by ∙ ap (λ (o : Option Finding). orRefuse w (bind o then)) (look-head plan score spans item ∙ ap (λ (o : Option (ℕ × ℕ)). bind o (rest plan score spans item)) e)
 
     after-many : length (onward i its nexts) ≡ w .count .waiting - 1 + getD plan (middle plan b) 0
     after-many =
@@ -320,19 +320,19 @@ module _ (plan score spans : List ℕ) (i : ℕ) (w : Walk) (h : i < w .count .w
     bad-left l k = bad-room (and-l _ l) (and-r (all (fine (getD plan 2 0) (length (w .marks)) to) (outsAt plan b)) l) k
 
   -- no step without a sight
-  pub step-unseen : sighted plan score spans (w .items) (length (w .log)) (length (w .marks)) (w .count) i ≡ none → stepped plan score spans i w ≡ refuse OutOfRange w
+  pub step-unseen : sighted plan score spans (w .items) (length (w .log)) (length (w .marks)) (w .count) i ≡ none → stepped plan score spans i w ≡ refuseWalk OutOfRange w
   unfolding sighted
   step-unseen e = go (lookHead plan score spans item) refl (rw (le-leb _ _ g) at e)
     where
       left : (x b : ℕ) → lookHead plan score spans item ≡ some (x, b) → (l m : Bool) → leadsFine plan (length score) spans (getD (w .items) (2 * i + 1) 0) b (length (w .marks)) ≡ l
-          → roomLeft plan b (length (w .items)) (length (w .log)) (w .count) ≡ m → need {A = ℕ × ℕ × ℕ} l (need m (some (getD (w .items) (2 * i + 1) 0, x, b))) ≡ none → stepped plan score spans i w ≡ refuse OutOfRange w
+          → roomLeft plan b (length (w .items)) (length (w .log)) (w .count) ≡ m → need {A = ℕ × ℕ × ℕ} l (need m (some (getD (w .items) (2 * i + 1) 0, x, b))) ≡ none → stepped plan score spans i w ≡ refuseWalk OutOfRange w
       left x b eh true true el em d = none-not (sym d)
       left x b eh true false el em d = step-found x b eh ∙ ap (orRefuse w) (bad-left x b eh el em)
       left x b eh false m el em d = step-found x b eh ∙ ap (orRefuse w) (bad-leads x b eh el)
 
       go : (o : Option (ℕ × ℕ)) → lookHead plan score spans item ≡ o
           → bind o (λ h. need {A = ℕ × ℕ × ℕ} (leadsFine plan (length score) spans (getD (w .items) (2 * i + 1) 0) (h .1) (length (w .marks))) (need (roomLeft plan (h .1) (length (w .items)) (length (w .log)) (w .count)) (some (getD (w .items) (2 * i + 1) 0, h .0, h .1)))) ≡ none
-          → stepped plan score spans i w ≡ refuse OutOfRange w
+          → stepped plan score spans i w ≡ refuseWalk OutOfRange w
       go none eh d = step-nothing eh
       go (some h) eh d = left (h .0) (h .1) eh (leadsFine plan (length score) spans (getD (w .items) (2 * i + 1) 0) (h .1) (length (w .marks))) (roomLeft plan (h .1) (length (w .items)) (length (w .log)) (w .count)) refl refl d
 

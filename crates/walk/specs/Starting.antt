@@ -1,7 +1,7 @@
 -- "Start clears n mark words and sets one waiting item, state 0 at node 0. The record answered counts items waiting and logged nodes."
 --   Walk         all that a walk is lent and hands back, and its record
---   Out          an answer, and the walk as it is then
---   refuse       a refusal changes nothing
+--   WalkOutcome          an answer, and the walk as it is then
+--   refuseWalk       a refusal changes nothing
 --   begun        one item waiting, n marks clear
 --   started      31 before 30
 --   walkedSays   the answer in document 01's numbers
@@ -14,7 +14,7 @@ use Rattle.kinds.specs.Lists.{unless, onto}
 use Rattle.kinds.specs.Reasons.{Says, gives, refuses}
 use Rattle.kinds.specs.declared.Reason.{Reason}
 use Rattle.kinds.specs.declared.Reason.the-variants.{ShortBuffers, BadScore}
-use Rattle.lent.specs.Again.{scoreGood}
+use Rattle.checks.specs.Again.{scoreGood}
 use Rattle.walk.specs.declared.Record.{Record}
 use Rattle.walk.specs.declared.Walked.{Walked}
 use Rattle.walk.specs.declared.Walked.the-variants.{On, Refused}
@@ -25,7 +25,7 @@ pub record Walk : Type 0 where
   pub marks : List ℕ
   pub count : Record
 
-pub record Out : Type 0 where
+pub record WalkOutcome : Type 0 where
   pub answer : Walked
   pub walk : Walk
 
@@ -35,10 +35,10 @@ counting w l = record { waiting = w; logged = l }
 abbrev pub walkOf : List ℕ → List ℕ → List ℕ → Record → Walk
 walkOf items log marks count = record { items = items; log = log; marks = marks; count = count }
 
-abbrev pub refuse : Reason → Walk → Out
-refuse r w = record { answer = Refused r; walk = w }
+abbrev pub refuseWalk : Reason → Walk → WalkOutcome
+refuseWalk r w = record { answer = Refused r; walk = w }
 
-abbrev pub goOn : Walk → Out
+abbrev pub goOn : Walk → WalkOutcome
 goOn w = record { answer = On (w .count); walk = w }
 
 abbrev pub begun : ℕ → Walk → Walk
@@ -48,10 +48,10 @@ abbrev pub roomFor : ℕ → Walk → Bool
 roomFor n w = leb (2 * n) (length (w .items)) && (leb n (length (w .log)) && leb n (length (w .marks)))
 
 -- the record that the walk had before is not looked at
-unfoldable pub started : List ℕ → List ℕ → List ℕ → Walk → Out
+unfoldable pub started : List ℕ → List ℕ → List ℕ → Walk → WalkOutcome
 started ar score spans w =
-    unless (scoreGood ar score spans) (refuse BadScore w)
-    (unless (roomFor (length score) w) (refuse ShortBuffers w)
+    unless (scoreGood ar score spans) (refuseWalk BadScore w)
+    (unless (roomFor (length score) w) (refuseWalk ShortBuffers w)
     (goOn (begun (length score) w)))
 
 abbrev pub walkedSays : Walked → Says

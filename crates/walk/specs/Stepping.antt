@@ -1,5 +1,5 @@
 -- A step over any words: document 01, "The walk". "Step: 32 before 34." Each condition of 34 is a named test or a reader that may find nothing.
---   Found     what an item finds: the node read, what is announced where, what goes on where
+--   Finding     what an item finds: the node read, what is announced where, what goes on where
 --   look      "The node at the item's node followed by the state's label is read"
 --   onward    "A step takes item i; later ones close up. Successors are appended in block order."
 --   roomy     "the log has room for one more, the waiting list for all items before and after the step, and every place named exists in its buffer"
@@ -22,15 +22,15 @@ use Rattle.walk.specs.declared.Walked.{Walked}
 use Rattle.walk.specs.declared.Walked.the-variants.{On, Refused}
 use Rattle.queue.specs.Targets.{targets, marked}
 use Rattle.readers.specs.PlanParts.{countsGood, pairs, pairWords, labelWord, blockOf}
-use Rattle.walk.specs.Starting.{Walk, Out, walkOf, counting, refuse, goOn}
+use Rattle.walk.specs.Starting.{Walk, WalkOutcome, walkOf, counting, refuseWalk, goOn}
 
-pub record Found : Type 0 where
+pub record Finding : Type 0 where
   pub node : ℕ
   pub outs : List (ℕ × ℕ)
   pub nexts : List (ℕ × ℕ)
 
 -- an item is a state and a node
-unfoldable pub look : List ℕ → List ℕ → List ℕ → ℕ × ℕ → Option Found
+unfoldable pub look : List ℕ → List ℕ → List ℕ → ℕ × ℕ → Option Finding
 look plan score spans it =
     let m = getD plan 0 0 in
     let to : ℕ → Option ℕ = target (length score) spans (it .1) in
@@ -47,13 +47,13 @@ look plan score spans it =
 abbrev pub onward : ℕ → List (ℕ × ℕ) → List (ℕ × ℕ) → List (ℕ × ℕ)
 onward i its ns = take i its ++ (drop (suc i) its ++ ns)
 
-abbrev pub roomy : Walk → Found → List (ℕ × ℕ) → Bool
+abbrev pub roomy : Walk → Finding → List (ℕ × ℕ) → Bool
 roomy w found its =
     ltb (w .count .logged) (length (w .log))
     && (leb (2 * length its) (length (w .items))
     && all (λ x. ltb (x .1) (length (w .marks))) (found .outs))
 
-abbrev pub moved : Walk → Found → List (ℕ × ℕ) → Walk
+abbrev pub moved : Walk → Finding → List (ℕ × ℕ) → Walk
 moved w found its =
     walkOf (onto (pairWords its) (w .items)) (set (w .log) (w .count .logged) (found .node)) (marked (found .outs) (w .marks))
     (counting (length its) (suc (w .count .logged)))
@@ -66,14 +66,14 @@ tried plan score spans i w =
     need (roomy w found (onward i (its .0) (found .nexts)))
     (some (moved w found (onward i (its .0) (found .nexts)))))))
 
-abbrev pub orRefuse : Walk → Option Walk → Out
-orRefuse w none = refuse OutOfRange w
+abbrev pub orRefuse : Walk → Option Walk → WalkOutcome
+orRefuse w none = refuseWalk OutOfRange w
 orRefuse w (some v) = goOn v
 
-unfoldable pub stepped : List ℕ → List ℕ → List ℕ → ℕ → Walk → Out
+unfoldable pub stepped : List ℕ → List ℕ → List ℕ → ℕ → Walk → WalkOutcome
 stepped plan score spans i w =
-    let go : Out = orRefuse w (tried plan score spans i w) in
-    cond (ltb i (w .count .waiting)) go (refuse NoSuchItem w)
+    let go : WalkOutcome = orRefuse w (tried plan score spans i w) in
+    cond (ltb i (w .count .waiting)) go (refuseWalk NoSuchItem w)
 
 unfoldable pub run : List ℕ → List ℕ → List ℕ → List ℕ → Walk → Walk
 run plan score spans [] w = w

@@ -6,7 +6,7 @@ ghost use Rattle.walk.specs.Starting.{started, walkOf, counting};
 use crate::Record;
 use crate::Walked;
 use kinds::Reason;
-use lent::checking::score_good;
+use checks::checking::score_good;
 
 // State 0 at node 0 waits, and no mark is set.
 pub fn start(

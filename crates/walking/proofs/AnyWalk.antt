@@ -23,7 +23,8 @@ use Rattle.kinds.specs.Positions.{Pos}
 use Rattle.kinds.specs.declared.Reason.the-variants.{NoSuchItem, OutOfRange}
 use Rattle.kinds.proofs.BitLaws.{bits-same}
 use Rattle.kinds.proofs.Options.{on-bind}
-use Rattle.kinds.proofs.Members.{_∈_, on-map, map-in, Distinct, distinct-map}
+use Rattle.kinds.proofs.Members.{on-map, map-in, Distinct, distinct-map}
+use Rattle.kinds.specs.Members.{_∈_}
 use Rattle.kinds.proofs.ListLaws.{none-left}
 use Rattle.term.specs.Terms.{Term, span}
 use Rattle.term.specs.Places.{sub, hd, headAt, Matches, number}
@@ -36,9 +37,9 @@ use Rattle.automaton.proofs.Counts.{read-all}
 use Rattle.automaton.proofs.Walks as walks
 use Rattle.walk.specs.declared.Record.{Record}
 use Rattle.walk.specs.declared.Walked.the-variants.{On, Refused}
-use Rattle.walk.specs.Starting.{Walk, Out, refuse, begun}
-use Rattle.walk.specs.Stepping.{Found, look}
-use Rattle.walking.specs.OneFolio.{OneFolio, planIn, scoreIn, spansIn, Lent, stepIn, walkIn, acceptedIn}
+use Rattle.walk.specs.Starting.{Walk, WalkOutcome, refuseWalk, begun}
+use Rattle.walk.specs.Stepping.{Finding, look}
+use Rattle.walking.specs.OneFolio.{OneFolio, planIn, scoreIn, spansIn, EnoughLent, stepIn, walkIn, acceptedIn}
 use Rattle.walking.proofs.Tied.{posItem, Tied}
 use Rattle.walking.proofs.TiedRuns.{begun-tied, Stepping, moves, refuses, stepping, run-tied, run-logged}
 
@@ -52,12 +53,12 @@ module _ {C : Scored} (F : OneFolio C) where
   -- what a step finds in the words: its announcements differ, and the bit of each was clear
   pub record Clear (v : Walk) : Type 0 where
     pub item : ℕ × ℕ
-    pub found : Found
+    pub found : Finding
     pub saw : look (planIn F) (scoreIn F) (spansIn F) item ≡ some found
     pub clear : (x : ℕ × ℕ) → x ∈ found .outs → bit (getD (v .marks) (x .1) 0) (x .0) ≡ 0
     pub apart : Distinct (found .outs)
 
-  module _ (w : Walk) (lent : Lent F w) (choices : List ℕ) where
+  module _ (w : Walk) (lent : EnoughLent F w) (choices : List ℕ) where
     abbrev W : Walk
     W = walkIn F choices w
 
@@ -74,16 +75,16 @@ module _ {C : Scored} (F : OneFolio C) where
         other z = let y : _≡_ {A = ℕ} 0 1 = cc in omega arith
 
         go : Stepping F W i → ⊥
-        go (moves h n d) = other (sym (ap (λ (o : Out). o .answer) d) ∙ e)
+        go (moves h n d) = other (sym (ap (λ (o : WalkOutcome). o .answer) d) ∙ e)
         go (refuses h d) =
-            let z : Refused NoSuchItem ≡ Refused OutOfRange = sym (ap (λ (o : Out). o .answer) d) ∙ e in
+            let z : Refused NoSuchItem ≡ Refused OutOfRange = sym (ap (λ (o : WalkOutcome). o .answer) d) ∙ e in
             let y : _≡_ {A = ℕ} 0 1 = cc in
             omega arith
 
-    pub refused-32 : (i : ℕ) → walkIn F choices w .count .waiting ≤ i → stepIn F i (walkIn F choices w) ≡ refuse NoSuchItem (walkIn F choices w)
+    pub refused-32 : (i : ℕ) → walkIn F choices w .count .waiting ≤ i → stepIn F i (walkIn F choices w) ≡ refuseWalk NoSuchItem (walkIn F choices w)
     refused-32 i l = go (step-is i)
       where
-        go : Stepping F W i → stepIn F i W ≡ refuse NoSuchItem W
+        go : Stepping F W i → stepIn F i W ≡ refuseWalk NoSuchItem W
         go (moves h n d) = absurd (omega arith)
         go (refuses h d) = d
 
@@ -98,7 +99,7 @@ module _ {C : Scored} (F : OneFolio C) where
     one-logged i l = go (step-is i)
       where
         go : Stepping F W i → stepIn F i W .walk .count .logged ≡ suc (W .count .logged)
-        go (moves h n d) = ap (λ (o : Out). o .walk .count .logged) d ∙ n .one-more
+        go (moves h n d) = ap (λ (o : WalkOutcome). o .walk .count .logged) d ∙ n .one-more
         go (refuses h d) = absurd (omega arith)
 
     pub bits-clear : (i : ℕ) → i < walkIn F choices w .count .waiting → Clear (walkIn F choices w)
@@ -198,7 +199,7 @@ module _ {C : Scored} (F : OneFolio C) where
         (in-log (p .0) n (p .1)) .1 (read-all C (walked-invariant C (finished done)) (p .0) (u .0) (u .1))
 
   -- whatever was chosen, and whatever the buffers held before
-  pub same-marks : (w : Walk) → Lent F w → (choices : List ℕ) (w′ : Walk) → Lent F w′ → (choices′ : List ℕ) → walkIn F choices w .count .waiting ≡ 0 → walkIn F choices′ w′ .count .waiting ≡ 0
+  pub same-marks : (w : Walk) → EnoughLent F w → (choices : List ℕ) (w′ : Walk) → EnoughLent F w′ → (choices′ : List ℕ) → walkIn F choices w .count .waiting ≡ 0 → walkIn F choices′ w′ .count .waiting ≡ 0
       → (n : ℕ) → n < span t → getD (walkIn F choices w .marks) n 0 ≡ getD (walkIn F choices′ w′ .marks) n 0
   same-marks w lent choices w′ lent′ choices′ e e′ n h =
       let p = node-at t n h in

@@ -6,6 +6,7 @@ use mathlib.Core.List.{List}
 use Prim.Native.Nat.{ℕ}
 use native.Mathlib.Omega.{arith}
 use lib.ListN.{length}
+use Rattle.kinds.proofs.Places.{at-in}
 use Rattle.term.specs.Terms.{Term}
 use Rattle.contents.specs.Tables.{blankWord, noBlank}
 use Rattle.folio.specs.Folio.{Folio}
@@ -25,12 +26,12 @@ module _ {ar : List ℕ} {shapes : List Term} {score : Term} (folio : Folio ar s
     counts = ar;
     shapes = shapes;
     blanks = blankWord;
-    children = folio .children;
+    children = folio .symbols .children;
     some-shape = folio .some-shape;
     few-shapes = folio .few-shapes;
-    fits = λ i x e. (folio .is-shape i x e) .fits;
-    flat = λ i x e. (folio .is-shape i x e) .flat;
-    solid = λ i x e. solid-node x ((folio .is-shape i x e) .solid);
+    fits = λ i x e. (folio .are-shapes x (at-in shapes i e)) .fits;
+    flat = λ i x e. (folio .are-shapes x (at-in shapes i e)) .flat;
+    solid = λ i x e. solid-node x ((folio .are-shapes x (at-in shapes i e)) .solid);
   }
 
   abbrev pub scoredOf : Scored
@@ -39,4 +40,4 @@ module _ {ar : List ℕ} {shapes : List Term} {score : Term} (folio : Folio ar s
   pub on-plan {κ} : {Z : Type κ} (room m : ℕ) (w : List ℕ) → planned (construction (paper shapes)) ar (length shapes) room ≡ plan-of m w
       → ((F : OneFolio scoredOf) → m ≡ length (F .states) → w ≡ planIn F → Z) → Z
   on-plan room m w e k = on-planned (construction (bare shapes)) ar (length shapes) room m w (sym (same-plan ar shapes (length shapes) room) ∙ e) λ states blocks ex em ew.
-      k (record { few-symbols = folio .few-symbols; few-nodes = (let n = folio .is-score .small in omega arith); states = states; blocks = blocks; is-explored = ex }) em ew
+      k (record { few-symbols = folio .symbols .few-symbols; few-nodes = (let n = folio .is-score .small in omega arith); states = states; blocks = blocks; is-explored = ex }) em ew

@@ -20,12 +20,12 @@ use Rattle.kinds.specs.declared.Reason.the-variants.{ShortBuffers, BadScore, No
 use Rattle.kinds.proofs.Bools.{and-l, and-r, leb-is, ltb-not}
 use Rattle.kinds.proofs.Options.{on-bind, on-need}
 use Rattle.kinds.proofs.ListLaws.{length-onto, drop-onto}
-use Rattle.lent.specs.Again.{scoreGood}
+use Rattle.checks.specs.Again.{scoreGood}
 use Rattle.walk.specs.declared.Record.{Record}
 use Rattle.walk.specs.declared.Walked.the-variants.{On, Refused}
 use Rattle.readers.specs.PlanParts.{pairs, pairWords}
-use Rattle.walk.specs.Starting.{Walk, Out, walkOf, refuse, goOn, begun, roomFor, started}
-use Rattle.walk.specs.Stepping.{Found, look, onward, roomy, moved, tried, stepped}
+use Rattle.walk.specs.Starting.{Walk, WalkOutcome, walkOf, refuseWalk, goOn, begun, roomFor, started}
+use Rattle.walk.specs.Stepping.{Finding, look, onward, roomy, moved, tried, stepped}
 use Rattle.readers.proofs.LawsPairs.{pairWords-length}
 use Rattle.walking.proofs.MarkLaws.{marked-length}
 
@@ -34,7 +34,7 @@ not-refused e = let z : _≡_ {A = ℕ} 0 1 = cc in absurd (omega arith)
 
 module _ (plan score spans : List ℕ) (i : ℕ) (w : Walk) where
   on-tried {κ} : {Z : Type κ} (v : Walk) → tried plan score spans i w ≡ some v
-      → ((its : List (ℕ × ℕ)) (found : Found) → roomy w found (onward i its (found .nexts)) ≡ true → v ≡ moved w found (onward i its (found .nexts)) → Z) → Z
+      → ((its : List (ℕ × ℕ)) (found : Finding) → roomy w found (onward i its (found .nexts)) ≡ true → v ≡ moved w found (onward i its (found .nexts)) → Z) → Z
   unfolding tried
   on-tried v e k =
       on-bind (pairs (w .count .waiting) (w .items)) _ e λ its e₁ d₁.
@@ -46,8 +46,8 @@ module _ (plan score spans : List ℕ) (i : ℕ) (w : Walk) where
 
   pub data Cases : Type 0 where
     is-taken : (v : Walk) → tried plan score spans i w ≡ some v → stepped plan score spans i w ≡ goOn v → Cases
-    is-34 : tried plan score spans i w ≡ none → stepped plan score spans i w ≡ refuse OutOfRange w → Cases
-    is-32 : w .count .waiting ≤ i → stepped plan score spans i w ≡ refuse NoSuchItem w → Cases
+    is-34 : tried plan score spans i w ≡ none → stepped plan score spans i w ≡ refuseWalk OutOfRange w → Cases
+    is-32 : w .count .waiting ≤ i → stepped plan score spans i w ≡ refuseWalk NoSuchItem w → Cases
 
   pub cases : Cases
   unfolding stepped
@@ -62,20 +62,20 @@ module _ (plan score spans : List ℕ) (i : ℕ) (w : Walk) where
   step-refusal-keeps r e = go cases
     where
       go : Cases → stepped plan score spans i w .walk ≡ w
-      go (is-taken v d h) = not-refused (sym (ap (λ (o : Out). o .answer) h) ∙ e)
-      go (is-34 d h) = ap (λ (o : Out). o .walk) h
-      go (is-32 l h) = ap (λ (o : Out). o .walk) h
+      go (is-taken v d h) = not-refused (sym (ap (λ (o : WalkOutcome). o .answer) h) ∙ e)
+      go (is-34 d h) = ap (λ (o : WalkOutcome). o .walk) h
+      go (is-32 l h) = ap (λ (o : WalkOutcome). o .walk) h
 
   pub step-counts : (c : Record) → stepped plan score spans i w .answer ≡ On c → c ≡ stepped plan score spans i w .walk .count
   step-counts c e = go cases
     where
       go : Cases → c ≡ stepped plan score spans i w .walk .count
       go (is-taken v d h) =
-          let z : On c ≡ On (v .count) = sym e ∙ ap (λ (o : Out). o .answer) h in
+          let z : On c ≡ On (v .count) = sym e ∙ ap (λ (o : WalkOutcome). o .answer) h in
           let y : c ≡ v .count = cc in
-          y ∙ sym (ap (λ (o : Out). o .walk .count) h)
-      go (is-34 d h) = not-refused (sym e ∙ ap (λ (o : Out). o .answer) h)
-      go (is-32 l h) = not-refused (sym e ∙ ap (λ (o : Out). o .answer) h)
+          y ∙ sym (ap (λ (o : WalkOutcome). o .walk .count) h)
+      go (is-34 d h) = not-refused (sym e ∙ ap (λ (o : WalkOutcome). o .answer) h)
+      go (is-32 l h) = not-refused (sym e ∙ ap (λ (o : WalkOutcome). o .answer) h)
 
   pub record Kept (v : Walk) : Type 0 where
     pub items-long : length (v .items) ≡ length (w .items)
@@ -87,7 +87,7 @@ module _ (plan score spans : List ℕ) (i : ℕ) (w : Walk) where
   pub taken-keeps : (v : Walk) → tried plan score spans i w ≡ some v → Kept v
   taken-keeps v e = on-tried v e λ its found t z. rw z (go (onward i its (found .nexts)) found t)
     where
-      go : (ns : List (ℕ × ℕ)) (found : Found) → roomy w found ns ≡ true → Kept (moved w found ns)
+      go : (ns : List (ℕ × ℕ)) (found : Finding) → roomy w found ns ≡ true → Kept (moved w found ns)
       go ns found t =
           let r : leb (2 * length ns) (length (w .items)) ≡ true = and-l (all (λ x. ltb (x .1) (length (w .marks))) (found .outs)) (and-r (ltb (w .count .logged) (length (w .log))) t) in
           let h = leb-is (2 * length ns) (length (w .items)) r in
@@ -122,8 +122,8 @@ module _ (ar score spans : List ℕ) where
   unfolding started
   start-any items log marks c d = go (scoreGood ar score spans) (roomFor (length score) (walkOf items log marks c))
     where
-      tell : Bool → Bool → Record → Out
-      tell a b r = unless a (refuse BadScore (walkOf items log marks r)) (unless b (refuse ShortBuffers (walkOf items log marks r)) (goOn (begun (length score) (walkOf items log marks r))))
+      tell : Bool → Bool → Record → WalkOutcome
+      tell a b r = unless a (refuseWalk BadScore (walkOf items log marks r)) (unless b (refuseWalk ShortBuffers (walkOf items log marks r)) (goOn (begun (length score) (walkOf items log marks r))))
 
       go : (a b : Bool) → (tell a b c .answer ≡ tell a b d .answer) × (tell a b c .walk .items ≡ tell a b d .walk .items) × (tell a b c .walk .log ≡ tell a b d .walk .log) × (tell a b c .walk .marks ≡ tell a b d .walk .marks)
       go false b = (refl, refl, refl, refl)

@@ -11,7 +11,7 @@ use lib.ListN.{length, getD, set, length-set}
 use lib.Seq.{getD-set-same, getD-set-other}
 use Rattle.kinds.specs.Bits.{bit, withBit}
 use Rattle.kinds.proofs.BitLaws.{bit-same, bit-other}
-use Rattle.kinds.proofs.Members.{_∈_, here, there}
+use Rattle.kinds.specs.Members.{_∈_, here, there}
 use Rattle.queue.specs.Targets.{marked}
 
 -- a bit and a node

@@ -19,7 +19,7 @@ use Rattle.kinds.proofs.Places.{at-below, at-left, at-map, getElem-some}
 use Rattle.automaton.specs.Goals.{Announcement}
 use Rattle.automaton.specs.Exploring.{Construction, Succ, Block, Made, refused, made, explored}
 use Rattle.automaton.specs.PlanWords.{blockWords, startsFrom, too-long, plan-of, planWords, toPlan, planned}
-use Rattle.readers.specs.PlanParts.{countsGood, pairs, counted, blockAt, labelWord, blockOf}
+use Rattle.readers.specs.PlanParts.{countsGood, pairs, countedPairs, blockAt, labelWord, blockOf}
 
 -- ---- a block at the head of the words
 pairs-of : {A : Type 0} (F G : A → ℕ) (xs : List A) (r : List ℕ) → pairs (length xs) (gather (λ x. F x ∷ G x ∷ []) xs ++ r) ≡ some (map (λ x. (F x, G x)) xs, r)
@@ -34,7 +34,7 @@ abbrev pub succPair : Succ → ℕ × ℕ
 succPair x = (x .to, code (x .by))
 
 block-of : (b : Block) (r : List ℕ) → blockAt (blockWords b ++ r) ≡ some (map outPair (b .out), map succPair (b .succs))
-unfolding blockAt counted
+unfolding blockAt countedPairs
 block-of b r =
     rw (
       append-assoc (gather (λ a. a .shape ∷ code (a .at) ∷ []) (b .out)) (length (b .succs) ∷ gather (λ x. x .to ∷ code (x .by) ∷ []) (b .succs)) r,

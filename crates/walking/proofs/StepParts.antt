@@ -9,11 +9,11 @@ use mathlib.Core.Option.{Option, some}
 use Prim.Native.Nat.{ℕ, _<_}
 use lib.ListN.{length, getD, getElem?}
 use Rattle.kinds.proofs.Bools.{is-ltb}
-use Rattle.kinds.proofs.Members.{_∈_, here, there}
+use Rattle.kinds.specs.Members.{_∈_, here, there}
 use Rattle.following.specs.Following.{target}
 use Rattle.readers.specs.PlanParts.{countsGood, pairs, labelWord, blockOf}
 use Rattle.walk.specs.Starting.{Walk}
-use Rattle.walk.specs.Stepping.{Found, look, onward, roomy, moved, tried}
+use Rattle.walk.specs.Stepping.{Finding, look, onward, roomy, moved, tried}
 use Rattle.queue.specs.Targets.{targets}
 
 pub targets-of : {A : Type 0} (limit : ℕ) (to : ℕ → Option ℕ) (N C D : A → ℕ) (xs : List A) → ((x : A) → x ∈ xs → (N x < limit) × (to (C x) ≡ some (D x)))
@@ -31,7 +31,7 @@ pub look-of : (plan score spans : List ℕ) (s x c y f : ℕ) (os ns os′ ns′
 unfolding look
 look-of plan score spans s x c y f os ns os′ ns′ good el et ef eb eo es = rw (good, el, et, ef, eb, eo, es)
 
-pub tried-of : (plan score spans : List ℕ) (i : ℕ) (v : Walk) (its : List (ℕ × ℕ)) (rest : List ℕ) (it : ℕ × ℕ) (found : Found) → pairs (v .count .waiting) (v .items) ≡ some (its, rest) → getElem? its i ≡ some it
+pub tried-of : (plan score spans : List ℕ) (i : ℕ) (v : Walk) (its : List (ℕ × ℕ)) (rest : List ℕ) (it : ℕ × ℕ) (found : Finding) → pairs (v .count .waiting) (v .items) ≡ some (its, rest) → getElem? its i ≡ some it
     → look plan score spans it ≡ some found → roomy v found (onward i its (found .nexts)) ≡ true → tried plan score spans i v ≡ some (moved v found (onward i its (found .nexts)))
 unfolding tried
 tried-of plan score spans i v its rest it found a b c d = rw (a, b, c, d)

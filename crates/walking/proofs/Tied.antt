@@ -15,7 +15,8 @@ use lib.ListN.{length, getD, getElem?, take, drop, set, length-append, length-ma
 use Rattle.kinds.specs.Positions.{Pos, code}
 use Rattle.kinds.specs.Bits.{bit}
 use Rattle.kinds.proofs.Bools.{both, is-ltb, is-leb}
-use Rattle.kinds.proofs.Members.{_∈_, here, there, ∈-left, ∈-right, ∈-append, on-map, map-in, all-of, Distinct}
+use Rattle.kinds.proofs.Members.{∈-left, ∈-right, ∈-append, on-map, map-in, all-of, Distinct}
+use Rattle.kinds.specs.Members.{_∈_, here, there}
 use Rattle.kinds.proofs.Pairwise.{Pairwise, pairwise-map, pairwise-distinct}
 use Rattle.kinds.proofs.ListLaws.{map-append, map-map, take-map, drop-map, take-set}
 use Rattle.kinds.proofs.Places.{at-in, at-below, at-some, at-getD, at-map, split-at}
@@ -42,7 +43,7 @@ use Rattle.automaton.proofs.Steps.{walked-invariant, new-only}
 use Rattle.automaton.proofs.Counts.{can-look, waiting-unread}
 use Rattle.readers.specs.PlanParts.{countsGood, pairWords}
 use Rattle.walk.specs.Starting.{Walk}
-use Rattle.walk.specs.Stepping.{Found, look, onward, roomy, moved, tried}
+use Rattle.walk.specs.Stepping.{Finding, look, onward, roomy, moved, tried}
 use Rattle.queue.specs.Targets.{marked}
 use Rattle.walking.specs.OneFolio.{OneFolio, planIn}
 use Rattle.readers.proofs.LawsPairs.{pairs-words}
@@ -180,7 +181,7 @@ module _ {C : Scored} (F : OneFolio C) where
     pub tied : Tied walk
     pub one-more : walk .count .logged ≡ suc (v .count .logged)
     pub item : ℕ × ℕ
-    pub found : Found
+    pub found : Finding
     pub saw : look (planIn F) (flatten t) (sizes t) item ≡ some found
     pub clear : (x : ℕ × ℕ) → x ∈ found .outs → bit (getD (v .marks) (x .1) 0) (x .0) ≡ 0
     pub apart : Distinct (found .outs)
@@ -215,7 +216,7 @@ module _ {C : Scored} (F : OneFolio C) where
         (sym (map-append (posItem ss) (take i (T .ns)) (drop (suc i) (T .ns) ++ map (succItem (y .1)) (B .succs)) ∙ ap (λ l. cs ++ l) (map-append (posItem ss) (drop (suc i) (T .ns)) (map (succItem (y .1)) (B .succs)))))
         (after cs ds (T .read) (T .told) y w₁ yk f ts seen)
 
-    abbrev found : Found
+    abbrev found : Finding
     found = record { node = num t q; outs = map (outWord t (y .1)) (B .out); nexts = map (λ x. wordItem t (succItem (y .1) x)) (B .succs) }
 
     ok : (a : Announcement) → a ∈ B .out → OutOk S t (y .1) a

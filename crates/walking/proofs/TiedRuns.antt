@@ -18,7 +18,7 @@ use Rattle.kinds.specs.Lists.{onto}
 use Rattle.kinds.specs.Positions.{Pos}
 use Rattle.kinds.specs.declared.Reason.the-variants.{NoSuchItem}
 use Rattle.kinds.proofs.Bools.{and-l, and-r, leb-is}
-use Rattle.kinds.proofs.Members.{_∈_, here}
+use Rattle.kinds.specs.Members.{_∈_, here}
 use Rattle.kinds.proofs.Places.{at-below, getD-at}
 use Rattle.kinds.proofs.BitLaws.{no-bit}
 use Rattle.term.specs.Terms.{Term}
@@ -29,9 +29,9 @@ use Rattle.automaton.specs.Goals.{State}
 use Rattle.automaton.specs.Walking.{Scored, calculus, begin}
 use Rattle.automaton.proofs.Numbered.{Numbered}
 use Rattle.automaton.proofs.Explored.{explored-numbered}
-use Rattle.walk.specs.Starting.{Walk, refuse, goOn, begun}
+use Rattle.walk.specs.Starting.{Walk, refuseWalk, goOn, begun}
 use Rattle.walk.specs.Stepping.{stepped, run, one, accepted}
-use Rattle.walking.specs.OneFolio.{OneFolio, planIn, scoreIn, spansIn, Lent, stepIn}
+use Rattle.walking.specs.OneFolio.{OneFolio, planIn, scoreIn, spansIn, EnoughLent, stepIn}
 use Rattle.walking.proofs.Tied.{Tied, Next, step-tied}
 
 module _ {C : Scored} (F : OneFolio C) where
@@ -47,7 +47,7 @@ module _ {C : Scored} (F : OneFolio C) where
   abbrev zeros : List ℕ
   zeros = replicate (length (scoreIn F)) 0
 
-  pub begun-tied : (w : Walk) → Lent F w → Tied F (begun (length (scoreIn F)) w)
+  pub begun-tied : (w : Walk) → EnoughLent F w → Tied F (begun (length (scoreIn F)) w)
   begun-tied w lent = record {
     ns = (0, []) ∷ [];
     read = [];
@@ -89,7 +89,7 @@ module _ {C : Scored} (F : OneFolio C) where
 
   pub data Stepping (v : Walk) (i : ℕ) : Type 0 where
     moves : i < v .count .waiting → (n : Next F v i) → stepIn F i v ≡ goOn (n .walk) → Stepping v i
-    refuses : v .count .waiting ≤ i → stepIn F i v ≡ refuse NoSuchItem v → Stepping v i
+    refuses : v .count .waiting ≤ i → stepIn F i v ≡ refuseWalk NoSuchItem v → Stepping v i
 
   pub stepping : (v : Walk) → Tied F v → (i : ℕ) → Stepping v i
   unfolding stepped

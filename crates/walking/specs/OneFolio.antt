@@ -1,7 +1,7 @@
 -- "In demand 3's setting, where plan and score come from one folio": what a walk is lent there.
 --   OneFolio                the states and blocks that exploring a setting makes, beside a score of its symbols
 --   planIn scoreIn spansIn  the words lent
---   Lent                    buffers such as starting accepts
+--   EnoughLent                    buffers such as starting accepts
 --   stepIn walkIn           one step; any choices, one after the other, from the start
 --   acceptedIn              how many of the choices are accepted
 use mathlib.Core.Path.{_≡_}
@@ -15,7 +15,7 @@ use Rattle.automaton.specs.Goals.{State}
 use Rattle.automaton.specs.Exploring.{construction, Block, made, explored}
 use Rattle.automaton.specs.PlanWords.{planWords}
 use Rattle.automaton.specs.Walking.{Scored, calculus}
-use Rattle.walk.specs.Starting.{Walk, Out, begun, roomFor}
+use Rattle.walk.specs.Starting.{Walk, WalkOutcome, begun, roomFor}
 use Rattle.walk.specs.Stepping.{stepped, run, accepted}
 
 pub record OneFolio (C : Scored) : Type 0 where
@@ -35,10 +35,10 @@ module _ {C : Scored} (F : OneFolio C) where
   abbrev pub spansIn : List ℕ
   spansIn = sizes (C .score)
 
-  abbrev pub Lent : Walk → Type 0
-  Lent w = roomFor (length scoreIn) w ≡ true
+  abbrev pub EnoughLent : Walk → Type 0
+  EnoughLent w = roomFor (length scoreIn) w ≡ true
 
-  abbrev pub stepIn : ℕ → Walk → Out
+  abbrev pub stepIn : ℕ → Walk → WalkOutcome
   stepIn i w = stepped planIn scoreIn spansIn i w
 
   abbrev pub walkIn : List ℕ → Walk → Walk

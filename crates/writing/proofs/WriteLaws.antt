@@ -18,7 +18,8 @@ use lib.ListN.{length, getD, getElem?, drop, set, length-set, length-append, len
 use lib.Seq.{sets, length-sets, drop-cons}
 use Rattle.kinds.specs.Lists.{find, gather, concat, sort, orElse}
 use Rattle.kinds.specs.Positions.{code, decode}
-use Rattle.kinds.proofs.Members.{_∈_, map-in, gather-length}
+use Rattle.kinds.proofs.Members.{map-in, gather-length}
+use Rattle.kinds.specs.Members.{_∈_}
 use Rattle.kinds.proofs.ListLaws.{sets-append, set-before, from, from-end, gather-map, gather-same, map-append, concat-append, gather-append}
 use Rattle.kinds.proofs.Places.{getD-in, find-at, at-below, getElem-some}
 use Rattle.automaton.specs.Exploring.{Succ, Block}

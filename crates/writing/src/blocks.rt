@@ -16,7 +16,7 @@ ghost use Prim.Native.Nat.{ℕ, _+_, _*_, _%_, _<_, _≤_};
 ghost use lib.ListN.{length, getD};
 ghost use lib.Seq.{sets};
 ghost use Rattle.kinds.specs.Lists.{concat};
-ghost use Rattle.kinds.proofs.Members.{_∈_};
+ghost use Rattle.kinds.specs.Members.{_∈_};
 ghost use Rattle.automaton.specs.PlanWords.{blockWords, startsFrom, planWords};
 ghost use Rattle.goals.specs.GoalWords.{GoalWords, labelCode};
 ghost use Rattle.goals.specs.WordStages.{leastCode};

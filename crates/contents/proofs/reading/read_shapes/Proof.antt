@@ -4,7 +4,7 @@ use Prim.Native.Nat.{_≤_, _-_, _*_}
 use mathlib.Core.Path.{ap, sym, _∙_}
 use lib.Seq.{sets}
 use Rattle.kinds.specs.declared.Reason.{Reason}
-use Rattle.contents.specs.Tables.{Row, shapesOf, shapesFrom}
+use Rattle.contents.specs.Tables.{ShapesRead, shapesOf, shapesFrom}
 use Rattle.term.proofs.LawsReading.{whole-in}
 use Rattle.contents.proofs.LawsTables.{shapes-full, shapes-refused, shapes-lone, shapes-next, shapes-done, shapes-none, shapes-some, Left, left-first, left-end, left-next}
 use borrow.Author.Needs.{needs}
@@ -12,15 +12,15 @@ use Rattle.contents.proofs.reading.read_shapes.Statement.{statement}
 use Rattle.contents.proofs.reading.read_shapes.Tie as tie
 
 abbrev Inv-loop : tie.InvT-loop
-Inv-loop arity blanks words starts₀ at₀ n₀ starts at n = (n ≤ 16) × (at ≤ 16 * n) × Left (shapesOf arity blanks words) (shapesFrom arity blanks words (16 - n) n at) starts₀ starts n
+Inv-loop symbols blanks words starts₀ at₀ n₀ starts at n = (n ≤ 16) × (at ≤ 16 * n) × Left (shapesOf symbols blanks words) (shapesFrom symbols blanks words (16 - n) n at) starts₀ starts n
 
 abbrev μ-loop : tie.MeasureT-loop
-μ-loop arity blanks words starts₀ at₀ n₀ starts at n = 16 - n
+μ-loop symbols blanks words starts₀ at₀ n₀ starts at n = 16 - n
 
 returns : tie.Need-returns Inv-loop μ-loop
 returns c =
     let entry = c .before .before .before .before in
-    (let e = shapes-none _ (entry .args .blanks) _ (c .if1 .taken) in (sym (ap (λ (r : Row). r .answer) e), sym (ap (λ (r : Row). sets (entry .args .starts .now) 0 (r .starts)) e)))
+    (let e = shapes-none _ (entry .args .blanks) _ (c .if1 .taken) in (sym (ap (λ (r : ShapesRead). r .answer) e), sym (ap (λ (r : ShapesRead). sets (entry .args .starts .now) 0 (r .starts)) e)))
 
 loop-holds : tie.Need-loop-holds Inv-loop μ-loop
 loop-holds c = (omega arith, omega arith, left-first _ (shapes-some _ _ _ (c .if1 .left)))

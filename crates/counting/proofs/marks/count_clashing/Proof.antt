@@ -1,5 +1,6 @@
 use Rattle.counting.proofs.ClashLaws.{Reach, reach-none, reach-next, count-next, gain-le}
-use Rattle.counting.specs.Counting.{sumTo, numberAt}
+use Rattle.kinds.specs.Bits.{sumTo}
+use Rattle.counting.specs.Counting.{numberAt}
 use Rattle.counting.specs.Clashes.{clashing, clash}
 use Rattle.counting.specs.Passing.{hits}
 use mathlib.Core.Bool.{cond}
@@ -19,7 +20,6 @@ abbrev μ-loop : tie.MeasureT-loop
 μ-loop spans marks sum₀ reach₀ x₀ sum reach x = length marks - x
 
 loop-holds : tie.Need-loop-holds Inv-loop μ-loop
-unfolding sumTo
 loop-holds c =
     let entry = c .before .before in
     (omega arith, omega arith, refl, reach-none (entry .args .marks .now) (entry .args .spans .now))

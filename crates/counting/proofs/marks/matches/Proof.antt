@@ -33,7 +33,7 @@ ones-of-requires c κs =
 returns-2 : tie.Need-returns-2
 returns-2 c =
     let entry = c .before .before .before .before .before .before .before .before .before in
-    ap Number (c .ones-of .ensures) ∙ sym (count-is total (entry .args .arity .now) (entry .args .score .now) (entry .args .spans .now) (entry .args .marks .now) (sym (c .before .before .before .before .score-good .ensures) ∙ c .before .before .before .if1 .taken) (c .before .before .if2 .left))
+    ap Number (c .ones-of .ensures) ∙ sym (count-is total (entry .args .symbols .now) (entry .args .score .now) (entry .args .spans .now) (entry .args .marks .now) (sym (c .before .before .before .before .score-good .ensures) ∙ c .before .before .before .if1 .taken) (c .before .before .if2 .left))
 
 returns-3 : tie.Need-returns-3
 returns-3 c = sym (count-bad total _ _ _ _ (sym (c .before .score-good .ensures) ∙ c .if1 .left))

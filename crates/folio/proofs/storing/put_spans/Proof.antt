@@ -11,15 +11,15 @@ use Rattle.folio.proofs.storing.put_spans.Statement.{statement}
 use Rattle.folio.proofs.storing.put_spans.Tie as tie
 
 abbrev Inv-loop : tie.InvT-loop
-Inv-loop arity words spans₀ n i₀ spans i = (i ≤ n) × (length spans ≡ length spans₀) × (spans ≡ sets spans₀ i (spansOf arity (drop i words)))
+Inv-loop symbols words spans₀ n i₀ spans i = (i ≤ n) × (length spans ≡ length spans₀) × (spans ≡ sets spans₀ i (spansOf symbols (drop i words)))
 
 abbrev μ-loop : tie.MeasureT-loop
-μ-loop arity words spans₀ n i₀ spans i = i
+μ-loop symbols words spans₀ n i₀ spans i = i
 
 loop-holds : tie.Need-loop-holds Inv-loop μ-loop
 loop-holds c =
     let entry = c .before .before .before in
-    (omega arith, refl, write-start (entry .args .arity .now) (entry .args .words .now) (entry .args .spans .now))
+    (omega arith, refl, write-start (entry .args .symbols .now) (entry .args .words .now) (entry .args .spans .now))
 
 sub-i : tie.Need-sub-i Inv-loop μ-loop
 sub-i c = search needs
@@ -57,9 +57,9 @@ cast-spans c =
     let at-loop = c .before .before .before .before .before .before .loop in
     let a = entry .args in
     let q : at-loop .i ≡ at-loop .i - 1 + 1 = omega arith in
-    let en = at-loop .inv .2 ∙ ap (λ (n : ℕ). sets (a .spans .now) n (spansOf (a .arity .now) (drop n (a .words .now)))) q in
-    let e = write-end (a .arity .now) (a .words .now) (a .spans .now) (at-loop .i - 1) (c .skip .result) (omega arith) (omega arith) _ _ _ (c .before .before .before .count .ensures) (sub-zero _) en (c .skip .ensures) in
-    omega (arith, write-fits (a .arity .now) (a .words .now) (a .spans .now) (at-loop .i - 1) (c .skip .result) (omega arith) (omega arith) e)
+    let en = at-loop .inv .2 ∙ ap (λ (n : ℕ). sets (a .spans .now) n (spansOf (a .symbols .now) (drop n (a .words .now)))) q in
+    let e = write-end (a .symbols .now) (a .words .now) (a .spans .now) (at-loop .i - 1) (c .skip .result) (omega arith) (omega arith) _ _ _ (c .before .before .before .count .ensures) (sub-zero _) en (c .skip .ensures) in
+    omega (arith, write-fits (a .symbols .now) (a .words .now) (a .spans .now) (at-loop .i - 1) (c .skip .result) (omega arith) (omega arith) e)
 
 mul-spans : tie.Need-mul-spans Inv-loop μ-loop
 mul-spans c = omega arith
@@ -76,11 +76,11 @@ loop-again c =
     let at-loop = c .before .before .before .before .before .before .loop in
     let a = entry .args in
     let q : at-loop .i ≡ at-loop .i - 1 + 1 = omega arith in
-    let en = at-loop .inv .2 ∙ ap (λ (n : ℕ). sets (a .spans .now) n (spansOf (a .arity .now) (drop n (a .words .now)))) q in
-    let e = write-end (a .arity .now) (a .words .now) (a .spans .now) (at-loop .i - 1) (c .skip .result) (omega arith) (omega arith) _ _ _ (c .before .before .before .count .ensures) (sub-zero _) en (c .skip .ensures) in (
+    let en = at-loop .inv .2 ∙ ap (λ (n : ℕ). sets (a .spans .now) n (spansOf (a .symbols .now) (drop n (a .words .now)))) q in
+    let e = write-end (a .symbols .now) (a .words .now) (a .spans .now) (at-loop .i - 1) (c .skip .result) (omega arith) (omega arith) _ _ _ (c .before .before .before .count .ensures) (sub-zero _) en (c .skip .ensures) in (
       omega arith,
       simp length-set (at-loop .inv .1),
-      write-next (a .arity .now) (a .words .now) (a .spans .now) (at-loop .i - 1) (c .skip .result) (omega arith) (omega arith) _ en e,
+      write-next (a .symbols .now) (a .words .now) (a .spans .now) (at-loop .i - 1) (c .skip .result) (omega arith) (omega arith) _ en e,
     )
 
 same-length : tie.Need-same-length Inv-loop μ-loop
@@ -90,7 +90,7 @@ returns : tie.Need-returns Inv-loop μ-loop
 returns c =
     let entry = c .before .before .before .before .before in
     let z : c .before .loop .i ≡ 0 = omega arith in
-    c .before .loop .inv .2 ∙ ap (λ (n : ℕ). sets (entry .args .spans .now) n (spansOf (entry .args .arity .now) (drop n (entry .args .words .now)))) z
+    c .before .loop .inv .2 ∙ ap (λ (n : ℕ). sets (entry .args .spans .now) n (spansOf (entry .args .symbols .now) (drop n (entry .args .words .now)))) z
 
 pub put-spans-spec : {M : Type 1} → statement M
 put-spans-spec =

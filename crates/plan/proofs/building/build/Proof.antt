@@ -1,7 +1,7 @@
 use Rattle.plan.proofs.BuildLaws.{built-bad, built-short, built-on, written-clears, cleared-again}
 use Rattle.plan.proofs.ReadyTables.{ready, plan-of-tables}
 use Rattle.decoding.specs.WordMachine.{words}
-use Rattle.plan.specs.Building.{Out}
+use Rattle.plan.specs.Building.{BuildOutcome}
 use Rattle.automaton.specs.PlanWords.{planned}
 use lib.ListN.{length, replicate}
 use Prim.Native.Nat.{ℕ, _≤_, _<_, _+_, _-_, _*_, _/_, _%_}
@@ -12,7 +12,7 @@ use Rattle.plan.proofs.building.build.Statement.{statement}
 use Rattle.plan.proofs.building.build.Tie as tie
 use Rattle.plan.proofs.building.build.Reads as reads
 use Rattle.plan.proofs.building.build.Lts as lts
-use Rattle.lent.proofs.checking.shapes_good.Reads as shapes-good-reads
+use Rattle.checks.proofs.checking.shapes_good.Reads as shapes-good-reads
 use Rattle.plan.proofs.building.clear.Reads as clear-reads
 use Rattle.plan.proofs.building.make.Reads as make-reads
 use Rattle.tables.proofs.filling.fill_tables.Reads as fill-tables-reads
@@ -25,7 +25,7 @@ shapes-good-requires c κs = search needs
 returns : tie.Need-returns
 returns c =
     let entry = c .before .before .before .before .before .before .before .before in
-    let w = built-short (entry .args .symbols .now) (entry .args .words .now) (entry .args .starts .now) (entry .args .plan .now) (entry .args .scratch .now) (sym (c .before .before .shapes-good .ensures) ∙ c .before .if1 .taken) (c .if2 .taken) in (sym (ap (λ (o : Out). o .answer) w), (sym (ap (λ (o : Out). o .plan) w), sym (ap (λ (o : Out). o .scratch) w)))
+    let w = built-short (entry .args .symbols .now) (entry .args .words .now) (entry .args .starts .now) (entry .args .plan .now) (entry .args .scratch .now) (sym (c .before .before .shapes-good .ensures) ∙ c .before .if1 .taken) (c .if2 .taken) in (sym (ap (λ (o : BuildOutcome). o .answer) w), (sym (ap (λ (o : BuildOutcome). o .plan) w), sym (ap (λ (o : BuildOutcome). o .scratch) w)))
 
 -- src/building.rt:28:45
 slice-aggregate-fill-tables : tie.Need-slice-aggregate-fill-tables
@@ -77,13 +77,13 @@ returns-2 c =
     let at-fill-tables = c .before .before .before .before .before .before .before .before .before .before .before .before .before .fill-tables in
     let at-make = c .before .before .before .before .before .before .before .before .make in
     let w = (built-on (entry .args .symbols .now) (entry .args .words .now) (entry .args .starts .now) (entry .args .plan .now) (entry .args .scratch .now) (sym (at-shapes-good .ensures) ∙ at-if1 .taken) (at-if2 .left) (planned (words (at-fill-tables .last .1 .1 .1 .0) (length (entry .args .starts .now))) (entry .args .symbols .now) (length (entry .args .starts .now)) (length (entry .args .plan .now))) (plan-of-tables (entry .args .symbols .now) (entry .args .words .now) (entry .args .starts .now) (replicate {A = ℕ} 1280 0) (at-fill-tables .last .1 .1 .1 .0) (length (entry .args .plan .now)) (sym (at-shapes-good .ensures) ∙ at-if1 .taken) (omega arith) (at-fill-tables .ensures))) in
-    (at-make .ensures .0 ∙ sym (ap (λ (o : Out). o .answer) w), (at-make .ensures .1 .0 ∙ sym (ap (λ (o : Out). o .plan) w), c .before .before .clear .ensures ∙ cleared-again _ _ (at-make .ensures .1 .1) ∙ sym (written-clears (planned (words (at-fill-tables .last .1 .1 .1 .0) (length (entry .args .starts .now))) (entry .args .symbols .now) (length (entry .args .starts .now)) (length (entry .args .plan .now))) (entry .args .plan .now) (entry .args .scratch .now)) ∙ sym (ap (λ (o : Out). o .scratch) w)))
+    (at-make .ensures .0 ∙ sym (ap (λ (o : BuildOutcome). o .answer) w), (at-make .ensures .1 .0 ∙ sym (ap (λ (o : BuildOutcome). o .plan) w), c .before .before .clear .ensures ∙ cleared-again _ _ (at-make .ensures .1 .1) ∙ sym (written-clears (planned (words (at-fill-tables .last .1 .1 .1 .0) (length (entry .args .starts .now))) (entry .args .symbols .now) (length (entry .args .starts .now)) (length (entry .args .plan .now))) (entry .args .plan .now) (entry .args .scratch .now)) ∙ sym (ap (λ (o : BuildOutcome). o .scratch) w)))
 
 -- src/building.rt:18:1
 returns-3 : tie.Need-returns-3
 returns-3 c =
     let entry = c .before .before .before .before .before .before .before in
-    let w = built-bad (entry .args .symbols .now) (entry .args .words .now) (entry .args .starts .now) (entry .args .plan .now) (entry .args .scratch .now) (sym (c .before .shapes-good .ensures) ∙ c .if1 .left) in (sym (ap (λ (o : Out). o .answer) w), (sym (ap (λ (o : Out). o .plan) w), sym (ap (λ (o : Out). o .scratch) w)))
+    let w = built-bad (entry .args .symbols .now) (entry .args .words .now) (entry .args .starts .now) (entry .args .plan .now) (entry .args .scratch .now) (sym (c .before .shapes-good .ensures) ∙ c .if1 .left) in (sym (ap (λ (o : BuildOutcome). o .answer) w), (sym (ap (λ (o : BuildOutcome). o .plan) w), sym (ap (λ (o : BuildOutcome). o .scratch) w)))
 
 pub build-spec : {M : Type 1} → statement M
 build-spec =

@@ -1,77 +1,35 @@
 use mathlib.Core.Path.{ap, sym, _∙_}
-use native.Mathlib.Omega.{arith}
-use borrow.Author.Tests.{not-true, not-false}
-use Rattle.readers.specs.BlockWords.{begins, pairOf}
-use Rattle.readers.proofs.LawsPairs as pairs
-use Rattle.readers.proofs.LawsParts as law
+use Rattle.readers.specs.PlanParts.{announcementOf, toAnnouncement}
+use Rattle.readers.specs.BlockWords.{pairOf}
 use borrow.Author.Needs.{needs}
 use Rattle.readers.proofs.reading.announcement_of.Statement.{statement}
 use Rattle.readers.proofs.reading.announcement_of.Tie as tie
+use Rattle.readers.proofs.reading.announcement_of.Reads as reads
+use Rattle.readers.proofs.reading.announcement_of.Lts as lts
+use Rattle.readers.proofs.reading.find_pair.Reads as find-pair-reads
 
-view-good-requires : tie.Need-view-good-requires
-view-good-requires c κs = search needs
+-- src/reading.rt:71:11
+find-pair-requires : tie.Need-find-pair-requires
+find-pair-requires c κs = search needs
 
-returns : tie.Need-returns
-returns c = sym (law.announcement-view _ _ _ _ _ _ (sym (c .before .view-good .ensures) ∙ not-true _ (c .if1 .taken)))
-
-block-start-requires : tie.Need-block-start-requires
-block-start-requires c κs = search needs
-
+-- src/reading.rt:72:48
 enum-told : tie.Need-enum-told
 enum-told c = search needs
 
-returns-2 : tie.Need-returns-2
-returns-2 c = sym (law.announcement-start _ _ _ (sym (c .before .before .before .before .view-good .ensures) ∙ not-false _ (c .before .before .before .if1 .left)) _ _ _ (sym (c .before .before .block-start .ensures) ∙ ap begins (c .enum-told .given .1)))
-
-enum-known-b : tie.Need-enum-known-b
-enum-known-b c = search needs
-
-shared-slice-read-pair-at : tie.Need-shared-slice-read-pair-at
-shared-slice-read-pair-at c =
-    let entry = c .before .before .before .before .before .before .before .before in
-    let at-view-good = c .before .before .before .before .before .before .view-good in
-    omega (arith, law.counts-of (entry .args .words .now) (law.view-is (entry .args .words .now) (entry .args .states) (entry .args .symbols) (sym (at-view-good .ensures) ∙ not-false _ (c .before .before .before .before .before .if1 .left))) .0)
-
-pair-at-requires : tie.Need-pair-at-requires
-pair-at-requires c κs =
-    let entry = c .before .before .before .before .before .before .before .before in
-    let at-b = c .before .before .b in
-    omega (arith, pairs.fits-in (entry .args .words .now) (at-b .given .0 .0) (law.start-fits _ _ _ _ _ (sym (c .before .before .before .before .block-start .ensures) ∙ ap begins (at-b .given .1))))
-
-enum-told-2 : tie.Need-enum-told-2
-enum-told-2 c = search needs
-
+-- src/reading.rt:73:18
 enum-known-j : tie.Need-enum-known-j
 enum-known-j c = search needs
 
-returns-3 : tie.Need-returns-3
-returns-3 c =
-    let at-view-good = c .before .before .before .before .before .before .before .before .before .view-good in
-    let at-if1 = c .before .before .before .before .before .before .before .before .if1 in
-    let at-block-start = c .before .before .before .before .before .before .before .block-start in
-    sym (law.announcement-pair _ _ _ (sym (at-view-good .ensures) ∙ not-false _ (at-if1 .left)) _ _ _ (sym (at-block-start .ensures) ∙ ap begins (c .before .before .before .before .before .b .given .1)) _ (sym (c .before .before .pair-at .ensures) ∙ ap pairOf (c .enum-told2 .given .1)))
+-- src/reading.rt:61:1
+returns : tie.Need-returns
+unfolding announcementOf
+returns c = ap toAnnouncement (sym (ap pairOf (c .enum-told .given .1)) ∙ c .before .before .find-pair .ensures)
 
-returns-4 : tie.Need-returns-4
-returns-4 c =
-    let at-view-good = c .before .before .before .before .before .before .before .before .before .before .view-good in
-    let at-if1 = c .before .before .before .before .before .before .before .before .before .if1 in
-    let at-block-start = c .before .before .before .before .before .before .before .before .block-start in
-    let at-b = c .before .before .before .before .before .before .b in
-    sym (law.announcement-some _ _ _ (sym (at-view-good .ensures) ∙ not-false _ (at-if1 .left)) _ _ _ (sym (at-block-start .ensures) ∙ ap begins (at-b .given .1)) _ _ _ (sym (c .before .before .before .pair-at .ensures) ∙ ap pairOf (c .before .j .given .1)))
+-- src/reading.rt:61:1
+returns-2 : tie.Need-returns-2
+unfolding announcementOf
+returns-2 c = ap toAnnouncement (sym (ap pairOf (c .before .j .given .1)) ∙ c .before .before .before .find-pair .ensures)
 
 pub announcement-of-spec : {M : Type 1} → statement M
 announcement-of-spec =
-    tie.close
-    (tie.spec
-    view-good-requires
-    returns
-    block-start-requires
-    enum-told
-    returns-2
-    enum-known-b
-    shared-slice-read-pair-at
-    pair-at-requires
-    enum-told-2
-    enum-known-j
-    returns-3
-    returns-4)
+    tie.close (tie.spec find-pair-requires enum-told enum-known-j returns returns-2)

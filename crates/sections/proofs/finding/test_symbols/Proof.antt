@@ -9,10 +9,10 @@ use Rattle.sections.proofs.finding.test_symbols.Statement.{statement}
 use Rattle.sections.proofs.finding.test_symbols.Tie as tie
 
 abbrev Inv-loop : tie.InvT-loop
-Inv-loop arity i₀ i = (i ≤ length arity) × (symbolsOf arity ≡ overAt i (drop i arity))
+Inv-loop symbols i₀ i = (i ≤ length symbols) × (symbolsOf symbols ≡ overAt i (drop i symbols))
 
 abbrev μ-loop : tie.MeasureT-loop
-μ-loop arity i₀ i = length arity - i
+μ-loop symbols i₀ i = length symbols - i
 
 returns : tie.Need-returns Inv-loop μ-loop
 returns c = sym (symbols-none _ (c .if1 .taken))

@@ -25,10 +25,10 @@ read-term-below t =
     and 2 read-term-kinds.ps (falls 2 read-term-kinds.ps _<_ μ-read-term t) read-term.Pre
 
 abbrev read-term-Inv-loop : read-term-lts.InvT-loop
-read-term-Inv-loop arity words limits at left n here₀ k₀ here k = (k ≤ n) × (reading arity words limits left at ≡ kidsOf (reading arity words limits (left - 1)) (n - k) (met here))
+read-term-Inv-loop symbols words limits at left n here₀ k₀ here k = (k ≤ n) × (reading symbols words limits left at ≡ kidsOf (reading symbols words limits (left - 1)) (n - k) (met here))
 
 abbrev read-term-μ-loop : read-term-lts.MeasureT-loop
-read-term-μ-loop arity words limits at left n here₀ k₀ here k = n - k
+read-term-μ-loop symbols words limits at left n here₀ k₀ here k = n - k
 
 read-term-head-requires : (t : ℕ) → read-term-lts.Need-head-requires (
   head-reads.Asked,

@@ -6,7 +6,7 @@ use Rattle.term.proofs.spans.count.Statement.{statement}
 use Rattle.term.proofs.spans.count.Tie as tie
 
 returns : tie.Need-returns
-returns c = sym (List·getD-eq-default (c .before .args .arity .now) 0 (c .if1 .taken))
+returns c = sym (List·getD-eq-default (c .before .args .symbols .now) 0 (c .if1 .taken))
 
 shared-slice-read-result : tie.Need-shared-slice-read-result
 shared-slice-read-result c = search needs

@@ -10,20 +10,20 @@ use Rattle.term.proofs.spans.spans_are.Statement.{statement}
 use Rattle.term.proofs.spans.spans_are.Tie as tie
 
 abbrev Inv-loop : tie.InvT-loop
-Inv-loop arity words spans i₀ i = (i ≤ length words) × (drop i spans ≡ spansOf arity (drop i words))
+Inv-loop symbols words spans i₀ i = (i ≤ length words) × (drop i spans ≡ spansOf symbols (drop i words))
 
 abbrev μ-loop : tie.MeasureT-loop
-μ-loop arity words spans i₀ i = i
+μ-loop symbols words spans i₀ i = i
 
 returns : tie.Need-returns Inv-loop μ-loop
 returns c =
     let entry = c .before .before .before .before in
-    sym (same-lengths (entry .args .spans .now) (spansOf (entry .args .arity .now) (entry .args .words .now)) (λ h. c .if1 .taken (h ∙ length-spans (entry .args .arity .now) (entry .args .words .now))))
+    sym (same-lengths (entry .args .spans .now) (spansOf (entry .args .symbols .now) (entry .args .words .now)) (λ h. c .if1 .taken (h ∙ length-spans (entry .args .symbols .now) (entry .args .words .now))))
 
 loop-holds : tie.Need-loop-holds Inv-loop μ-loop
 loop-holds c =
     let entry = c .before .before .before .before in
-    (omega arith, check-start (entry .args .arity .now) (entry .args .words .now) (entry .args .spans .now) (c .if1 .left))
+    (omega arith, check-start (entry .args .symbols .now) (entry .args .words .now) (entry .args .spans .now) (c .if1 .left))
 
 sub-i : tie.Need-sub-i Inv-loop μ-loop
 sub-i c = search needs
@@ -63,8 +63,8 @@ returns-2 c =
     let at-skip = c .before .before .skip in
     let a = entry .args in
     let q : at-loop .i ≡ at-loop .i - 1 + 1 = omega arith in
-    let en : drop (at-loop .i - 1 + 1) (a .spans .now) ≡ spansOf (a .arity .now) (drop (at-loop .i - 1 + 1) (a .words .now)) = rw (← q) (at-loop .inv .1) in
-    sym (check-stop (a .arity .now) (a .words .now) (a .spans .now) (at-loop .i - 1) (at-skip .result) (omega arith) (at-if1 .left) en _ (c .before .before .before .count .ensures) (at-skip .ensures) (c .if2 .taken))
+    let en : drop (at-loop .i - 1 + 1) (a .spans .now) ≡ spansOf (a .symbols .now) (drop (at-loop .i - 1 + 1) (a .words .now)) = rw (← q) (at-loop .inv .1) in
+    sym (check-stop (a .symbols .now) (a .words .now) (a .spans .now) (at-loop .i - 1) (at-skip .result) (omega arith) (at-if1 .left) en _ (c .before .before .before .count .ensures) (at-skip .ensures) (c .if2 .taken))
 
 loop-less : tie.Need-loop-less Inv-loop μ-loop
 loop-less c = search needs
@@ -77,14 +77,14 @@ loop-again c =
     let at-skip = c .before .before .skip in
     let a = entry .args in
     let q : at-loop .i ≡ at-loop .i - 1 + 1 = omega arith in
-    let en : drop (at-loop .i - 1 + 1) (a .spans .now) ≡ spansOf (a .arity .now) (drop (at-loop .i - 1 + 1) (a .words .now)) = rw (← q) (at-loop .inv .1) in
-    (omega arith, check-next (a .arity .now) (a .words .now) (a .spans .now) (at-loop .i - 1) (at-skip .result) (omega arith) (at-if1 .left) en _ (c .before .before .before .count .ensures) (at-skip .ensures) (c .if2 .left))
+    let en : drop (at-loop .i - 1 + 1) (a .spans .now) ≡ spansOf (a .symbols .now) (drop (at-loop .i - 1 + 1) (a .words .now)) = rw (← q) (at-loop .inv .1) in
+    (omega arith, check-next (a .symbols .now) (a .words .now) (a .spans .now) (at-loop .i - 1) (at-skip .result) (omega arith) (at-if1 .left) en _ (c .before .before .before .count .ensures) (at-skip .ensures) (c .if2 .left))
 
 returns-3 : tie.Need-returns-3 Inv-loop μ-loop
 returns-3 c =
     let entry = c .before .before .before .before .before .before in
     let z : c .before .loop .i ≡ 0 = omega arith in
-    let en : entry .args .spans .now ≡ spansOf (entry .args .arity .now) (entry .args .words .now) = rw z at (c .before .loop .inv .1) in
+    let en : entry .args .spans .now ≡ spansOf (entry .args .symbols .now) (entry .args .words .now) = rw z at (c .before .loop .inv .1) in
     sym (same-yes en)
 
 pub spans-are-spec : {M : Type 1} → statement M

@@ -4,10 +4,10 @@ use mathlib.Core.Path.{sym, _∙_}
 use native.Mathlib.Omega.{arith}
 use lib.ListN.{replicate, length-replicate}
 use Rattle.contents.proofs.LawsTables.{found-count}
-use Rattle.lent.proofs.LawsAgain.{again-symbols, again-refused, again-found}
+use Rattle.checks.proofs.LawsAgain.{again-symbols, again-refused, again-found}
 use borrow.Author.Needs.{needs}
-use Rattle.lent.proofs.checking.shapes_good.Statement.{statement}
-use Rattle.lent.proofs.checking.shapes_good.Tie as tie
+use Rattle.checks.proofs.checking.shapes_good.Statement.{statement}
+use Rattle.checks.proofs.checking.shapes_good.Tie as tie
 
 test-symbols-requires : tie.Need-test-symbols-requires
 test-symbols-requires c κs = search needs
@@ -48,7 +48,7 @@ part-equal-start c = search needs
 part-equal-end : tie.Need-part-equal-end
 part-equal-end c =
     let entry = c .before .before .before .before .before .before .before .before .before .before .before .before .before in
-    omega (arith, found-count (entry .args .arity .now) blankWord (entry .args .words .now) _ (sym (c .before .before .before .before .before .read-shapes .ensures .0) ∙ c .before .before .n .given .1))
+    omega (arith, found-count (entry .args .symbols .now) blankWord (entry .args .words .now) _ (sym (c .before .before .before .before .before .read-shapes .ensures .0) ∙ c .before .before .n .given .1))
 
 equal-requires : tie.Need-equal-requires
 equal-requires c κs = search needs
@@ -59,7 +59,7 @@ returns-3 c =
     let at-test-symbols = c .before .before .before .before .before .before .before .before .before .before .before .test-symbols in
     let at-enum-told = c .before .before .before .before .before .before .before .before .before .enum-told in
     let at-read-shapes = c .before .before .before .before .before .before .before .read-shapes in
-    c .equal .ensures ∙ sym (again-found (entry .args .arity .now) (entry .args .words .now) (entry .args .starts .now) _ (replicate {A = ℕ} 16 0) _ (sym (at-test-symbols .ensures) ∙ at-enum-told .given .1) (sym (at-read-shapes .ensures .0) ∙ c .before .before .before .before .n .given .1) (length-replicate {A = ℕ} 16 0) (at-read-shapes .ensures .1))
+    c .equal .ensures ∙ sym (again-found (entry .args .symbols .now) (entry .args .words .now) (entry .args .starts .now) _ (replicate {A = ℕ} 16 0) _ (sym (at-test-symbols .ensures) ∙ at-enum-told .given .1) (sym (at-read-shapes .ensures .0) ∙ c .before .before .before .before .n .given .1) (length-replicate {A = ℕ} 16 0) (at-read-shapes .ensures .1))
 
 pub shapes-good-spec : {M : Type 1} → statement M
 shapes-good-spec =

@@ -1,7 +1,7 @@
 ghost use mathlib.Core.Path.{_≡_};
 ghost use Prim.Native.Nat.{ℕ, _+_, _≤_};
 ghost use Rattle.term.specs.Reading.{limits};
-ghost use Rattle.lent.specs.Again.{pieceAt, subtreeAt};
+ghost use Rattle.checks.specs.Again.{pieceAt, subtreeAt};
 use crate::Asked;
 use contents::BLANK;
 use contents::NO_BLANK;
@@ -16,19 +16,19 @@ use term::Reading;
 use term::reader::read_term;
 
 // The words of the subtree asked for, as a part of its table; no words where none stands there within that table's limits.
-pub fn subtree<'a>(asked: Asked, arity: &[u8], shapes: &'a [u16], score: &'a [u16]) -> &'a [u16]
-    ensures { λ r. ⌜ now r ≡ subtreeAt asked (now (arity .entry)) (now (shapes .entry)) (now (score .entry)) ⌝ }
+pub fn subtree<'a>(asked: Asked, symbols: &[u8], shapes: &'a [u16], score: &'a [u16]) -> &'a [u16]
+    ensures { λ r. ⌜ now r ≡ subtreeAt asked (now (symbols .entry)) (now (shapes .entry)) (now (score .entry)) ⌝ }
 {
-    match test_symbols(arity) {
+    match test_symbols(symbols) {
         Verdict::Bad(why, place) => {
             return &shapes[0..0];
         }
         Verdict::Good => {}
     }
     match asked {
-        Asked::Shapes(at) => piece(arity, shapes, BLANK, SHAPE_NODES, SHAPE_LEVELS, at),
+        Asked::Shapes(at) => piece(symbols, shapes, BLANK, SHAPE_NODES, SHAPE_LEVELS, at),
         Asked::Score(node) => piece(
-            arity,
+            symbols,
             score,
             NO_BLANK,
             SCORE_NODES,
@@ -40,7 +40,7 @@ pub fn subtree<'a>(asked: Asked, arity: &[u8], shapes: &'a [u16], score: &'a [u1
 
 // The words of the term at `at`; no words where none stands there of at most so many nodes and levels.
 fn piece<'a>(
-    arity: &[u8],
+    symbols: &[u8],
     words: &'a [u16],
     blanks: usize,
     nodes: usize,
@@ -48,13 +48,13 @@ fn piece<'a>(
     at: usize,
 ) -> &'a [u16]
     requires { ⌜ nodes ≤ 65535 ⌝ }
-    ensures { λ r. ⌜ now r ≡ pieceAt (now (arity .entry)) (now (words .entry)) (limits blanks (at + nodes)) levels at ⌝ }
+    ensures { λ r. ⌜ now r ≡ pieceAt (now (symbols .entry)) (now (words .entry)) (limits blanks (at + nodes)) levels at ⌝ }
 {
     if words.len() <= at {
         return &words[0..0];
     }
     match read_term(
-        arity,
+        symbols,
         words,
         Limits {
             blanks: blanks,

@@ -22,18 +22,18 @@ use Rattle.contents.specs.declared.Shapes.{Shapes}
 use Rattle.contents.specs.declared.Shapes.the-variants as shapes
 use Rattle.contents.specs.declared.Score.{Score}
 use Rattle.contents.specs.declared.Score.the-variants as score
-use Rattle.lent.specs.declared.Asked.{Asked}
-use Rattle.lent.specs.declared.Asked.the-variants as asked
+use Rattle.checks.specs.declared.Asked.{Asked}
+use Rattle.checks.specs.declared.Asked.the-variants as asked
 
-abbrev pub isGood : Verdict → Bool
-isGood Good = true
-isGood (Bad r p) = false
+abbrev pub passes : Verdict → Bool
+passes Good = true
+passes (Bad r p) = false
 
 unfoldable pub symbolsGood : List ℕ → Bool
-symbolsGood ar = isGood (symbolsOf ar)
+symbolsGood ar = passes (symbolsOf ar)
 
 abbrev pub isFound : Shapes → Bool
-isFound (shapes.Found n) = true
+isFound (shapes.Whole n) = true
 isFound (shapes.Refused r i) = false
 
 abbrev pub isWhole : Score → Bool

@@ -1,8 +1,8 @@
 use mathlib.Core.Path.{sym, _∙_}
-use Rattle.lent.proofs.LawsAgain.{score-symbols, score-none, score-again}
+use Rattle.checks.proofs.LawsAgain.{score-symbols, score-none, score-again}
 use borrow.Author.Needs.{needs}
-use Rattle.lent.proofs.checking.score_good.Statement.{statement}
-use Rattle.lent.proofs.checking.score_good.Tie as tie
+use Rattle.checks.proofs.checking.score_good.Statement.{statement}
+use Rattle.checks.proofs.checking.score_good.Tie as tie
 
 test-symbols-requires : tie.Need-test-symbols-requires
 test-symbols-requires c κs = search needs

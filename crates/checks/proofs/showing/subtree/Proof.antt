@@ -1,8 +1,8 @@
 use mathlib.Core.Path.{sym, _∙_}
-use Rattle.lent.proofs.LawsAgain.{subtree-none, subtree-some}
+use Rattle.checks.proofs.LawsAgain.{subtree-none, subtree-some}
 use borrow.Author.Needs.{needs}
-use Rattle.lent.proofs.showing.subtree.Statement.{statement}
-use Rattle.lent.proofs.showing.subtree.Tie as tie
+use Rattle.checks.proofs.showing.subtree.Statement.{statement}
+use Rattle.checks.proofs.showing.subtree.Tie as tie
 
 test-symbols-requires : tie.Need-test-symbols-requires
 test-symbols-requires c κs = search needs
@@ -46,13 +46,13 @@ returns-2 : tie.Need-returns-2
 returns-2 c =
     let entry = c .before .before .before .before .before .before .before .before .before .before in
     let at-test-symbols = c .before .before .before .before .before .before .test-symbols in
-    c .piece .ensures ∙ sym (subtree-some (entry .args .asked) (entry .args .arity .now) (entry .args .shapes .now) (entry .args .score .now) (sym (at-test-symbols .ensures) ∙ c .before .before .before .before .enum-told .given .1) (c .before .before .asked .given .1))
+    c .piece .ensures ∙ sym (subtree-some (entry .args .asked) (entry .args .symbols .now) (entry .args .shapes .now) (entry .args .score .now) (sym (at-test-symbols .ensures) ∙ c .before .before .before .before .enum-told .given .1) (c .before .before .asked .given .1))
 
 returns-3 : tie.Need-returns-3
 returns-3 c =
     let entry = c .before .before .before .before .before .before .before .before .before .before .before in
     let at-test-symbols = c .before .before .before .before .before .before .before .test-symbols in
-    c .piece2 .ensures ∙ sym (subtree-some (entry .args .asked) (entry .args .arity .now) (entry .args .shapes .now) (entry .args .score .now) (sym (at-test-symbols .ensures) ∙ c .before .before .before .before .before .enum-told .given .1) (c .before .before .before .asked2 .given .1))
+    c .piece2 .ensures ∙ sym (subtree-some (entry .args .asked) (entry .args .symbols .now) (entry .args .shapes .now) (entry .args .score .now) (sym (at-test-symbols .ensures) ∙ c .before .before .before .before .before .enum-told .given .1) (c .before .before .before .asked2 .given .1))
 
 pub subtree-spec : {M : Type 1} → statement M
 subtree-spec =

@@ -1,6 +1,6 @@
 ghost use mathlib.Core.Path.{_≡_};
 ghost use Prim.Native.Nat.{ℕ};
-ghost use Rattle.lent.specs.Again.{shapesGood, scoreGood};
+ghost use Rattle.checks.specs.Again.{shapesGood, scoreGood};
 use contents::BLANK;
 use contents::Score;
 use contents::Shapes;
@@ -12,40 +12,40 @@ use sections::finding::test_symbols;
 use term::spans::spans_are;
 
 // Whether symbols, shape words and starts, each by its whole length, are such as opening accepts and writes (else 19).
-pub fn shapes_good(arity: &[u8], words: &[u16], starts: &[u16]) -> bool
-    ensures { λ r. ⌜ r ≡ shapesGood (now (arity .entry)) (now (words .entry)) (now (starts .entry)) ⌝ }
+pub fn shapes_good(symbols: &[u8], words: &[u16], starts: &[u16]) -> bool
+    ensures { λ r. ⌜ r ≡ shapesGood (now (symbols .entry)) (now (words .entry)) (now (starts .entry)) ⌝ }
 {
-    match test_symbols(arity) {
+    match test_symbols(symbols) {
         Verdict::Bad(why, at) => {
             return false;
         }
         Verdict::Good => {}
     }
     let mut firsts = [0u16; 16];
-    let n = match read_shapes(arity, BLANK, words, &mut firsts) {
+    let n = match read_shapes(symbols, BLANK, words, &mut firsts) {
         Shapes::Refused(why, at) => {
             return false;
         }
-        Shapes::Found(n) => n,
+        Shapes::Whole(n) => n,
     };
     equal(starts, &firsts[0..n])
 }
 
 // Whether score words and spans are such as opening writes for these symbols (else 31).
-pub fn score_good(arity: &[u8], words: &[u16], spans: &[u16]) -> bool
-    ensures { λ r. ⌜ r ≡ scoreGood (now (arity .entry)) (now (words .entry)) (now (spans .entry)) ⌝ }
+pub fn score_good(symbols: &[u8], words: &[u16], spans: &[u16]) -> bool
+    ensures { λ r. ⌜ r ≡ scoreGood (now (symbols .entry)) (now (words .entry)) (now (spans .entry)) ⌝ }
 {
-    match test_symbols(arity) {
+    match test_symbols(symbols) {
         Verdict::Bad(why, at) => {
             return false;
         }
         Verdict::Good => {}
     }
-    match read_score(arity, words) {
+    match read_score(symbols, words) {
         Score::Refused(why, at) => {
             return false;
         }
         Score::Whole => {}
     }
-    spans_are(arity, words, spans)
+    spans_are(symbols, words, spans)
 }

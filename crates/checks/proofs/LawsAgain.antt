@@ -32,8 +32,8 @@ use Rattle.contents.specs.declared.Shapes.{Shapes}
 use Rattle.contents.specs.declared.Shapes.the-variants as shapes
 use Rattle.contents.specs.declared.Score.{Score}
 use Rattle.contents.specs.declared.Score.the-variants as score
-use Rattle.lent.specs.declared.Asked.{Asked}
-use Rattle.lent.specs.Again.{isGood, symbolsGood, isFound, isWhole, shapesGood, scoreGood, cut, pieceAt, askedOf, subtreeAt}
+use Rattle.checks.specs.declared.Asked.{Asked}
+use Rattle.checks.specs.Again.{passes, symbolsGood, isFound, isWhole, shapesGood, scoreGood, cut, pieceAt, askedOf, subtreeAt}
 use Rattle.contents.proofs.LawsTables.{found-count}
 
 module _ (ar : List ℕ) where
@@ -54,7 +54,7 @@ module _ (ar ws st : List ℕ) where
   unfolding shapesGood
   again-refused e f = rw (symbols-good ar e, f)
 
-  pub again-found : (n : ℕ) (z f : List ℕ) → symbolsOf ar ≡ Good → shapesOf ar blankWord ws .answer ≡ shapes.Found n → length z ≡ 16 → f ≡ sets z 0 (shapesOf ar blankWord ws .starts)
+  pub again-found : (n : ℕ) (z f : List ℕ) → symbolsOf ar ≡ Good → shapesOf ar blankWord ws .answer ≡ shapes.Whole n → length z ≡ 16 → f ≡ sets z 0 (shapesOf ar blankWord ws .starts)
       → shapesGood ar ws st ≡ same st (take (n - 0) f)
   unfolding shapesGood
   again-found n z f e g lz ef =
@@ -103,7 +103,7 @@ pub symbols-good-is : (ar : List ℕ) → symbolsGood ar ≡ true → symbolsOf 
 unfolding symbolsGood
 symbols-good-is ar e = go (symbolsOf ar) refl e
   where
-    go : (v : Verdict) → symbolsOf ar ≡ v → isGood v ≡ true → symbolsOf ar ≡ Good
+    go : (v : Verdict) → symbolsOf ar ≡ v → passes v ≡ true → symbolsOf ar ≡ Good
     go Good q e = q
     go (Bad r p) q e = false-true e
 
@@ -111,7 +111,7 @@ symbols-good-is ar e = go (symbolsOf ar) refl e
 pub record ShapeTables (ar ws st : List ℕ) : Type 0 where
   pub symbols : symbolsOf ar ≡ Good
   pub number : ℕ
-  pub found : shapesOf ar blankWord ws .answer ≡ shapes.Found number
+  pub found : shapesOf ar blankWord ws .answer ≡ shapes.Whole number
   pub starts : st ≡ shapesOf ar blankWord ws .starts
 
 pub shapes-good-is : (ar ws st : List ℕ) → shapesGood ar ws st ≡ true → ShapeTables ar ws st
@@ -119,7 +119,7 @@ unfolding shapesGood
 shapes-good-is ar ws st e = go (shapesOf ar blankWord ws .answer) refl (and-r (symbolsGood ar) e)
   where
     go : (a : Shapes) → shapesOf ar blankWord ws .answer ≡ a → (isFound a && same st (shapesOf ar blankWord ws .starts)) ≡ true → ShapeTables ar ws st
-    go (shapes.Found n) q k = record { symbols = symbols-good-is ar (and-l _ e); number = n; found = q; starts = same-is st (shapesOf ar blankWord ws .starts) k }
+    go (shapes.Whole n) q k = record { symbols = symbols-good-is ar (and-l _ e); number = n; found = q; starts = same-is st (shapesOf ar blankWord ws .starts) k }
     go (shapes.Refused r i) q k = false-true k
 
 pub shapes-good-of : (ar ws st : List ℕ) → ShapeTables ar ws st → shapesGood ar ws st ≡ true

@@ -1,10 +1,10 @@
 use mathlib.Core.Path.{sym, _∙_}
 use native.Mathlib.Omega.{arith}
 use Rattle.term.proofs.LawsReading.{whole-in}
-use Rattle.lent.proofs.LawsAgain.{piece-out, piece-none, piece-some}
+use Rattle.checks.proofs.LawsAgain.{piece-out, piece-none, piece-some}
 use borrow.Author.Needs.{needs}
-use Rattle.lent.proofs.showing.piece.Statement.{statement}
-use Rattle.lent.proofs.showing.piece.Tie as tie
+use Rattle.checks.proofs.showing.piece.Statement.{statement}
+use Rattle.checks.proofs.showing.piece.Tie as tie
 
 sub-result : tie.Need-sub-result
 sub-result c = search needs
