@@ -15,7 +15,8 @@ use Rattle.report.specs.Paths.{pathTo}
 use Rattle.report.specs.Text.{digits, pathText, line, firstLine, refusalText}
 use Rattle.report.specs.Lines.{LineOutcome, outOf, written, lineOut, firstOut, refusalOut}
 use Rattle.report.specs.declared.Written.the-variants as answer
-use Rattle.report.proofs.TextLaws.{line-short, line-is, digits-short, path-few, text-few}
+use Rattle.report.proofs.PathLaws.{path-few}
+use Rattle.report.proofs.TextLaws.{line-short, line-is, digits-short, text-few}
 use Rattle.promises.specs.Demand1.{By, LineRow, line-30, writes}
 
 module _ (text buffer : List ℕ) (small : length text ≤ 1400) where

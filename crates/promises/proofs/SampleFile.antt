@@ -28,12 +28,13 @@ use Rattle.walk.specs.Stepping.{run}
 use Rattle.report.specs.Text.{report}
 use Rattle.promises.specs.Computing.{computing}
 use Rattle.promises.specs.Sample.{file, symbols, shapeWords, starts, score, spans, plan, marks, text, nines}
-use Rattle.promises.specs.OneFile.{OneFile, openedWords, openedStarts, openedNodes, spansOf, nodesIn, spansIn, shapesIn, scoreIn, planIn, begunIn, after, acceptedIn, reported}
+use Rattle.promises.specs.OneFile.{OneFile, openedWords, openedStarts, openedNodes, openedSpans, nodesIn, spansIn, shapesIn, scoreIn, planIn, begunIn, after, acceptedIn, reported}
 use Rattle.promises.proofs.Demand2.{demand-2}
 use Rattle.promises.proofs.Demand3.{demand-3}
+use Rattle.kinds.specs.Members.{Below}
 
-pub bytes-are : (i b : ℕ) → getElem? file i ≡ some b → b < 256
-bytes-are i b e = ltb-true b 256 (all-at (λ x. ltb x 256) {xs = file} refl (at-in file i e))
+pub bytes-are : Below 256 file
+bytes-are b m = ltb-true b 256 (all-at (λ x. ltb x 256) {xs = file} refl m)
 
 -- ---- what the three calls write
 abbrev pub tables : Lent
@@ -61,7 +62,7 @@ pub nodes-are : openedNodes file tables known ≡ score
 unfolding computing
 nodes-are = refl
 
-pub spans-are : spansOf file tables known ≡ spans
+pub spans-are : openedSpans file tables known ≡ spans
 unfolding computing
 spans-are = refl
 

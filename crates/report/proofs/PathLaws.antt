@@ -1,6 +1,6 @@
 -- The way from the root to a node, child by child.
 --   child-out child-here child-next child-end child-in   the search for the child
---   place-here place-none place-next place-end  the path
+--   place-here place-none place-next place-end path-few   the path
 --   Written written-done written-next           what is written so far, and what is left
 use Prim.Native.Nat.{ℕ, zero, suc, _+_, _-_, _<_, _≤_}
 use mathlib.Core.Path.{_≡_, refl, ap, sym, _∙_}
@@ -13,11 +13,11 @@ use borrow.Author.Tests.{lt-ltb, le-ltb, eq-eqb, ne-eqb}
 use lib.ListN.{length, getD, set}
 use lib.Seq.{sets}
 use mathlib.Core.Bool.{Bool, true, false, cond}
-use lib.Dec.{ltb}
+use lib.Dec.{eqb, ltb}
 use Rattle.kinds.specs.Lists.{need}
 use Rattle.kinds.proofs.Bools.{ltb-is}
 use Rattle.kinds.proofs.Options.{none-not}
-use Rattle.report.specs.Paths.{childOn, pathTo}
+use Rattle.report.specs.Paths.{childOn, through, pathTo}
 
 module _ (sp : List ℕ) (x : ℕ) where
   pub child-out : (k c : ℕ) → k < 4 → length sp ≤ c → childOn sp x (4 - k) c (k + 1) ≡ none
@@ -57,8 +57,21 @@ pub record Written (sp : List ℕ) (x : ℕ) (o₀ o : List ℕ) (d a : ℕ) : T
   pub long : length (pathTo 64 sp x 0) ≡ d + length (pathTo (64 - d) sp x a)
   pub text : sets o₀ 0 (pathTo 64 sp x 0) ≡ sets o d (pathTo (64 - d) sp x a)
 
-pub written-done : {sp : List ℕ} {x : ℕ} {o₀ o : List ℕ} {d a : ℕ} → Written sp x o₀ o d a → pathTo (64 - d) sp x a ≡ [] → (d ≡ length (pathTo 64 sp x 0)) × (o ≡ sets o₀ 0 (pathTo 64 sp x 0))
-written-done {o = o} {d = d} w e = (sym (w .long ∙ ap (λ (p : List ℕ). d + length p) e ∙ add-zero d), sym (w .text ∙ ap (sets o d) e))
+pub path-few : (d : ℕ) (sp : List ℕ) (x a : ℕ) → length (pathTo d sp x a) ≤ d
+unfolding pathTo
+path-few zero sp x a = omega arith
+path-few (suc d) sp x a = go (eqb a x) (childOn sp x 4 (a + 1) 1) (path-few d sp x)
+  where
+    go : (b : Bool) (o : Option (ℕ × ℕ)) → ((c : ℕ) → length (pathTo d sp x c) ≤ d) → length (cond b [] (through o (pathTo d sp x))) ≤ suc d
+    go true o ih = omega arith
+    go false none ih = omega arith
+    go false (some c) ih = let h = ih (c .1) in omega arith
+
+pub written-done : {sp : List ℕ} {x : ℕ} {o₀ o : List ℕ} {d a : ℕ} → Written sp x o₀ o d a → pathTo (64 - d) sp x a ≡ [] 
+    → (d ≡ length (pathTo 64 sp x 0)) × ((o ≡ sets o₀ 0 (pathTo 64 sp x 0)) × (d ≤ 64))
+written-done {sp} {x} {o = o} {d = d} w e =
+    let long = sym (w .long ∙ ap (λ (p : List ℕ). d + length p) e ∙ add-zero d) in
+    (long, (sym (w .text ∙ ap (sets o d) e), omega (arith, long, path-few 64 sp x 0)))
 
 pub written-next : {sp : List ℕ} {x : ℕ} {o₀ o : List ℕ} {d a : ℕ} (i c : ℕ) → Written sp x o₀ o d a → pathTo (64 - d) sp x a ≡ i ∷ pathTo (64 - (d + 1)) sp x c → Written sp x o₀ (set o d i) (d + 1) c
 written-next {sp} {x} {o₀} {o} {d} {a} i c w e = record {

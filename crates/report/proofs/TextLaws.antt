@@ -1,12 +1,15 @@
 -- Text written piece by piece.
---   Put              a text stands from one place on, and ends at another
---   put-then         a piece behind a piece
+--   Put put-then     a text stands from one place on, and ends at another; a piece behind a piece
 --   text-next text-end              a text byte by byte
 --   dotted-is dotted-next dotted-end   child numbers, each behind a dot
---   dotted-few path-few             how long they are at most
+--   dotted-few text-few    how long they are at most
+--   Wrote            what a call says of a piece that it wrote
+--   Dots dots-begin dots-next dots-end path-root   what is left of child numbers from a place on
+--   path-part part-few              the path as a part of its buffer
+--   field-is first-is refusal-is match-is   a text and a number; the three lines
 use Prim.Native.Nat.{ℕ, zero, suc, _+_, _*_, _-_, _<_, _≤_}
 use mathlib.Core.Path.{_≡_, refl, ap, ap₂, sym, _∙_}
-use mathlib.Core.List.{List, [], _∷_, _++_, append-assoc, append-nil}
+use mathlib.Core.List.{List, [], _∷_, _++_}
 use native.Mathlib.Omega.{arith}
 use native.Mathlib.Nat.{add-zero, zero-add}
 use mathlib.Core.Bool.{Bool, true, false, cond}
@@ -14,19 +17,20 @@ use mathlib.Core.Option.{Option, none, some}
 use borrow.Author.Tests.{lt-leb, le-leb}
 use lib.Dec.{eqb}
 use native.Mathlib.Numerals.{add-one}
-use lib.ListN.{length, getD, drop, set, length-append, length-set}
+use lib.ListN.{length, getD, take, drop, set, replicate, length-append, length-set, length-replicate}
 use lib.Seq.{sets, drop-cons, length-sets}
 use Rattle.kinds.specs.Lists.{gather}
 use Rattle.kinds.specs.Positions.{Pos}
-use Rattle.kinds.proofs.ListLaws.{sets-append, from, from-end}
+use Rattle.kinds.proofs.ListLaws.{sets-append, from, from-end, run-whole}
 use Rattle.kinds.specs.declared.Reason.the-variants.{ShortBuffers}
 use Rattle.report.specs.Paths.{childOn, through, pathTo}
-use Rattle.report.specs.Text.{digits, digitsTo, dotted, pathText}
+use Rattle.report.specs.Text.{digits, digitsTo, dotted, field, pathText}
 use Rattle.kinds.specs.Reasons.{numberOf}
 use Rattle.kinds.specs.declared.Reason.{Reason}
 use Rattle.report.specs.Quoted.{bytes}
 use Rattle.report.specs.Lines.{outOf, written, firstOut, refusalOut, lineOut}
 use Rattle.report.specs.declared.Written.the-variants.{Bytes, Refused}
+use Rattle.report.proofs.PathLaws.{path-few}
 use Rattle.report.proofs.DigitLaws.{digits-few}
 
 pub record Put (o₀ : List ℕ) (a : ℕ) (ws : List ℕ) (o : List ℕ) (e : ℕ) : Type 0 where
@@ -63,6 +67,20 @@ pub digits-short : (n : ℕ) → length (digits n) ≤ 20
 unfolding digits
 digits-short n = digits-few 20 n
 
+pub dotted-few : (p : Pos) → length (dotted p) ≤ 21 * length p
+unfolding dotted digits
+dotted-few [] = omega arith
+dotted-few (i ∷ p) = let ih = dotted-few p in let f = digits-few 20 i in rw (length-append (46 ∷ digitsTo 20 i) (dotted p)) (omega arith)
+
+pub text-few : (p : Pos) → length (pathText p) ≤ 21 * length p + 1
+unfolding pathText
+text-few [] = omega arith
+text-few (i ∷ p) = let f = digits-short i in let g = dotted-few p in let e : length (pathText (i ∷ p)) ≡ length (digits i) + length (dotted p) = ap length (dotted-is i p) ∙ length-append (digits i) (dotted p) in omega arith
+
+-- what a call says of a piece that it wrote, of at most so many bytes
+abbrev pub Wrote : ℕ → List ℕ → ℕ → List ℕ → List ℕ → ℕ → Type 0
+Wrote most o a ws o′ e = (e ≡ a + length ws) × ((o′ ≡ sets o a ws) × (e ≤ a + most))
+
 -- what is left of child numbers from place i on
 pub record Dots (p : Pos) (o₀ : List ℕ) (a₀ : ℕ) (o : List ℕ) (a i : ℕ) : Type 0 where
   pub long : length o ≡ length o₀
@@ -94,7 +112,7 @@ dots-next {p} {o₀} {o} {a₀} {a} {i} o′ e d h q t =
     }
 
 pub dots-end : {p : Pos} {o₀ o : List ℕ} {a₀ a i : ℕ} (z : List ℕ) (at : ℕ) → Dots p o₀ a₀ o a i → length p ≤ i
-    → a₀ ≡ at + length (digitsTo 20 (getD p 0 0)) → o₀ ≡ sets z at (digitsTo 20 (getD p 0 0)) → (a ≡ at + length (pathText p)) × (o ≡ sets z at (pathText p))
+    → a₀ ≡ at + length (digitsTo 20 (getD p 0 0)) → o₀ ≡ sets z at (digitsTo 20 (getD p 0 0)) → Wrote (21 * length p + 1) z at (pathText p) o a
 unfolding digits
 dots-end {p} {o₀} {o} {a₀} {a} {i} z at d h q t =
     let n : length p ≤ i = h in
@@ -104,16 +122,17 @@ dots-end {p} {o₀} {o} {a₀} {a} {i} z at d h q t =
     let l : length (dotted (drop i p)) ≡ 0 = ap length s in
     let m : length (pathText p) ≡ length (digitsTo 20 (getD p 0 0)) + length (dotted (drop 1 p)) = ap length w ∙ length-append (digitsTo 20 (getD p 0 0)) (dotted (drop 1 p)) in (
       omega arith,
-      sym (ap (sets z at) w ∙ sets-append z at (digitsTo 20 (getD p 0 0)) (dotted (drop 1 p)) ∙ ap₂ (λ x k. sets x k (dotted (drop 1 p))) (sym t) (sym q) ∙ d .text ∙ ap (sets o a) s),
+      (sym (ap (sets z at) w ∙ sets-append z at (digitsTo 20 (getD p 0 0)) (dotted (drop 1 p)) ∙ ap₂ (λ x k. sets x k (dotted (drop 1 p))) (sym t) (sym q) ∙ d .text ∙ ap (sets o a) s),
+      omega (arith, text-few p)),
     )
   where
     whole : (p : Pos) → 1 ≤ length p → pathText p ≡ digits (getD p 0 0) ++ dotted (drop 1 p)
     whole [] g = absurd (omega arith)
     whole (j ∷ r) g = dotted-is j r
 
-pub path-root : (p : Pos) (o o′ : List ℕ) (a e : ℕ) → length p ≡ 0 → (e ≡ a + 1) × (o′ ≡ sets o a (45 ∷ [])) → (e ≡ a + length (pathText p)) × (o′ ≡ sets o a (pathText p))
+pub path-root : (p : Pos) (o o′ : List ℕ) (a e : ℕ) → length p ≡ 0 → (e ≡ a + 1) × (o′ ≡ sets o a (45 ∷ [])) → Wrote (21 * length p + 1) o a (pathText p) o′ e
 unfolding pathText
-path-root [] o o′ a e z h = h
+path-root [] o o′ a e z h = (h .0, (h .1, omega (arith, h .0)))
 path-root (i ∷ p) o o′ a e z h = absurd (omega arith)
 
 -- ---- a line
@@ -125,63 +144,48 @@ pub line-is : {text o o′ : List ℕ} {e : ℕ} → 1400 ≤ length o → Put o
 unfolding written
 line-is {text} {o} {o′} {e} h p = rw (le-leb 1400 (length o) h) (ap₂ (λ k l. outOf (Bytes k) l) (p .end ∙ zero-add (length text)) (p .text))
 
--- what a call says of a piece that it wrote
-abbrev pub Wrote : List ℕ → ℕ → List ℕ → List ℕ → ℕ → Type 0
-Wrote o a ws o′ e = (e ≡ a + length ws) × (o′ ≡ sets o a ws)
+piece : (most : ℕ) {o o′ : List ℕ} {a e : ℕ} (ws : List ℕ) → Wrote most o a ws o′ e → Put o a ws o′ e
+piece most ws h = record { end = h .0; text = h .1 .0 }
 
-piece : {o o′ : List ℕ} {a e : ℕ} (ws : List ℕ) → Wrote o a ws o′ e → Put o a ws o′ e
-piece ws h = record { end = h .0; text = h .1 }
+text : {o o′ : List ℕ} {a e : ℕ} (ws : List ℕ) → (e ≡ a + length ws) × (o′ ≡ sets o a ws) → Put o a ws o′ e
+text ws h = record { end = h .0; text = h .1 }
 
-number : {o o′ : List ℕ} {a e : ℕ} (n : ℕ) → Wrote o a (digitsTo 20 n) o′ e → Put o a (digits n) o′ e
+pub field-is : {o′ o″ : List ℕ} {b c : ℕ} (o : List ℕ) (a : ℕ) (ws : List ℕ) (n : ℕ) → (b ≡ a + length ws) × (o′ ≡ sets o a ws) → Wrote 20 o′ b (digitsTo 20 n) o″ c → Wrote (length ws + 20) o a (field ws n) o″ c
 unfolding digits
-number n h = record { end = h .0; text = h .1 }
+field-is o a ws n h d = let p = put-then (text ws h) (piece 20 (digitsTo 20 n) d) in (p .end, (p .text, omega (arith, h .0, d .1 .1)))
 
--- a number takes at most twenty bytes
-pub number-end : (n a e : ℕ) → e ≡ a + length (digitsTo 20 n) → e ≤ a + 20
-number-end n a e h = let f = digits-few 20 n in omega arith
+-- the path as a part of its buffer
+pub path-part : (sp : List ℕ) (x r : ℕ) (o : List ℕ) → r ≡ length (pathTo 64 sp x 0) → o ≡ sets (replicate {A = ℕ} 64 0) 0 (pathTo 64 sp x 0) → take (r - 0) o ≡ pathTo 64 sp x 0
+path-part sp x r o e w = run-whole (replicate 64 0) o (pathTo 64 sp x 0) r e (rw (length-replicate {A = ℕ} 64 0) (path-few 64 sp x 0)) w
 
-pub path-few : (d : ℕ) (sp : List ℕ) (x a : ℕ) → length (pathTo d sp x a) ≤ d
-unfolding pathTo
-path-few zero sp x a = omega arith
-path-few (suc d) sp x a = go (eqb a x) (childOn sp x 4 (a + 1) 1) (path-few d sp x)
-  where
-    go : (b : Bool) (o : Option (ℕ × ℕ)) → ((c : ℕ) → length (pathTo d sp x c) ≤ d) → length (cond b [] (through o (pathTo d sp x))) ≤ suc d
-    go true o ih = omega arith
-    go false none ih = omega arith
-    go false (some c) ih = let h = ih (c .1) in omega arith
+pub part-few : (sp : List ℕ) (x r : ℕ) (o : List ℕ) → r ≡ length (pathTo 64 sp x 0) → o ≡ sets (replicate {A = ℕ} 64 0) 0 (pathTo 64 sp x 0) → length (take (r - 0) o) ≤ 64
+part-few sp x r o e w = rw (path-part sp x r o e w) (path-few 64 sp x 0)
 
-pub dotted-few : (p : Pos) → length (dotted p) ≤ 21 * length p
-unfolding dotted digits
-dotted-few [] = omega arith
-dotted-few (i ∷ p) = let ih = dotted-few p in let f = digits-few 20 i in rw (length-append (46 ∷ digitsTo 20 i) (dotted p)) (omega arith)
-
-pub text-few : (p : Pos) → length (pathText p) ≤ 21 * length p + 1
-unfolding pathText
-text-few [] = omega arith
-text-few (i ∷ p) = let f = digits-short i in let g = dotted-few p in let e : length (pathText (i ∷ p)) ≡ length (digits i) + length (dotted p) = ap length (dotted-is i p) ∙ length-append (digits i) (dotted p) in omega arith
-
-pub path-end : (p : Pos) (a e : ℕ) → length p ≤ 64 → e ≡ a + length (pathText p) → e ≤ a + 1345
-path-end p a e l h = let f = text-few p in omega arith
-
-pub first-is : (n s m c : ℕ) (o : List ℕ) {o₁ o₂ o₃ o₄ o₅ o₆ o₇ o₈ o₉ : List ℕ} {a₁ a₂ a₃ a₄ a₅ a₆ a₇ a₈ a₉ : ℕ} → 1400 ≤ length o
-    → Wrote o 0 (bytes "nodes ") o₁ a₁ → Wrote o₁ a₁ (digitsTo 20 n) o₂ a₂ → Wrote o₂ a₂ (bytes " states ") o₃ a₃ → Wrote o₃ a₃ (digitsTo 20 s) o₄ a₄
-    → Wrote o₄ a₄ (bytes " matches ") o₅ a₅ → Wrote o₅ a₅ (digitsTo 20 m) o₆ a₆ → Wrote o₆ a₆ (bytes " clashes ") o₇ a₇ → Wrote o₇ a₇ (digitsTo 20 c) o₈ a₈
-    → Wrote o₈ a₈ (bytes "\n") o₉ a₉ → outOf (Bytes a₉) o₉ ≡ firstOut n s m c o
-first-is n s m c o room p₁ p₂ p₃ p₄ p₅ p₆ p₇ p₈ p₉ =
+pub first-is : (n s m c : ℕ) (o : List ℕ) {o₁ o₂ o₃ o₄ o₅ : List ℕ} {a₁ a₂ a₃ a₄ a₅ : ℕ} → 1400 ≤ length o
+    → Wrote 26 o 0 (field (bytes "nodes ") n) o₁ a₁ → Wrote 28 o₁ a₁ (field (bytes " states ") s) o₂ a₂ → Wrote 29 o₂ a₂ (field (bytes " matches ") m) o₃ a₃
+    → Wrote 29 o₃ a₃ (field (bytes " clashes ") c) o₄ a₄ → (a₅ ≡ a₄ + 1) × (o₅ ≡ sets o₄ a₄ (bytes "\n")) → outOf (Bytes a₅) o₅ ≡ firstOut n s m c o
+first-is n s m c o room p₁ p₂ p₃ p₄ p₅ =
     line-is room
-    (put-then (piece (bytes "nodes ") p₁) (put-then (number n p₂) (put-then (piece (bytes " states ") p₃) (put-then (number s p₄)
-    (put-then (piece (bytes " matches ") p₅) (put-then (number m p₆) (put-then (piece (bytes " clashes ") p₇) (put-then (number c p₈) (piece (bytes "\n") p₉)))))))))
+    (put-then (piece 26 (field (bytes "nodes ") n) p₁)
+    (put-then (piece 28 (field (bytes " states ") s) p₂)
+    (put-then (piece 29 (field (bytes " matches ") m) p₃)
+    (put-then (piece 29 (field (bytes " clashes ") c) p₄) (text (bytes "\n") p₅)))))
 
-pub refusal-is : (r : Reason) (p : ℕ) (o : List ℕ) {o₁ o₂ o₃ o₄ o₅ : List ℕ} {a₁ a₂ a₃ a₄ a₅ k : ℕ} → 1400 ≤ length o → k ≡ numberOf r
-    → Wrote o 0 (bytes "refused ") o₁ a₁ → Wrote o₁ a₁ (digitsTo 20 k) o₂ a₂ → Wrote o₂ a₂ (bytes " at ") o₃ a₃ → Wrote o₃ a₃ (digitsTo 20 p) o₄ a₄
-    → Wrote o₄ a₄ (bytes "\n") o₅ a₅ → outOf (Bytes a₅) o₅ ≡ refusalOut r p o
-refusal-is r p o {k = k} room e p₁ p₂ p₃ p₄ p₅ =
-    line-is room (put-then (piece (bytes "refused ") p₁) (put-then (number k p₂) (put-then (piece (bytes " at ") p₃) (put-then (number p p₄) (piece (bytes "\n") p₅)))))
-    ∙ ap (λ n. written (bytes "refused " ++ (digits n ++ (bytes " at " ++ (digits p ++ bytes "\n")))) o) e
+pub refusal-is : (r : Reason) (p : ℕ) {k : ℕ} (o : List ℕ) {o₁ o₂ o₃ : List ℕ} {a₁ a₂ a₃ : ℕ} → 1400 ≤ length o → k ≡ numberOf r
+    → Wrote 28 o 0 (field (bytes "refused ") k) o₁ a₁ → Wrote 24 o₁ a₁ (field (bytes " at ") p) o₂ a₂ → (a₃ ≡ a₂ + 1) × (o₃ ≡ sets o₂ a₂ (bytes "\n"))
+    → outOf (Bytes a₃) o₃ ≡ refusalOut r p o
+refusal-is r p {k} o room e p₁ p₂ p₃ =
+    line-is room (put-then (piece 28 (field (bytes "refused ") k) p₁) (put-then (piece 24 (field (bytes " at ") p) p₂) (text (bytes "\n") p₃)))
+    ∙ ap (λ n. written (field (bytes "refused ") n ++ (field (bytes " at ") p ++ bytes "\n")) o) e
 
-pub match-is : (sp : List ℕ) (x j : ℕ) (o p : List ℕ) {o₁ o₂ o₃ o₄ o₅ o₆ : List ℕ} {a₁ a₂ a₃ a₄ a₅ a₆ : ℕ} → 1400 ≤ length o → p ≡ pathTo 64 sp x 0
-    → Wrote o 0 (digitsTo 20 x) o₁ a₁ → Wrote o₁ a₁ (bytes " ") o₂ a₂ → Wrote o₂ a₂ (digitsTo 20 j) o₃ a₃ → Wrote o₃ a₃ (bytes " ") o₄ a₄
-    → Wrote o₄ a₄ (pathText p) o₅ a₅ → Wrote o₅ a₅ (bytes "\n") o₆ a₆ → outOf (Bytes a₆) o₆ ≡ lineOut sp x j o
-match-is sp x j o p room e p₁ p₂ p₃ p₄ p₅ p₆ =
-    line-is room (put-then (number x p₁) (put-then (piece (bytes " ") p₂) (put-then (number j p₃) (put-then (piece (bytes " ") p₄) (put-then (piece (pathText p) p₅) (piece (bytes "\n") p₆))))))
-    ∙ ap (λ q. written (digits x ++ (bytes " " ++ (digits j ++ (bytes " " ++ (pathText q ++ bytes "\n"))))) o) e
+pub match-is : (sp : List ℕ) (x j : ℕ) (p : Pos) (most : ℕ) (o : List ℕ) {o₁ o₂ o₃ o₄ o₅ : List ℕ} {a₁ a₂ a₃ a₄ a₅ : ℕ} → 1400 ≤ length o → p ≡ pathTo 64 sp x 0
+    → Wrote 20 o 0 (digitsTo 20 x) o₁ a₁ → Wrote 21 o₁ a₁ (field (bytes " ") j) o₂ a₂ → (a₃ ≡ a₂ + 1) × (o₃ ≡ sets o₂ a₂ (bytes " "))
+    → Wrote most o₃ a₃ (pathText p) o₄ a₄ → (a₅ ≡ a₄ + 1) × (o₅ ≡ sets o₄ a₄ (bytes "\n")) → outOf (Bytes a₅) o₅ ≡ lineOut sp x j o
+unfolding digits
+match-is sp x j p most o room e p₁ p₂ p₃ p₄ p₅ =
+    line-is room
+    (put-then (piece 20 (digits x) p₁)
+    (put-then (piece 21 (field (bytes " ") j) p₂)
+    (put-then (text (bytes " ") p₃)
+    (put-then (piece most (pathText p) p₄) (text (bytes "\n") p₅)))))
+    ∙ ap (λ q. written (digits x ++ (field (bytes " ") j ++ (bytes " " ++ (pathText q ++ bytes "\n")))) o) e

@@ -3,6 +3,7 @@
 --   digitsTo      a number in decimal, of at most d digits; digits: of any length that is met
 --   dotted        child numbers, each behind a dot
 --   pathText      a position, the root as `-`
+--   field         a text and a number behind it
 --   line          one match
 --   firstLine     the four numbers
 --   lines         by node, then shape
@@ -40,15 +41,19 @@ unfoldable pub pathText : Pos → List ℕ
 pathText [] = bytes "-"
 pathText (i ∷ p) = digits i ++ dotted p
 
+-- a text and a number behind it
+abbrev pub field : List ℕ → ℕ → List ℕ
+field text n = text ++ digits n
+
 abbrev pub line : List ℕ → Match → List ℕ
-line spans m = digits (m .node) ++ (bytes " " ++ (digits (m .shape) ++ (bytes " " ++ (pathText (pathTo 64 spans (m .node) 0) ++ bytes "\n"))))
+line spans m = digits (m .node) ++ (field (bytes " ") (m .shape) ++ (bytes " " ++ (pathText (pathTo 64 spans (m .node) 0) ++ bytes "\n")))
 
 abbrev pub firstLine : ℕ → ℕ → ℕ → ℕ → List ℕ
 firstLine n s m c =
-    bytes "nodes " ++ (digits n
-    ++ (bytes " states " ++ (digits s
-    ++ (bytes " matches " ++ (digits m
-    ++ (bytes " clashes " ++ (digits c ++ bytes "\n")))))))
+    field (bytes "nodes ") n
+    ++ (field (bytes " states ") s
+    ++ (field (bytes " matches ") m
+    ++ (field (bytes " clashes ") c ++ bytes "\n")))
 
 -- t 0, t 1, …, t (k - 1), one after the other
 unfoldable pub texts : ℕ → (ℕ → List ℕ) → List ℕ
@@ -64,7 +69,7 @@ report spans states marks =
     firstLine (length spans) states (total ms) (clashNumber (clash spans) ms) ++ lines spans ms
 
 abbrev pub refusalText : Reason → ℕ → List ℕ
-refusalText r p = bytes "refused " ++ (digits (numberOf r) ++ (bytes " at " ++ (digits p ++ bytes "\n")))
+refusalText r p = field (bytes "refused ") (numberOf r) ++ (field (bytes " at ") p ++ bytes "\n")
 
 -- a step as what it finds
 abbrev pub stepOf : Step → Option (ℕ × ℕ)

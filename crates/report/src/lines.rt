@@ -3,6 +3,7 @@ ghost use Rattle.report.specs.Lines.{outOf, lineOut, firstOut, refusalOu
 use crate::Written;
 use crate::text::put_digits;
 use crate::text::put_dotted;
+use crate::text::put_field;
 use crate::text::put_path;
 use crate::text::put_text;
 use kinds::Node;
@@ -17,16 +18,13 @@ pub fn put_line(spans: &[u16], node: Node, shape: Shape, out: &mut [u8]) -> Writ
     if out.len() < 1400 {
         return Written::Refused(Reason::ShortBuffers);
     }
-    let x = node.0 as usize;
-    let j = shape.0 as usize;
     let mut path = [0u16; 64];
-    let n = put_path(spans, x, &mut path);
-    let a = put_digits(x, 20, out, 0);
-    let b = put_text(b" ", out, a);
-    let c = put_digits(j, 20, out, b);
-    let d = put_text(b" ", out, c);
-    let e = put_dotted(&path[0..n], out, d);
-    let end = put_text(b"\n", out, e);
+    let n = put_path(spans, node.0 as usize, &mut path);
+    let a = put_digits(node.0 as usize, 20, out, 0);
+    let b = put_field(b" ", shape.0 as usize, out, a);
+    let c = put_text(b" ", out, b);
+    let d = put_dotted(&path[0..n], out, c);
+    let end = put_text(b"\n", out, d);
     Written::Bytes(end)
 }
 
@@ -37,12 +35,9 @@ pub fn put_refusal(reason: Reason, place: usize, out: &mut [u8]) -> Written
     if out.len() < 1400 {
         return Written::Refused(Reason::ShortBuffers);
     }
-    let k = number(reason) as usize;
-    let a = put_text(b"refused ", out, 0);
-    let b = put_digits(k, 20, out, a);
-    let c = put_text(b" at ", out, b);
-    let d = put_digits(place, 20, out, c);
-    let end = put_text(b"\n", out, d);
+    let a = put_field(b"refused ", number(reason) as usize, out, 0);
+    let b = put_field(b" at ", place, out, a);
+    let end = put_text(b"\n", out, b);
     Written::Bytes(end)
 }
 
@@ -59,14 +54,10 @@ pub fn put_first(
     if out.len() < 1400 {
         return Written::Refused(Reason::ShortBuffers);
     }
-    let a = put_text(b"nodes ", out, 0);
-    let b = put_digits(nodes, 20, out, a);
-    let c = put_text(b" states ", out, b);
-    let d = put_digits(states, 20, out, c);
-    let e = put_text(b" matches ", out, d);
-    let f = put_digits(matches, 20, out, e);
-    let g = put_text(b" clashes ", out, f);
-    let h = put_digits(clashes, 20, out, g);
-    let end = put_text(b"\n", out, h);
+    let a = put_field(b"nodes ", nodes, out, 0);
+    let b = put_field(b" states ", states, out, a);
+    let c = put_field(b" matches ", matches, out, b);
+    let d = put_field(b" clashes ", clashes, out, c);
+    let end = put_text(b"\n", out, d);
     Written::Bytes(end)
 }

@@ -3,7 +3,7 @@ ghost use Prim.Native.Nat.{ℕ, _+_, _*_, _-_, _<_, _≤_};
 ghost use lib.ListN.{length};
 ghost use lib.Seq.{sets};
 ghost use Rattle.report.specs.Paths.{childOn, pathTo};
-ghost use Rattle.report.specs.Text.{digitsTo, digits, pathText, stepOf};
+ghost use Rattle.report.specs.Text.{digitsTo, digits, field, pathText, stepOf};
 use crate::Step;
 
 // The child number and the node of the first of at most four children, from `from` on, in whose subtree x stands.
@@ -31,6 +31,7 @@ pub fn put_path(spans: &[u16], x: usize, out: &mut [u16]) -> usize
     requires { ⌜ 64 ≤ length (now out) ⌝ }
     ensures count { λ r. ⌜ r ≡ length (pathTo 64 (now (spans .entry)) x 0) ⌝ }
     ensures buffer { λ r. ⌜ now (out .exit) ≡ sets (now (out .entry)) 0 (pathTo 64 (now (spans .entry)) x 0) ⌝ }
+    ensures few { λ r. ⌜ r ≤ 64 ⌝ }
 {
     let mut at: usize = 0;
     let mut d: usize = 0;
@@ -57,6 +58,7 @@ pub fn put_digits(n: usize, left: usize, out: &mut [u8], at: usize) -> usize
     requires { ⌜ at + left ≤ length (now out) ⌝ }
     ensures count { λ r. ⌜ r ≡ at + length (digitsTo left n) ⌝ }
     ensures buffer { λ r. ⌜ now (out .exit) ≡ sets (now (out .entry)) at (digitsTo left n) ⌝ }
+    ensures few { λ r. ⌜ r ≤ at + left ⌝ }
 {
     if left == 0 {
         return at;
@@ -84,11 +86,23 @@ pub fn put_text(text: &[u8], out: &mut [u8], at: usize) -> usize
     at + i
 }
 
+// A text and a number behind it, from `at` on; answers the place after them.
+pub fn put_field(text: &[u8], n: usize, out: &mut [u8], at: usize) -> usize
+    requires { ⌜ at + (length (now text) + 20) ≤ length (now out) ⌝ }
+    ensures count { λ r. ⌜ r ≡ at + length (field (now (text .entry)) n) ⌝ }
+    ensures buffer { λ r. ⌜ now (out .exit) ≡ sets (now (out .entry)) at (field (now (text .entry)) n) ⌝ }
+    ensures few { λ r. ⌜ r ≤ at + (length (now (text .entry)) + 20) ⌝ }
+{
+    let here = put_text(text, out, at);
+    put_digits(n, 20, out, here)
+}
+
 // Child numbers with dots between them, the root as `-`, from `at` on; answers the place after them.
 pub fn put_dotted(path: &[u16], out: &mut [u8], at: usize) -> usize
     requires { ⌜ at + (21 * length (now path) + 1) ≤ length (now out) ⌝ }
     ensures count { λ r. ⌜ r ≡ at + length (pathText (now (path .entry))) ⌝ }
     ensures buffer { λ r. ⌜ now (out .exit) ≡ sets (now (out .entry)) at (pathText (now (path .entry))) ⌝ }
+    ensures few { λ r. ⌜ r ≤ at + (21 * length (now (path .entry)) + 1) ⌝ }
 {
     if path.len() == 0 {
         return put_text(b"-", out, at);

@@ -104,7 +104,7 @@ loop-again : tie.Need-loop-again Inv-loop μ-loop
 loop-again c =
     let at-loop = c .before .before .before .before .before .before .loop in
     let at-put-digits2 = c .before .before .put-digits2 in
-    dots-next _ _ (at-loop .inv) (c .before .before .before .before .before .loop-test .taken) (at-put-digits2 .ensures .0) (at-put-digits2 .ensures .1)
+    dots-next _ _ (at-loop .inv) (c .before .before .before .before .before .loop-test .taken) (at-put-digits2 .ensures .0) (at-put-digits2 .ensures .1 .0)
 
 -- src/text.rt:90:1
 same-length-2 : tie.Need-same-length-2 Inv-loop μ-loop
@@ -114,7 +114,7 @@ same-length-2 c = search needs
 returns-2 : tie.Need-returns-2 Inv-loop μ-loop
 returns-2 c =
     let at-put-digits = c .before .before .before .before .put-digits in
-    dots-end _ _ (c .before .loop .inv) (c .loop-test .left) (at-put-digits .ensures .0) (at-put-digits .ensures .1)
+    dots-end _ _ (c .before .loop .inv) (c .loop-test .left) (at-put-digits .ensures .0) (at-put-digits .ensures .1 .0)
 
 pub put-dotted-spec : {M : Type 1} → statement M
 put-dotted-spec =
