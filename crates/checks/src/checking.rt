@@ -1,11 +1,11 @@
 ghost use mathlib.Core.Path.{_≡_};
 ghost use Prim.Native.Nat.{ℕ};
 ghost use Rattle.checks.specs.Again.{shapesGood, scoreGood};
-use contents::BLANK;
 use contents::Score;
 use contents::Shapes;
 use contents::reading::read_score;
 use contents::reading::read_shapes;
+use kinds::limits::BLANK;
 use kinds::slices::equal;
 use sections::Verdict;
 use sections::finding::test_symbols;

@@ -6,8 +6,8 @@ ghost use mathlib.Core.Bool.{cond};
 ghost use Rattle.counting.specs.Clashes.{clashesOf, clashNumber, clash};
 ghost use Rattle.counting.specs.Passing.{markedIn, hits, further};
 use crate::Counted;
-use kinds::Reason;
 use checks::checking::score_good;
+use kinds::Reason;
 
 // The number of matches: the ones in the first n marks.
 pub fn matches(symbols: &[u8], score: &[u16], spans: &[u16], marks: &[u16]) -> Counted

@@ -7,6 +7,7 @@ use crate::Index;
 use crate::Reached;
 use kinds::Node;
 use kinds::Position;
+use kinds::limits::NUMBERED_NODES;
 
 // The node that a position leads to from a node, in a score of so many nodes.
 pub fn follow(spans: &[u16], nodes: usize, from: Node, by: Position) -> Reached
@@ -22,7 +23,7 @@ pub fn follow(spans: &[u16], nodes: usize, from: Node, by: Position) -> Reached
             if nodes <= x {
                 return Reached::Nowhere;
             }
-            if 65536 <= x {
+            if NUMBERED_NODES <= x {
                 return Reached::Nowhere;
             }
             Reached::At(Node(x as u16))

@@ -1,4 +1,5 @@
 -- The definitions that every layer shares.
+pub mod Limits
 pub mod Lists
 pub mod Members
 pub mod Positions

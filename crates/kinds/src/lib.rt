@@ -5,7 +5,8 @@ ghost use Rattle.kinds.specs.Positions.{padTo, decode};
 ghost use Rattle.kinds.specs.Kinds.{childOf, isGood, lengthOf, comesBefore};
 ghost use Rattle.kinds.specs.Reasons.{numberOf};
 
-pub mod slices; // copying and comparing words
+pub mod limits; // the numbers of document 01
+pub mod slices; // comparing words
 
 // The number of a plan's state.
 pub struct State(pub u16);

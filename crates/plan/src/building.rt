@@ -1,8 +1,8 @@
 use crate::Built;
 use crate::Size;
+use checks::checking::shapes_good;
 use exploring::meeting::explore;
 use kinds::Reason;
-use checks::checking::shapes_good;
 use states::Explored;
 use tables::filling::fill_tables;
 use writing::blocks::write_plan;

@@ -4,6 +4,7 @@
 use mathlib.Core.Path.{_≡_, refl, ap, sym, _∙_}
 use denote.Ref.{now}
 use Rattle.folio.specs.Opening.{OpenOutcome}
+use Rattle.walk.specs.Starting.{WalkOutcome}
 use Rattle.report.specs.Lines.{LineOutcome}
 use Rattle.checks.proofs.checking.score_good.Reads as score-good
 use Rattle.checks.proofs.checking.shapes_good.Reads as shapes-good
@@ -121,10 +122,14 @@ pub build-determined : (κs : _) (a : _) (r r′ : _) (e e′ : _) → build.Lea
 build-determined κs a r r′ e e′ h h′ = (h .0 ∙ sym (h′ .0), h .1 .0 ∙ sym (h′ .1 .0), h .1 .1 ∙ sym (h′ .1 .1))
 
 pub start-determined : (κs : _) (a : _) (r r′ : _) (e e′ : _) → start.Learnt κs a r e → start.Learnt κs a r′ e′ → (r ≡ r′) × (now (e .1 .1 .1 .0) ≡ now (e′ .1 .1 .1 .0)) × (now (e .1 .1 .1 .1 .0) ≡ now (e′ .1 .1 .1 .1 .0)) × (now (e .1 .1 .1 .1 .1 .0) ≡ now (e′ .1 .1 .1 .1 .1 .0))
-start-determined κs a r r′ e e′ h h′ = (h .0 ∙ sym (h′ .0), h .1 .0 ∙ sym (h′ .1 .0), h .1 .1 .0 ∙ sym (h′ .1 .1 .0), h .1 .1 .1 ∙ sym (h′ .1 .1 .1))
+start-determined κs a r r′ e e′ h h′ =
+    let x = h ∙ sym h′ in
+    (ap (λ (o : WalkOutcome). o .answer) x, ap (λ (o : WalkOutcome). o .walk .items) x, ap (λ (o : WalkOutcome). o .walk .log) x, ap (λ (o : WalkOutcome). o .walk .marks) x)
 
 pub step-determined : (κs : _) (a : _) (r r′ : _) (e e′ : _) → step.Learnt κs a r e → step.Learnt κs a r′ e′ → (r ≡ r′) × (now (e .1 .1 .1 .0) ≡ now (e′ .1 .1 .1 .0)) × (now (e .1 .1 .1 .1 .0) ≡ now (e′ .1 .1 .1 .1 .0)) × (now (e .1 .1 .1 .1 .1 .0) ≡ now (e′ .1 .1 .1 .1 .1 .0))
-step-determined κs a r r′ e e′ h h′ = (h .0 ∙ sym (h′ .0), h .1 .0 ∙ sym (h′ .1 .0), h .1 .1 .0 ∙ sym (h′ .1 .1 .0), h .1 .1 .1 ∙ sym (h′ .1 .1 .1))
+step-determined κs a r r′ e e′ h h′ =
+    let x = h ∙ sym h′ in
+    (ap (λ (o : WalkOutcome). o .answer) x, ap (λ (o : WalkOutcome). o .walk .items) x, ap (λ (o : WalkOutcome). o .walk .log) x, ap (λ (o : WalkOutcome). o .walk .marks) x)
 
 pub put-line-determined : (κs : _) (a : _) (r r′ : _) (e e′ : _) → put-line.Learnt κs a r e → put-line.Learnt κs a r′ e′ → (r ≡ r′) × (now (e .1 .1 .1 .0) ≡ now (e′ .1 .1 .1 .0))
 put-line-determined κs a r r′ e e′ h h′ = let x = h ∙ sym h′ in (ap (λ (o : LineOutcome). o .answer) x, ap (λ (o : LineOutcome). o .out) x)

@@ -7,6 +7,9 @@ use kinds::Position;
 use kinds::Reason;
 use kinds::State;
 use kinds::Symbol;
+use kinds::limits::MOST_SHAPES;
+use kinds::limits::MOST_STATES;
+use kinds::limits::MOST_SYMBOLS;
 
 // There are 1 to 128 states, 1 to 32 symbols and 1 to 16 shapes, and the header is there.
 pub fn counts_good(plan: &[u16]) -> bool
@@ -18,7 +21,7 @@ pub fn counts_good(plan: &[u16]) -> bool
     if plan[0] == 0 {
         return false;
     }
-    if 128 < plan[0] {
+    if MOST_STATES < plan[0] {
         return false;
     }
     if plan[1] == 0 {

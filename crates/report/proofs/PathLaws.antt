@@ -67,7 +67,7 @@ path-few (suc d) sp x a = go (eqb a x) (childOn sp x 4 (a + 1) 1) (path-few d sp
     go false none ih = omega arith
     go false (some c) ih = let h = ih (c .1) in omega arith
 
-pub written-done : {sp : List ℕ} {x : ℕ} {o₀ o : List ℕ} {d a : ℕ} → Written sp x o₀ o d a → pathTo (64 - d) sp x a ≡ [] 
+pub written-done : {sp : List ℕ} {x : ℕ} {o₀ o : List ℕ} {d a : ℕ} → Written sp x o₀ o d a → pathTo (64 - d) sp x a ≡ []
     → (d ≡ length (pathTo 64 sp x 0)) × ((o ≡ sets o₀ 0 (pathTo 64 sp x 0)) × (d ≤ 64))
 written-done {sp} {x} {o = o} {d = d} w e =
     let long = sym (w .long ∙ ap (λ (p : List ℕ). d + length p) e ∙ add-zero d) in

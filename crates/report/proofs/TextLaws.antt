@@ -122,8 +122,10 @@ dots-end {p} {o₀} {o} {a₀} {a} {i} z at d h q t =
     let l : length (dotted (drop i p)) ≡ 0 = ap length s in
     let m : length (pathText p) ≡ length (digitsTo 20 (getD p 0 0)) + length (dotted (drop 1 p)) = ap length w ∙ length-append (digitsTo 20 (getD p 0 0)) (dotted (drop 1 p)) in (
       omega arith,
-      (sym (ap (sets z at) w ∙ sets-append z at (digitsTo 20 (getD p 0 0)) (dotted (drop 1 p)) ∙ ap₂ (λ x k. sets x k (dotted (drop 1 p))) (sym t) (sym q) ∙ d .text ∙ ap (sets o a) s),
-      omega (arith, text-few p)),
+      (
+        sym (ap (sets z at) w ∙ sets-append z at (digitsTo 20 (getD p 0 0)) (dotted (drop 1 p)) ∙ ap₂ (λ x k. sets x k (dotted (drop 1 p))) (sym t) (sym q) ∙ d .text ∙ ap (sets o a) s),
+        omega (arith, text-few p),
+      ),
     )
   where
     whole : (p : Pos) → 1 ≤ length p → pathText p ≡ digits (getD p 0 0) ++ dotted (drop 1 p)

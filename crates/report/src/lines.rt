@@ -9,18 +9,21 @@ use crate::text::put_text;
 use kinds::Node;
 use kinds::Reason;
 use kinds::Shape;
+use kinds::limits::LINE_BYTES;
+use kinds::limits::NUMBER_DIGITS;
+use kinds::limits::PATH_NUMBERS;
 use kinds::number;
 
 // The line of a match: its node, its shape and the node's path.
 pub fn put_line(spans: &[u16], node: Node, shape: Shape, out: &mut [u8]) -> Written
     ensures { λ r. ⌜ outOf r (now (out .exit)) ≡ lineOut (now (spans .entry)) (node .0) (shape .0) (now (out .entry)) ⌝ }
 {
-    if out.len() < 1400 {
+    if out.len() < LINE_BYTES {
         return Written::Refused(Reason::ShortBuffers);
     }
-    let mut path = [0u16; 64];
+    let mut path = [0u16; PATH_NUMBERS];
     let n = put_path(spans, node.0 as usize, &mut path);
-    let a = put_digits(node.0 as usize, 20, out, 0);
+    let a = put_digits(node.0 as usize, NUMBER_DIGITS, out, 0);
     let b = put_field(b" ", shape.0 as usize, out, a);
     let c = put_text(b" ", out, b);
     let d = put_dotted(&path[0..n], out, c);
@@ -32,7 +35,7 @@ pub fn put_line(spans: &[u16], node: Node, shape: Shape, out: &mut [u8]) -> Writ
 pub fn put_refusal(reason: Reason, place: usize, out: &mut [u8]) -> Written
     ensures { λ r. ⌜ outOf r (now (out .exit)) ≡ refusalOut reason place (now (out .entry)) ⌝ }
 {
-    if out.len() < 1400 {
+    if out.len() < LINE_BYTES {
         return Written::Refused(Reason::ShortBuffers);
     }
     let a = put_field(b"refused ", number(reason) as usize, out, 0);
@@ -51,7 +54,7 @@ pub fn put_first(
 ) -> Written
     ensures { λ r. ⌜ outOf r (now (out .exit)) ≡ firstOut nodes states matches clashes (now (out .entry)) ⌝ }
 {
-    if out.len() < 1400 {
+    if out.len() < LINE_BYTES {
         return Written::Refused(Reason::ShortBuffers);
     }
     let a = put_field(b"nodes ", nodes, out, 0);

@@ -5,6 +5,8 @@ ghost use lib.Seq.{sets};
 ghost use Rattle.report.specs.Paths.{childOn, pathTo};
 ghost use Rattle.report.specs.Text.{digitsTo, digits, field, pathText, stepOf};
 use crate::Step;
+use kinds::limits::NUMBER_DIGITS;
+use kinds::limits::PATH_NUMBERS;
 
 // The child number and the node of the first of at most four children, from `from` on, in whose subtree x stands.
 fn find_child(spans: &[u16], x: usize, from: usize) -> Step
@@ -35,7 +37,7 @@ pub fn put_path(spans: &[u16], x: usize, out: &mut [u16]) -> usize
 {
     let mut at: usize = 0;
     let mut d: usize = 0;
-    while d < 64 {
+    while d < PATH_NUMBERS {
         if at == x {
             return d;
         }
@@ -94,7 +96,7 @@ pub fn put_field(text: &[u8], n: usize, out: &mut [u8], at: usize) -> usize
     ensures few { λ r. ⌜ r ≤ at + (length (now (text .entry)) + 20) ⌝ }
 {
     let here = put_text(text, out, at);
-    put_digits(n, 20, out, here)
+    put_digits(n, NUMBER_DIGITS, out, here)
 }
 
 // Child numbers with dots between them, the root as `-`, from `at` on; answers the place after them.
@@ -107,11 +109,11 @@ pub fn put_dotted(path: &[u16], out: &mut [u8], at: usize) -> usize
     if path.len() == 0 {
         return put_text(b"-", out, at);
     }
-    let mut here = put_digits(path[0] as usize, 20, out, at);
+    let mut here = put_digits(path[0] as usize, NUMBER_DIGITS, out, at);
     let mut i = 1;
     while i < path.len() {
         out[here] = b'.';
-        here = put_digits(path[i] as usize, 20, out, here + 1);
+        here = put_digits(path[i] as usize, NUMBER_DIGITS, out, here + 1);
         i += 1;
     }
     here

@@ -4,11 +4,14 @@ ghost use lib.ListN.{length};
 ghost use lib.Seq.{sets};
 ghost use Rattle.sections.specs.Bytes.{wordAt, wordsOf};
 ghost use Rattle.sections.specs.Sections.{distancesOf, trailerOf, symbolsOf, sectionsOf};
-use crate::MOST_SYMBOLS;
 use crate::Places;
 use crate::Sections;
 use crate::Verdict;
 use kinds::Reason;
+use kinds::limits::FILE_BYTES;
+use kinds::limits::MOST_CHILDREN;
+use kinds::limits::MOST_SYMBOLS;
+use kinds::limits::TRAILER_BYTES;
 
 // Tests 1 to 6.
 pub fn find_sections(file: &[u8]) -> Sections
@@ -38,7 +41,7 @@ pub fn test_symbols(symbols: &[u8]) -> Verdict
     }
     let mut i = 0;
     while i < symbols.len() {
-        if 4 < symbols[i] {
+        if MOST_CHILDREN < symbols[i] {
             return Verdict::Bad(Reason::Children, i);
         }
         i += 1;
@@ -51,10 +54,10 @@ fn trailer(file: &[u8]) -> Sections
     ensures { λ r. ⌜ r ≡ trailerOf (now (file .entry)) ⌝ }
 {
     let n = file.len();
-    if n < 8 {
+    if n < TRAILER_BYTES {
         return Sections::Refused(Reason::Short, n);
     }
-    if 8744 < n {
+    if FILE_BYTES < n {
         return Sections::Refused(Reason::Long, n);
     }
     if file[n - 2] != 83 {

@@ -2,8 +2,6 @@ use kinds::Reason;
 
 pub mod finding; // where a folio's sections are: 1 to 6
 
-pub const MOST_SYMBOLS: usize = 32;
-
 // Where the shapes, the score and the trailer begin, in bytes; symbols begin at 0.
 pub struct Places {
     pub shapes: usize,

@@ -1,11 +1,11 @@
 -- Starting a walk, way by way.
---   told                                  the clauses of a contract from one equation
+--   on-is                                 an accepted outcome, part by part
 --   score-some                            a good score has a node
 --   started-bad started-items started-log started-marks started-on   31; 30; begun
 --   begun-items begun-marks               what is written
 --   Clauses tells-bad tells-items tells-log tells-marks tells-on   what the code answers and leaves is what the definition says
 --   clear-next clear-end                  the loop that clears the marks
-use mathlib.Core.Path.{_≡_, ap, sym, _∙_}
+use mathlib.Core.Path.{_≡_, refl, ap, sym, _∙_}
 use mathlib.Core.Bool.{true, false}
 use mathlib.Core.List.{List, [], _∷_}
 use Prim.Native.Nat.{ℕ, suc, _+_, _*_, _-_, _<_, _≤_}
@@ -23,11 +23,14 @@ use Rattle.checks.specs.Again.{scoreGood}
 use Rattle.contents.proofs.LawsTables.{score-refused}
 use Rattle.checks.proofs.LawsAgain.{score-good-is}
 use Rattle.walk.specs.declared.Walked.{Walked}
+use Rattle.walk.specs.declared.Record.{Record}
 use Rattle.walk.specs.declared.Walked.the-variants.{On, Refused}
-use Rattle.walk.specs.Starting.{Walk, WalkOutcome, walkOf, counting, refuseWalk, goOn, begun, started}
+use Rattle.walk.specs.Starting.{Walk, walkOf, counting, outcome, refuseWalk, goOn, begun, started}
 
-pub told : (o : WalkOutcome) (a : Walked) (w : Walk) → o ≡ record { answer = a; walk = w } → (a ≡ o .answer) × ((w .items ≡ o .walk .items) × ((w .log ≡ o .walk .log) × (w .marks ≡ o .walk .marks)))
-told o a w e = (sym (ap (λ (x : WalkOutcome). x .answer) e), (sym (ap (λ (x : WalkOutcome). x .walk .items) e), (sym (ap (λ (x : WalkOutcome). x .walk .log) e), sym (ap (λ (x : WalkOutcome). x .walk .marks) e))))
+pub on-is : {c c′ : Record} {items items′ marks marks′ : List ℕ} (log : List ℕ) → c ≡ c′ → items ≡ items′ → marks ≡ marks′
+    → goOn (walkOf items log marks c) ≡ goOn (walkOf items′ log marks′ c′)
+on-is {c} {items′ = items′} {marks} {marks′} log ec ei em =
+    ap (λ i. goOn (walkOf i log marks c)) ei ∙ ap (λ m. goOn (walkOf items′ log m c)) em ∙ ap (λ d. goOn (walkOf items′ log marks′ d)) ec
 
 pub score-some : (ar ws sp : List ℕ) → scoreGood ar ws sp ≡ true → 1 ≤ length ws
 score-some ar [] sp e =
@@ -80,25 +83,24 @@ module _ (ar score spans items log marks : List ℕ) where
 
   abbrev pub Clauses : Walked → List ℕ → List ℕ → List ℕ → Type 0
   Clauses a items′ log′ marks′ =
-      (a ≡ started ar score spans W .answer) × ((items′ ≡ started ar score spans W .walk .items) × ((log′ ≡ started ar score spans W .walk .log) × (marks′ ≡ started ar score spans W .walk .marks)))
+      outcome a (counting 0 0) items′ log′ marks′ ≡ started ar score spans W
 
   pub tells-bad : scoreGood ar score spans ≡ false → Clauses (Refused BadScore) items log marks
-  tells-bad e = told _ _ _ (started-bad ar score spans W e)
+  tells-bad e = sym (started-bad ar score spans W e)
 
   module _ (good : scoreGood ar score spans ≡ true) where
     pub tells-items : length items < 2 * length score → Clauses (Refused ShortBuffers) items log marks
-    tells-items h = told _ _ _ (started-items ar score spans W good h)
+    tells-items h = sym (started-items ar score spans W good h)
 
     module _ (fits : 2 * length score ≤ length items) where
       pub tells-log : length log < length score → Clauses (Refused ShortBuffers) items log marks
-      tells-log h = told _ _ _ (started-log ar score spans W good fits h)
+      tells-log h = sym (started-log ar score spans W good fits h)
 
       module _ (h : length score ≤ length log) where
         pub tells-marks : length marks < length score → Clauses (Refused ShortBuffers) items log marks
-        tells-marks l = told _ _ _ (started-marks ar score spans W good fits h l)
+        tells-marks l = sym (started-marks ar score spans W good fits h l)
 
         pub tells-on : {marks′ : List ℕ} → length score ≤ length marks → marks′ ≡ sets marks 0 (replicate (length score) 0) → Clauses (On (counting 1 0)) (set (set items 0 0) 1 0) log marks′
         tells-on l e =
-            let t = told _ _ _ (started-on ar score spans W good fits h l) in
             let some = score-some ar score spans good in
-            (t .0, (begun-items items (omega arith) ∙ t .1 .0, (t .1 .1 .0, e ∙ begun-marks (length score) marks l ∙ t .1 .1 .1)))
+            on-is log refl (begun-items items (omega arith)) (e ∙ begun-marks (length score) marks l) ∙ sym (started-on ar score spans W good fits h l)

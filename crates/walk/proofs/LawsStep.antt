@@ -29,11 +29,11 @@ use Rattle.following.specs.Following.{target}
 use Rattle.following.proofs.LawsFollowing.{target-in}
 use Rattle.readers.specs.declared.Label.the-variants as label
 use Rattle.readers.specs.PlanParts.{countsGood, pairs, pairWords, labelWord, toLabel, blockOf}
-use Rattle.walk.specs.Starting.{Walk, walkOf, counting, refuseWalk, goOn}
+use Rattle.walk.specs.Starting.{Walk, walkOf, counting, refuseWalk, goOn, outcome}
 use Rattle.walk.specs.declared.Record.{Record}
 use Rattle.walk.specs.declared.Walked.{Walked}
 use Rattle.walk.specs.declared.Walked.the-variants.{On, Refused}
-use Rattle.walk.proofs.LawsStart.{told}
+use Rattle.walk.proofs.LawsStart.{on-is}
 use Rattle.walk.specs.Stepping.{Finding, look, onward, roomy, moved, tried, orRefuse, stepped}
 use Rattle.queue.specs.Targets.{targets, marked}
 use Rattle.walk.specs.ByIndex.{lookHead, leadsFine, roomLeft, sighted}
@@ -343,18 +343,17 @@ module _ (plan score spans items log marks : List ℕ) (r : Record) (i : ℕ) wh
 
   abbrev pub Clauses : Walked → List ℕ → List ℕ → List ℕ → Type 0
   Clauses a items′ log′ marks′ =
-      (a ≡ stepped plan score spans i W .answer)
-      × ((items′ ≡ stepped plan score spans i W .walk .items) × ((log′ ≡ stepped plan score spans i W .walk .log) × (marks′ ≡ stepped plan score spans i W .walk .marks)))
+      outcome a r items′ log′ marks′ ≡ stepped plan score spans i W
 
   pub tells-32 : r .waiting ≤ i → Clauses (Refused NoSuchItem) items log marks
-  tells-32 h = told _ _ _ (step-32 plan score spans i W h)
+  tells-32 h = sym (step-32 plan score spans i W h)
 
   pub tells-34 : i < r .waiting → sighted plan score spans items (length log) (length marks) r i ≡ none → Clauses (Refused OutOfRange) items log marks
   tells-34 h e = go (decLe (2 * r .waiting) (length items))
     where
       go : Dec (2 * r .waiting ≤ length items) → Clauses (Refused OutOfRange) items log marks
-      go (yes g) = told _ _ _ (step-unseen plan score spans i W h g e)
-      go (no g) = told _ _ _ (step-few plan score spans i W h (omega arith))
+      go (yes g) = sym (step-unseen plan score spans i W h g e)
+      go (no g) = sym (step-few plan score spans i W h (omega arith))
 
   pub tells-on : {items′ up marks′ : List ℕ} {from x b : ℕ} → i < r .waiting → sighted plan score spans items (length log) (length marks) r i ≡ some (from, x, b)
       → up ≡ closedUp items (2 * i) (2 * r .waiting) → items′ ≡ sets up (2 * r .waiting - 2) (pairWords (landed (target (length score) spans from) (nextsAt plan b)))
@@ -368,10 +367,9 @@ module _ (plan score spans items log marks : List ℕ) (r : Record) (i : ℕ) wh
           → marks′ ≡ marked (landed (target (length score) spans (getD items (2 * i + 1) 0)) (outsAt plan b)) marks
           → Clauses (On (counting (r .waiting - 1 + getD plan (middle plan b) 0) (r .logged + 1))) items′ (set log (r .logged) x) marks′
       here d it ma =
-          let t = told _ _ _ (step-done plan score spans i W h (d .fits) x b (d .head) d) in
           let lw = sym (done-waiting plan score spans i W h (d .fits) x b (d .head) d) in
           let li = ap (λ (l : List ℕ). sets l (2 * r .waiting - 2) (pairWords (landed (target (length score) spans (getD items (2 * i + 1) 0)) (nextsAt plan b)))) eu ∙ sym (done-items plan score spans i W h (d .fits) x b (d .head) d) in
-          (ap₂ (λ (n m : ℕ). On (counting n m)) lw (add-one (r .logged)) ∙ t .0, (it ∙ li ∙ t .1 .0, (t .1 .1 .0, ma ∙ t .1 .1 .1)))
+          on-is (set log (r .logged) x) (ap₂ counting lw (add-one (r .logged))) (it ∙ li) ma ∙ sym (step-done plan score spans i W h (d .fits) x b (d .head) d)
 
       go : (from : ℕ) → from ≡ getD items (2 * i + 1) 0 → Sighted plan score spans items (length log) (length marks) r i from x b
           → items′ ≡ sets up (2 * r .waiting - 2) (pairWords (landed (target (length score) spans from) (nextsAt plan b))) → marks′ ≡ marked (landed (target (length score) spans from) (outsAt plan b)) marks

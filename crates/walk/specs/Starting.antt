@@ -1,7 +1,8 @@
 -- "Start clears n mark words and sets one waiting item, state 0 at node 0. The record answered counts items waiting and logged nodes."
 --   Walk         all that a walk is lent and hands back, and its record
 --   WalkOutcome          an answer, and the walk as it is then
---   refuseWalk       a refusal changes nothing
+--   outcome      the outcome of a call, from its answer and the buffers that it leaves
+--   refuseWalk   a refusal changes nothing
 --   begun        one item waiting, n marks clear
 --   started      31 before 30
 --   walkedSays   the answer in document 01's numbers
@@ -34,6 +35,14 @@ counting w l = record { waiting = w; logged = l }
 
 abbrev pub walkOf : List ℕ → List ℕ → List ℕ → Record → Walk
 walkOf items log marks count = record { items = items; log = log; marks = marks; count = count }
+
+-- what a call that was handed the record `before` answers and leaves
+abbrev pub recordAfter : Walked → Record → Record
+recordAfter (On c) before = c
+recordAfter (Refused r) before = before
+
+abbrev pub outcome : Walked → Record → List ℕ → List ℕ → List ℕ → WalkOutcome
+outcome a before items log marks = record { answer = a; walk = walkOf items log marks (recordAfter a before) }
 
 abbrev pub refuseWalk : Reason → Walk → WalkOutcome
 refuseWalk r w = record { answer = Refused r; walk = w }

@@ -2,11 +2,11 @@ ghost use mathlib.Core.Path.{_≡_};
 ghost use Prim.Native.Nat.{ℕ, _≤_};
 ghost use lib.ListN.{length, replicate};
 ghost use lib.Seq.{sets};
-ghost use Rattle.walk.specs.Starting.{started, walkOf, counting};
+ghost use Rattle.walk.specs.Starting.{outcome, started, walkOf, counting};
 use crate::Record;
 use crate::Walked;
-use kinds::Reason;
 use checks::checking::score_good;
+use kinds::Reason;
 
 // State 0 at node 0 waits, and no mark is set.
 pub fn start(
@@ -17,10 +17,7 @@ pub fn start(
     log: &mut [u16],
     marks: &mut [u16],
 ) -> Walked
-    ensures answer { λ r. ⌜ r ≡ started (now (symbols .entry)) (now (score .entry)) (now (spans .entry)) (walkOf (now (waiting .entry)) (now (log .entry)) (now (marks .entry)) (counting 0 0)) .answer ⌝ }
-    ensures items { λ r. ⌜ now (waiting .exit) ≡ started (now (symbols .entry)) (now (score .entry)) (now (spans .entry)) (walkOf (now (waiting .entry)) (now (log .entry)) (now (marks .entry)) (counting 0 0)) .walk .items ⌝ }
-    ensures logs { λ r. ⌜ now (log .exit) ≡ started (now (symbols .entry)) (now (score .entry)) (now (spans .entry)) (walkOf (now (waiting .entry)) (now (log .entry)) (now (marks .entry)) (counting 0 0)) .walk .log ⌝ }
-    ensures bits { λ r. ⌜ now (marks .exit) ≡ started (now (symbols .entry)) (now (score .entry)) (now (spans .entry)) (walkOf (now (waiting .entry)) (now (log .entry)) (now (marks .entry)) (counting 0 0)) .walk .marks ⌝ }
+    ensures { λ r. ⌜ outcome r (counting 0 0) (now (waiting .exit)) (now (log .exit)) (now (marks .exit)) ≡ started (now (symbols .entry)) (now (score .entry)) (now (spans .entry)) (walkOf (now (waiting .entry)) (now (log .entry)) (now (marks .entry)) (counting 0 0)) ⌝ }
 {
     let good = score_good(symbols, score, spans);
     if !good {

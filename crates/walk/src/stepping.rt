@@ -4,7 +4,7 @@ ghost use mathlib.Core.Option.{some};
 ghost use Prim.Native.Nat.{ℕ, _*_, _<_, _≤_};
 ghost use lib.ListN.{length};
 ghost use Rattle.readers.specs.PlanParts.{countsGood};
-ghost use Rattle.walk.specs.Starting.{walkOf};
+ghost use Rattle.walk.specs.Starting.{outcome, walkOf};
 ghost use Rattle.walk.specs.Stepping.{stepped};
 ghost use Rattle.walk.specs.ByIndex.{headOf, lookHead, leadsFine, roomLeft, sighted, sightOf};
 ghost use Rattle.readers.specs.BlockWords.{blockFits};
@@ -19,6 +19,7 @@ use kinds::Node;
 use kinds::Reason;
 use kinds::State;
 use kinds::Symbol;
+use kinds::limits::NUMBERED_NODES;
 use queue::aiming::fine_pairs;
 use queue::queueing::append_pairs;
 use queue::queueing::close_up;
@@ -40,10 +41,7 @@ pub fn step(
     record: Record,
     choice: usize,
 ) -> Walked
-    ensures answer { λ r. ⌜ r ≡ stepped (now (plan .entry)) (now (score .entry)) (now (spans .entry)) choice (walkOf (now (waiting .entry)) (now (log .entry)) (now (marks .entry)) «record») .answer ⌝ }
-    ensures items { λ r. ⌜ now (waiting .exit) ≡ stepped (now (plan .entry)) (now (score .entry)) (now (spans .entry)) choice (walkOf (now (waiting .entry)) (now (log .entry)) (now (marks .entry)) «record») .walk .items ⌝ }
-    ensures logs { λ r. ⌜ now (log .exit) ≡ stepped (now (plan .entry)) (now (score .entry)) (now (spans .entry)) choice (walkOf (now (waiting .entry)) (now (log .entry)) (now (marks .entry)) «record») .walk .log ⌝ }
-    ensures bits { λ r. ⌜ now (marks .exit) ≡ stepped (now (plan .entry)) (now (score .entry)) (now (spans .entry)) choice (walkOf (now (waiting .entry)) (now (log .entry)) (now (marks .entry)) «record») .walk .marks ⌝ }
+    ensures { λ r. ⌜ outcome r «record» (now (waiting .exit)) (now (log .exit)) (now (marks .exit)) ≡ stepped (now (plan .entry)) (now (score .entry)) (now (spans .entry)) choice (walkOf (now (waiting .entry)) (now (log .entry)) (now (marks .entry)) «record») ⌝ }
 {
     if record.waiting <= choice {
         return Walked::Refused(Reason::NoSuchItem);
@@ -138,7 +136,16 @@ fn leads_fine(plan: &[u16], nodes: usize, spans: &[u16], from: Node, b: usize, m
     }
     let mid = b + 1 + 2 * outs;
     let nexts = plan[mid] as usize;
-    fine_pairs(plan, nodes, spans, from, mid + 1, nexts, plan[0], 65536)
+    fine_pairs(
+        plan,
+        nodes,
+        spans,
+        from,
+        mid + 1,
+        nexts,
+        plan[0],
+        NUMBERED_NODES,
+    )
 }
 
 // The log has room for one more, the waiting words for all items after the step.
@@ -166,10 +173,7 @@ fn advance(
     choice: usize,
 ) -> Walked
     requires { ⌜ (sighted (now plan) (now score) (now spans) (now waiting) (length (now log)) (length (now marks)) «record» choice ≡ some (at .from .0, at .node .0, at .block)) × (choice < «record» .waiting) ⌝ }
-    ensures answer { λ r. ⌜ r ≡ stepped (now (plan .entry)) (now (score .entry)) (now (spans .entry)) choice (walkOf (now (waiting .entry)) (now (log .entry)) (now (marks .entry)) «record») .answer ⌝ }
-    ensures items { λ r. ⌜ now (waiting .exit) ≡ stepped (now (plan .entry)) (now (score .entry)) (now (spans .entry)) choice (walkOf (now (waiting .entry)) (now (log .entry)) (now (marks .entry)) «record») .walk .items ⌝ }
-    ensures logs { λ r. ⌜ now (log .exit) ≡ stepped (now (plan .entry)) (now (score .entry)) (now (spans .entry)) choice (walkOf (now (waiting .entry)) (now (log .entry)) (now (marks .entry)) «record») .walk .log ⌝ }
-    ensures bits { λ r. ⌜ now (marks .exit) ≡ stepped (now (plan .entry)) (now (score .entry)) (now (spans .entry)) choice (walkOf (now (waiting .entry)) (now (log .entry)) (now (marks .entry)) «record») .walk .marks ⌝ }
+    ensures { λ r. ⌜ outcome r «record» (now (waiting .exit)) (now (log .exit)) (now (marks .exit)) ≡ stepped (now (plan .entry)) (now (score .entry)) (now (spans .entry)) choice (walkOf (now (waiting .entry)) (now (log .entry)) (now (marks .entry)) «record») ⌝ }
 {
     let b = at.block;
     let outs = plan[b] as usize;

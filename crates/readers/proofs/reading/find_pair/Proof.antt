@@ -4,7 +4,6 @@ use native.Mathlib.Omega.{arith}
 use borrow.Author.Tests.{not-true, not-false}
 use Rattle.readers.specs.BlockWords.{begins, middle, outsAt, nextsAt}
 use Rattle.readers.specs.PlanParts.{pairAt}
-
 use Rattle.readers.proofs.LawsParts as law
 use lib.ListN.{getD}
 use borrow.Author.Needs.{needs}
