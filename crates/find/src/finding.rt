@@ -1,4 +1,6 @@
 use crate::first;
+use crate::holding::Held;
+use crate::holding::Shown;
 use crate::printing::show_refusal;
 use crate::printing::show_report;
 use folio::Opened;
@@ -12,48 +14,67 @@ use walk::starting::start;
 use walk::stepping::step;
 
 // Prints the report of a file of which all bytes are lent, or more than a folio may have; `length` is that of the whole file.
-pub fn find(file: &[u8], length: usize) {
+pub fn find(file: &[u8], length: usize, out: &mut [u8], held: Held) -> Shown {
     if 8744 < file.len() {
-        show_refusal(Reason::Long, length);
-        return;
+        return show_refusal(Reason::Long, length, out, held);
     }
     let mut words = [0u16; 256];
     let mut starts = [0u16; 16];
     let mut score = [0u16; 4096];
     let mut spans = [0u16; 4096];
     match open(file, &mut words, &mut starts, &mut score, &mut spans) {
-        Opened::Refused(reason, place) => show_refusal(reason, place),
+        Opened::Refused(reason, place) => show_refusal(reason, place, out, held),
         Opened::Folio(c) => find_opened(
             first::bytes(file, c.symbols),
             first::words(&words, c.words),
             first::words(&starts, c.shapes),
             first::words(&score, c.nodes),
             first::words(&spans, c.nodes),
+            out,
+            held,
         ),
     }
 }
 
-fn find_opened(symbols: &[u8], words: &[u16], starts: &[u16], score: &[u16], spans: &[u16]) {
+fn find_opened(
+    symbols: &[u8],
+    words: &[u16],
+    starts: &[u16],
+    score: &[u16],
+    spans: &[u16],
+    out: &mut [u8],
+    held: Held,
+) -> Shown {
     let mut plan = [0u16; 32768];
     let mut scratch = [0u16; 32768];
     match build(symbols, words, starts, &mut plan, &mut scratch) {
-        Built::Refused(reason) => show_refusal(reason, 0),
-        Built::Stopped(reason, state) => show_refusal(reason, state.0 as usize),
+        Built::Refused(reason) => show_refusal(reason, 0, out, held),
+        Built::Stopped(reason, state) => show_refusal(reason, state.0 as usize, out, held),
         Built::Plan(size) => find_by(
             first::words(&plan, size.words),
             size.states,
             symbols,
             score,
             spans,
+            out,
+            held,
         ),
     }
 }
 
-fn find_by(plan: &[u16], states: usize, symbols: &[u8], score: &[u16], spans: &[u16]) {
+fn find_by(
+    plan: &[u16],
+    states: usize,
+    symbols: &[u8],
+    score: &[u16],
+    spans: &[u16],
+    out: &mut [u8],
+    held: Held,
+) -> Shown {
     let mut marks = [0u16; 4096];
     match walk_whole(plan, symbols, score, spans, &mut marks) {
-        Walked::Refused(reason) => show_refusal(reason, 0),
-        Walked::On(end) => show_report(symbols, score, spans, &marks, states),
+        Walked::Refused(reason) => show_refusal(reason, 0, out, held),
+        Walked::On(end) => show_report(symbols, score, spans, &marks, states, out, held),
     }
 }
 

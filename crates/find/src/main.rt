@@ -1,96 +1,89 @@
 // Prints the report of the folio on standard input; or, for each file that it is given by name, the name and that file's report.
 // The name `-` is standard input.
+//
+// `find --names` takes the names from standard input, a NUL behind each, and counts the files in a last line; `-` is then descriptor 3.
+// `find --names --progress` says on standard error how many files are done and, when all output is written, the last line again.
+use holding::Held;
+use holding::Shown;
 use libc::STDIN_FILENO;
-use libc::STDOUT_FILENO;
 
 mod finding; // opening, building and walking
 mod first; // the first of a slice
+mod holding; // the output
+mod names; // names from standard input
 mod printing; // the lines
+mod reading; // a file's bytes
+mod tally; // the last line
 
-// No input is longer.
-const MOST_BYTES: usize = 0x7fffffffffffffff;
-
-// What is counted of an input's length; unknown where reading fails.
-enum Length {
-    More(usize),
-    Whole(usize),
-    Unknown,
+// What the arguments ask for.
+enum Asked {
+    Input,
+    Arguments(usize),
+    Names,
+    NamesAndProgress,
 }
 
 fn main() {
-    let n = os::arg_count();
+    let mut out = io::large_buffer();
+    answer(asked_by(os::arg_count()), &mut out);
+}
+
+fn asked_by(n: usize) -> Asked {
     if n < 2 {
-        find_in(STDIN_FILENO);
+        return Asked::Input;
     }
-    for i in 1..n {
-        find_argument(i);
-    }
-}
-
-fn find_argument(i: usize) {
-    let mut name = io::buffer();
-    let n = os::arg(i, &mut name);
-    let path = &name[..n];
-    io::write_all(STDOUT_FILENO, path);
-    io::write_all(STDOUT_FILENO, b"\n");
-    if is_dash(path) {
-        find_in(STDIN_FILENO);
-        return;
-    }
-    let fd = os::open_read(path);
-    if fd < 0 {
-        printing::unreadable();
-        return;
-    }
-    find_in(fd);
-    libc::close(fd);
-}
-
-fn is_dash(path: &[u8]) -> bool {
-    if path.len() != 1 {
-        return false;
-    }
-    path[0] == b'-'
-}
-
-// One byte more is read than a folio may have; of a longer input the rest is only counted.
-fn find_in(fd: i32) {
-    let mut file = [0u8; 8745];
-    let n = io::read_full(fd, &mut file);
-    match count_rest(fd, n) {
-        Length::Whole(length) => finding::find(&file[..n], length),
-        _ => printing::unreadable(),
-    }
-}
-
-// The length of an input of which n bytes are read. Nothing says that it ends: the turns are more than any input takes.
-fn count_rest(fd: i32, n: usize) -> Length {
-    let mut length = n;
-    for turn in 0..MOST_BYTES {
-        match count_on(fd, length) {
-            Length::More(counted) => {
-                length = counted;
-            }
-            last => {
-                return last;
+    if is_argument(1, b"--names") {
+        if n == 2 {
+            return Asked::Names;
+        }
+        if n == 3 {
+            if is_argument(2, b"--progress") {
+                return Asked::NamesAndProgress;
             }
         }
     }
-    Length::Unknown
+    Asked::Arguments(n)
 }
 
-fn count_on(fd: i32, length: usize) -> Length {
-    let mut bytes = io::large_buffer();
-    let got = libc::read(fd, &mut bytes);
-    if got < 0 {
-        return Length::Unknown;
+fn is_argument(i: usize, word: &[u8]) -> bool {
+    let mut name = io::buffer();
+    let n = os::arg(i, &mut name);
+    reading::same(&name[..n], word)
+}
+
+fn answer(asked: Asked, out: &mut [u8]) {
+    match asked {
+        Asked::Input => find_input(out),
+        Asked::Arguments(n) => find_arguments(n, out),
+        Asked::Names => names::find_names(false, out),
+        Asked::NamesAndProgress => names::find_names(true, out),
     }
-    let n = io::count(got, &bytes);
-    if n == 0 {
-        return Length::Whole(length);
+}
+
+fn find_input(out: &mut [u8]) {
+    let held = reading::find_in(STDIN_FILENO, out, Held::Bytes(0)).held();
+    holding::write(out, held);
+}
+
+fn find_arguments(n: usize, out: &mut [u8]) {
+    let mut held = Held::Bytes(0);
+    for i in 1..n {
+        held = find_argument(i, out, held);
+        if held.is_lost() {
+            return;
+        }
     }
-    if MOST_BYTES < length {
-        return Length::Unknown;
-    }
-    Length::More(length + n)
+    holding::write(out, held);
+}
+
+fn find_argument(i: usize, out: &mut [u8], held: Held) -> Held {
+    let mut name = io::buffer();
+    let n = os::arg(i, &mut name);
+    find_named(&name[..n], out, held).held()
+}
+
+fn find_named(path: &[u8], out: &mut [u8], held: Held) -> Shown {
+    let named = holding::put_text(path, out, held);
+    let ended = holding::put_byte(b'\n', out, named);
+    reading::find_file(path, STDIN_FILENO, out, ended)
 }

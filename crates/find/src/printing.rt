@@ -1,79 +1,105 @@
-use crate::first;
+use crate::holding::Held;
+use crate::holding::Shown;
+use crate::holding::longer;
+use crate::holding::put_text;
+use crate::holding::rest;
+use crate::holding::room;
 use counting::Counted;
 use counting::marks::clashes;
 use counting::marks::matches;
 use kinds::Node;
 use kinds::Reason;
 use kinds::Shape;
-use libc::STDOUT_FILENO;
-use report::Written;
 use report::lines::put_first;
 use report::lines::put_line;
 use report::lines::put_refusal;
 
-pub fn unreadable() {
-    io::write_all(STDOUT_FILENO, b"cannot be read\n");
+pub fn show_unread(out: &mut [u8], held: Held) -> Shown {
+    Shown::Unread(put_text(b"cannot be read\n", out, held))
 }
 
-pub fn show_refusal(reason: Reason, place: usize) {
-    let mut text = [0u8; 1400];
-    let written = put_refusal(reason, place, &mut text);
-    show(&text, written);
+pub fn show_refusal(reason: Reason, place: usize, out: &mut [u8], held: Held) -> Shown {
+    Shown::Refusal(refusal_line(reason, place, out, held))
 }
 
-pub fn show_report(symbols: &[u8], score: &[u16], spans: &[u16], marks: &[u16], states: usize) {
+fn refusal_line(reason: Reason, place: usize, out: &mut [u8], held: Held) -> Held {
+    match room(out, held) {
+        Held::Lost => Held::Lost,
+        Held::Bytes(n) => longer(n, put_refusal(reason, place, rest(out, n))),
+    }
+}
+
+pub fn show_report(
+    symbols: &[u8],
+    score: &[u16],
+    spans: &[u16],
+    marks: &[u16],
+    states: usize,
+    out: &mut [u8],
+    held: Held,
+) -> Shown {
     match matches(symbols, score, spans, marks) {
-        Counted::Refused(reason) => show_refusal(reason, 0),
+        Counted::Refused(reason) => show_refusal(reason, 0, out, held),
         Counted::Number(all) => match clashes(symbols, score, spans, marks) {
-            Counted::Refused(reason) => show_refusal(reason, 0),
+            Counted::Refused(reason) => show_refusal(reason, 0, out, held),
             Counted::Number(some) => {
-                show_first(score.len(), states, all, some);
-                show_matches(spans, marks, score.len());
+                let begun = first_line(score.len(), states, all, some, out, held);
+                Shown::Report(show_matches(spans, marks, score.len(), out, begun))
             }
         },
     }
 }
 
-fn show_first(nodes: usize, states: usize, matches: usize, clashes: usize) {
-    let mut text = [0u8; 1400];
-    let written = put_first(nodes, states, matches, clashes, &mut text);
-    show(&text, written);
+fn first_line(
+    nodes: usize,
+    states: usize,
+    matches: usize,
+    clashes: usize,
+    out: &mut [u8],
+    held: Held,
+) -> Held {
+    match room(out, held) {
+        Held::Lost => Held::Lost,
+        Held::Bytes(n) => longer(n, put_first(nodes, states, matches, clashes, rest(out, n))),
+    }
 }
 
 // The lines of the first n nodes' marks.
-fn show_matches(spans: &[u16], marks: &[u16], n: usize) {
+fn show_matches(spans: &[u16], marks: &[u16], n: usize, out: &mut [u8], held: Held) -> Held {
+    let mut now = held;
     for x in 0..4096 {
         let at = x as usize;
-        if at < n {
-            if at < marks.len() {
-                show_mark(spans, Node(x), marks[at]);
-            }
+        if n <= at {
+            return now;
         }
+        if marks.len() <= at {
+            return now;
+        }
+        now = show_mark(spans, Node(x), marks[at], out, now);
     }
+    now
 }
 
 // A line for each shape whose bit is set.
-fn show_mark(spans: &[u16], node: Node, mark: u16) {
+fn show_mark(spans: &[u16], node: Node, mark: u16, out: &mut [u8], held: Held) -> Held {
     let mut rest = mark;
+    let mut now = held;
     for j in 0..16 {
-        if rest % 2 == 1 {
-            show_match(spans, node, Shape(j));
+        if rest == 0 {
+            return now;
         }
+        now = show_bit(rest % 2, spans, node, Shape(j), out, now);
         rest /= 2;
     }
+    now
 }
 
-fn show_match(spans: &[u16], node: Node, shape: Shape) {
-    let mut text = [0u8; 1400];
-    let written = put_line(spans, node, shape, &mut text);
-    show(&text, written);
-}
-
-fn show(text: &[u8], written: Written) {
-    match written {
-        Written::Refused(reason) => {}
-        Written::Bytes(n) => {
-            io::write_all(STDOUT_FILENO, first::bytes(text, n));
-        }
+fn show_bit(bit: u16, spans: &[u16], node: Node, shape: Shape, out: &mut [u8], held: Held) -> Held {
+    if bit == 0 {
+        return held;
+    }
+    match room(out, held) {
+        Held::Lost => Held::Lost,
+        Held::Bytes(n) => longer(n, put_line(spans, node, shape, rest(out, n))),
     }
 }
