@@ -27,7 +27,8 @@ use Rattle.term.specs.declared.Reading.the-variants as read
 use Rattle.sections.specs.Sections.{symbolsOf}
 use Rattle.sections.specs.declared.Verdict.{Verdict}
 use Rattle.sections.specs.declared.Verdict.the-variants.{Good, Bad}
-use Rattle.contents.specs.Tables.{blankWord, shapesOf, scoreOf}
+use Rattle.contents.specs.Tables.{shapesOf, scoreOf}
+use Rattle.kinds.specs.Limits.{blankWord}
 use Rattle.contents.specs.declared.Shapes.{Shapes}
 use Rattle.contents.specs.declared.Shapes.the-variants as shapes
 use Rattle.contents.specs.declared.Score.{Score}

@@ -17,7 +17,8 @@ use Rattle.term.specs.declared.Reading.the-variants as read
 use Rattle.sections.specs.Sections.{symbolsOf}
 use Rattle.sections.specs.declared.Verdict.{Verdict}
 use Rattle.sections.specs.declared.Verdict.the-variants.{Good, Bad}
-use Rattle.contents.specs.Tables.{blankWord, shapeLimits, shapeLevels, scoreLimits, scoreLevels, shapesOf, scoreOf}
+use Rattle.contents.specs.Tables.{shapeLimits, scoreLimits, shapesOf, scoreOf}
+use Rattle.kinds.specs.Limits.{blankWord, shapeLevels, scoreLevels}
 use Rattle.contents.specs.declared.Shapes.{Shapes}
 use Rattle.contents.specs.declared.Shapes.the-variants as shapes
 use Rattle.contents.specs.declared.Score.{Score}

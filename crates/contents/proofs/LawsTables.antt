@@ -25,7 +25,8 @@ use Rattle.kinds.specs.declared.Reason.the-variants as reason
 use Rattle.contents.specs.declared.Shapes.{Shapes}
 use Rattle.contents.specs.declared.Shapes.the-variants as shapes
 use Rattle.contents.specs.declared.Score.the-variants as score
-use Rattle.contents.specs.Tables.{shapeLimits, shapeLevels, scoreLimits, scoreLevels, shapeReason, scoreReason, ShapesRead, shapesRead, push, oneShape, shapesFrom, shapesOf, wholeScore, scoreOf}
+use Rattle.contents.specs.Tables.{shapeLimits, scoreLimits, shapeReason, scoreReason, ShapesRead, shapesRead, push, oneShape, shapesFrom, shapesOf, wholeScore, scoreOf}
+use Rattle.kinds.specs.Limits.{shapeLevels, scoreLevels}
 
 module _ (ar : List ℕ) (bl : ℕ) (ws : List ℕ) (n at : ℕ) where
   pub shapes-full : at < length ws → n ≡ 16 → shapesFrom ar bl ws (16 - n) n at ≡ shapesRead (shapes.Refused reason.Shapes at) []

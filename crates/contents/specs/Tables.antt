@@ -1,8 +1,7 @@
 -- Refusals 7 to 17, at word indices. "Within shapes: 12 where a shape begins; else at each node 8, 7, 10, 11; then 9 when the shape is complete.
 -- Within score, at each node: 14, 13, 17, 15; then 16."
---   blankWord        "65,535 is a blank": the first word that is one; noBlank in a score
---   shapeLimits      16 nodes from a shape's first word; shapeLevels: depth at most 5
---   scoreLimits      4,096 nodes; scoreLevels: depth at most 64
+--   shapeLimits      16 nodes from a shape's first word
+--   scoreLimits      4,096 nodes, and no blanks
 --   shapeReason      the reason of a fault in a shape; scoreReason: in the score
 --   ShapesRead              an answer, and the starts of the shapes that were whole before it
 --   shapesFrom       the shapes from a word on, after n others, with room for c more
@@ -13,6 +12,7 @@ use mathlib.Core.List.{List, [], _∷_}
 use mathlib.Core.Bool.{Bool, cond}
 use lib.Dec.{ltb, leb}
 use lib.ListN.{length, getD}
+use Rattle.kinds.specs.Limits.{mostShapes, shapeNodes, shapeLevels, scoreNodes, scoreLevels, noBlank}
 use Rattle.term.specs.Reading.{limits, reading}
 use Rattle.term.specs.declared.Limits.{Limits}
 use Rattle.term.specs.declared.Fault.{Fault}
@@ -26,23 +26,11 @@ use Rattle.contents.specs.declared.Shapes.the-variants as shapes
 use Rattle.contents.specs.declared.Score.{Score}
 use Rattle.contents.specs.declared.Score.the-variants as score
 
-abbrev pub blankWord : ℕ
-blankWord = 65535
-
-abbrev pub noBlank : ℕ
-noBlank = 65536
-
-abbrev pub shapeLevels : ℕ
-shapeLevels = 6
-
-abbrev pub scoreLevels : ℕ
-scoreLevels = 65
-
 abbrev pub shapeLimits : ℕ → ℕ → Limits
-shapeLimits bl at = limits bl (at + 16)
+shapeLimits bl at = limits bl (at + shapeNodes)
 
 abbrev pub scoreLimits : ℕ → Limits
-scoreLimits at = limits noBlank (at + 4096)
+scoreLimits at = limits noBlank (at + scoreNodes)
 
 abbrev pub shapeReason : Fault → Reason
 shapeReason Ends = reason.ShapeEnds
@@ -79,7 +67,7 @@ shapesFrom ar bl ws (suc c) n at =
     (shapesRead (shapes.Whole n) [])
 
 unfoldable pub shapesOf : List ℕ → ℕ → List ℕ → ShapesRead
-shapesOf ar bl ws = cond (ltb 0 (length ws)) (shapesFrom ar bl ws 16 0 0) (shapesRead (shapes.Refused reason.Shapes 0) [])
+shapesOf ar bl ws = cond (ltb 0 (length ws)) (shapesFrom ar bl ws mostShapes 0 0) (shapesRead (shapes.Refused reason.Shapes 0) [])
 
 abbrev pub wholeScore : Reading → ℕ → Score
 wholeScore (read.Refused f p) n = score.Refused (scoreReason f) p

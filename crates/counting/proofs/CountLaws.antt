@@ -17,7 +17,8 @@ use lib.Seq.{drop-cons}
 use Rattle.kinds.proofs.BitLaws.{ones-bits}
 use Rattle.kinds.specs.declared.Reason.{Reason}
 use Rattle.kinds.specs.declared.Reason.the-variants.{BadScore, ShortBuffers, Surplus}
-use Rattle.contents.specs.Tables.{scoreLimits, scoreLevels, scoreOf, scoreReason, wholeScore}
+use Rattle.contents.specs.Tables.{scoreLimits, scoreOf, scoreReason, wholeScore}
+use Rattle.kinds.specs.Limits.{scoreLevels}
 use Rattle.checks.specs.Again.{scoreGood}
 use Rattle.contents.specs.declared.Score.{Score}
 use Rattle.contents.specs.declared.Score.the-variants as score

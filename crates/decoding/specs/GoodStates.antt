@@ -10,7 +10,7 @@ use native.Mathlib.Omega.{arith}
 use lib.ListN.{length, getElem?}
 use Rattle.kinds.specs.Members.{_∈_}
 use Rattle.term.specs.Terms.{Term, span}
-use Rattle.contents.specs.Tables.{blankWord}
+use Rattle.kinds.specs.Limits.{blankWord}
 use Rattle.folio.specs.Folio.{IsShape}
 use Rattle.folio.proofs.ShapesFound.{solid-node}
 use Rattle.automaton.specs.Walking.{Setting}

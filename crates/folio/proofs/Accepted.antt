@@ -25,7 +25,8 @@ use Rattle.term.proofs.Sizes.{length-flatten, spans-are}
 use Rattle.term.proofs.TermWhole.{parse-flatten, parse-all}
 use Rattle.sections.specs.Bytes.{wordsOf}
 use Rattle.sections.specs.Sections.{trailerOf, sectionsOf}
-use Rattle.contents.specs.Tables.{blankWord, noBlank, shapeLevels, scoreLevels, ShapesRead, shapesOf, scoreOf}
+use Rattle.contents.specs.Tables.{ShapesRead, shapesOf, scoreOf}
+use Rattle.kinds.specs.Limits.{blankWord, noBlank, shapeLevels, scoreLevels}
 use Rattle.folio.specs.Opening.{Lent, Room, OpenOutcome, lent, out, refuseOpening, counts, stored, onScore, onShapes, held, onSections, opened}
 use Rattle.folio.specs.Folio as folio
 use Rattle.folio.specs.Folio.{GoodSymbols, startsAt, answered, IsScore, shapeTerms, orBlank, scoreTerm, AreShapes, Meaning}

@@ -12,7 +12,8 @@ use Rattle.kinds.specs.Lists.{gather}
 use Rattle.term.specs.Terms.{Term, flatten, sizes}
 use Rattle.term.specs.Spans.{spansOf}
 use Rattle.term.proofs.Sizes.{spans-are}
-use Rattle.contents.specs.Tables.{blankWord, noBlank, ShapesRead, shapesOf, scoreOf}
+use Rattle.contents.specs.Tables.{ShapesRead, shapesOf, scoreOf}
+use Rattle.kinds.specs.Limits.{blankWord, noBlank}
 use Rattle.checks.specs.Again.{shapesGood, scoreGood}
 use Rattle.folio.specs.Folio as folio
 use Rattle.folio.specs.Folio.{startsAt, Shaped, GoodScore, GoodSymbols, IsScore}

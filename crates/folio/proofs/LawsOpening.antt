@@ -20,7 +20,8 @@ use Rattle.sections.specs.Sections.{sectionsOf}
 use Rattle.sections.specs.declared.Places.{Places}
 use Rattle.sections.specs.declared.Sections.{Sections}
 use Rattle.sections.specs.declared.Sections.the-variants as sections
-use Rattle.contents.specs.Tables.{blankWord, shapesOf, scoreOf}
+use Rattle.contents.specs.Tables.{shapesOf, scoreOf}
+use Rattle.kinds.specs.Limits.{blankWord}
 use Rattle.contents.specs.declared.Shapes.the-variants as shapes
 use Rattle.contents.specs.declared.Score.the-variants as score
 use Rattle.folio.specs.declared.Opened.the-variants.{Folio}

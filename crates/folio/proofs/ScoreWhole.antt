@@ -24,7 +24,8 @@ use Rattle.term.proofs.WholeTerm.{whole-term}
 use Rattle.term.proofs.TermWhole.{read-back}
 use Rattle.sections.specs.Bytes.{wordsOf}
 use Rattle.contents.specs.declared.Score.the-variants as score
-use Rattle.contents.specs.Tables.{noBlank, scoreLimits, scoreLevels, wholeScore, scoreOf}
+use Rattle.contents.specs.Tables.{scoreLimits, wholeScore, scoreOf}
+use Rattle.kinds.specs.Limits.{noBlank, scoreLevels}
 use Rattle.folio.specs.Folio.{IsScore, Scored}
 use Rattle.contents.proofs.LawsTables.{score-whole}
 

@@ -29,7 +29,8 @@ use Rattle.term.proofs.TermWhole.{first, read-back}
 use Rattle.term.proofs.OneTerm.{once}
 use Rattle.term.proofs.Sizes.{length-flatten, span-pos}
 use Rattle.contents.specs.declared.Shapes.the-variants as shapes
-use Rattle.contents.specs.Tables.{blankWord, shapeLimits, shapeLevels, shapesRead, push, oneShape, shapesFrom, shapesOf}
+use Rattle.contents.specs.Tables.{shapeLimits, shapesRead, push, oneShape, shapesFrom, shapesOf}
+use Rattle.kinds.specs.Limits.{blankWord, shapeLevels}
 use Rattle.folio.specs.Folio.{isBlank, IsShape, AreShapes, startsAt, Shaped}
 use Rattle.contents.proofs.LawsTables.{never-found, shapes-done, shapes-some, found-from}
 

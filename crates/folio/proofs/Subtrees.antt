@@ -24,7 +24,8 @@ use Rattle.term.proofs.WholeTerm.{TermAt, whole-term}
 use Rattle.term.proofs.TermWhole.{read-back}
 use Rattle.term.proofs.Sizes.{length-flatten, span-pos}
 use Rattle.following.proofs.FollowTree.{words-stand}
-use Rattle.contents.specs.Tables.{blankWord, shapeLimits, shapeLevels, scoreLimits, scoreLevels}
+use Rattle.contents.specs.Tables.{shapeLimits, scoreLimits}
+use Rattle.kinds.specs.Limits.{blankWord, shapeLevels, scoreLevels}
 use Rattle.checks.specs.Again.{pieceAt, subtreeAt}
 use Rattle.checks.specs.declared.Asked.the-variants as asked
 use Rattle.folio.specs.Folio.{GoodSymbols, IsScore}

@@ -15,6 +15,7 @@ use mathlib.Core.Option.{Option, none, some}
 use Prim.Native.Nat.{ℕ, _+_, _≤_}
 use lib.ListN.{length, getElem?}
 use lib.Seq.{sets}
+use Rattle.kinds.specs.Limits.{mostSymbols, mostChildren, mostShapes, shapeNodes, scoreNodes, blankWord, noBlank, shapeLevels, scoreLevels}
 use Rattle.kinds.specs.Lists.{gather}
 use Rattle.kinds.specs.Members.{_∈_}
 use Rattle.term.specs.Terms.{Term, blank, node, span, depth, flatten, sizes, Fits, Whole, Read, parse, parseAll}
@@ -22,7 +23,6 @@ use Rattle.folio.specs.Opening.{Lent, OpenOutcome, lent, out, counts}
 use Rattle.folio.specs.declared.Opened.the-variants as opening
 use Rattle.sections.specs.Sections.{symbolsAt, shapesAt, scoreAt}
 use Rattle.sections.specs.declared.Places.{Places}
-use Rattle.contents.specs.Tables.{blankWord, noBlank, shapeLevels, scoreLevels}
 
 abbrev pub isBlank : Term → Bool
 isBlank (blank w) = true
@@ -31,7 +31,7 @@ isBlank (node f ts) = false
 pub record IsShape (ar : List ℕ) (t : Term) : Type 0 where
   pub fits : Fits ar blankWord t
   pub flat : depth t ≤ 5
-  pub small : span t ≤ 16
+  pub small : span t ≤ shapeNodes
   pub solid : isBlank t ≡ false
 
 abbrev pub AreShapes : List ℕ → List Term → Type 0
@@ -41,13 +41,13 @@ pub record IsScore (ar : List ℕ) (t : Term) : Type 0 where
   pub fits : Fits ar noBlank t
   pub whole : Whole t
   pub flat : depth t ≤ 64
-  pub small : span t ≤ 4096
+  pub small : span t ≤ scoreNodes
 
 -- "1 to 32 of them", "0 to 4"
 pub record GoodSymbols (ar : List ℕ) : Type 0 where
   pub some-symbol : 1 ≤ length ar
-  pub few-symbols : length ar ≤ 32
-  pub children : (f n : ℕ) → getElem? ar f ≡ some n → n ≤ 4
+  pub few-symbols : length ar ≤ mostSymbols
+  pub children : (f n : ℕ) → getElem? ar f ≡ some n → n ≤ mostChildren
 
 -- words that are those of a score
 pub record Scored (ar ws : List ℕ) : Type 0 where
@@ -58,7 +58,7 @@ pub record Scored (ar ws : List ℕ) : Type 0 where
 pub record Folio (ar : List ℕ) (shapes : List Term) (score : Term) : Type 0 where
   pub symbols : GoodSymbols ar
   pub some-shape : 1 ≤ length shapes
-  pub few-shapes : length shapes ≤ 16
+  pub few-shapes : length shapes ≤ mostShapes
   pub are-shapes : AreShapes ar shapes
   pub is-score : IsScore ar score
 
@@ -71,7 +71,7 @@ pub record Meaning (file : List ℕ) (p : Places) : Type 0 where
   pub score-words : scoreAt file p ≡ flatten score
 
 abbrev pub shapeTerms : List ℕ → List ℕ → List Term
-shapeTerms ar ws = parseAll ar blankWord shapeLevels 16 ws
+shapeTerms ar ws = parseAll ar blankWord shapeLevels mostShapes ws
 
 abbrev pub orBlank : Read Term → Term
 orBlank none = blank blankWord
@@ -90,7 +90,7 @@ pub record Shaped (ar ws st : List ℕ) : Type 0 where
   pub trees : List Term
   pub each : AreShapes ar trees
   pub some-shape : 1 ≤ length trees
-  pub few-shapes : length trees ≤ 16
+  pub few-shapes : length trees ≤ mostShapes
   pub words : ws ≡ gather flatten trees
   pub begins : st ≡ startsAt 0 trees
 

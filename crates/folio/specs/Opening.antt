@@ -19,7 +19,8 @@ use Rattle.term.specs.Spans.{spansOf}
 use Rattle.sections.specs.Sections.{sectionsOf, symbolsAt, shapesAt, scoreAt}
 use Rattle.sections.specs.declared.Sections.{Sections}
 use Rattle.sections.specs.declared.Sections.the-variants as sections
-use Rattle.contents.specs.Tables.{blankWord, shapesOf, scoreOf}
+use Rattle.contents.specs.Tables.{shapesOf, scoreOf}
+use Rattle.kinds.specs.Limits.{blankWord}
 use Rattle.contents.specs.declared.Shapes.{Shapes}
 use Rattle.contents.specs.declared.Shapes.the-variants as shapes
 use Rattle.contents.specs.declared.Score.{Score}

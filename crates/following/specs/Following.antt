@@ -13,6 +13,7 @@ use mathlib.Core.Bool.{Bool, _&&_}
 use mathlib.Core.Option.{Option, none, some}
 use lib.Dec.{ltb, leb}
 use lib.ListN.{length, getD}
+use Rattle.kinds.specs.Limits.{numberedNodes}
 use Rattle.kinds.specs.Lists.{bind, need}
 use Rattle.kinds.specs.Positions.{Pos, decode, codeGood}
 use Rattle.kinds.specs.Reasons.{Says, gives, refuses}
@@ -38,7 +39,7 @@ follow spans [] at = some at
 follow spans (i ∷ p) at = bind (childAt spans i at) (λ x. follow spans p x)
 
 abbrev pub nodeGood : ℕ → ℕ → Bool
-nodeGood n x = ltb x n && ltb x 65536
+nodeGood n x = ltb x n && ltb x numberedNodes
 
 -- n is the number of score words lent
 unfoldable pub target : ℕ → List ℕ → ℕ → ℕ → Option ℕ

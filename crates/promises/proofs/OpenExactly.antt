@@ -15,7 +15,8 @@ use Rattle.kinds.proofs.Members.{in-take, in-drop}
 use Rattle.term.specs.Terms.{span}
 use Rattle.term.proofs.Sizes.{length-flatten}
 use Rattle.sections.specs.Sections.{trailerOf, symbolsOf, symbolsAt, shapesAt, scoreAt}
-use Rattle.contents.specs.Tables.{blankWord, ShapesRead, shapesOf, scoreOf}
+use Rattle.contents.specs.Tables.{ShapesRead, shapesOf, scoreOf}
+use Rattle.kinds.specs.Limits.{blankWord}
 use Rattle.folio.specs.Opening.{Lent, Room, OpenOutcome, refuseOpening, stored, held, opened}
 use Rattle.folio.specs.Folio.{GoodSymbols, Shaped, Scored}
 use Rattle.sections.specs.declared.Places.{Places}

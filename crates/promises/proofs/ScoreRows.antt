@@ -21,7 +21,8 @@ use Rattle.term.proofs.LawsReading.{whole-in}
 use Rattle.term.proofs.WholeTerm.{whole-term}
 use Rattle.term.proofs.TermWhole.{read-back}
 use Rattle.term.proofs.FirstFault.{fault-of, of-fault}
-use Rattle.contents.specs.Tables.{scoreLevels, scoreLimits, scoreReason, wholeScore, scoreOf}
+use Rattle.contents.specs.Tables.{scoreLimits, scoreReason, wholeScore, scoreOf}
+use Rattle.kinds.specs.Limits.{scoreLevels}
 use Rattle.contents.specs.declared.Score.the-variants as score
 use Rattle.promises.specs.Refusals.{ScoreFault, ScoreRow, row-13, row-14, row-15, row-16, row-17}
 

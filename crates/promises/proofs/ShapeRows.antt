@@ -30,7 +30,8 @@ use Rattle.term.proofs.WholeTerm.{TermAt, whole-term}
 use Rattle.term.proofs.TermWhole.{read-back}
 use Rattle.term.proofs.Sizes.{length-flatten}
 use Rattle.term.proofs.FirstFault.{fault-of, of-fault}
-use Rattle.contents.specs.Tables.{blankWord, shapeLevels, shapeLimits, shapeReason, ShapesRead, shapesRead, push, oneShape, shapesFrom, shapesOf}
+use Rattle.contents.specs.Tables.{shapeLimits, shapeReason, ShapesRead, shapesRead, push, oneShape, shapesFrom, shapesOf}
+use Rattle.kinds.specs.Limits.{blankWord, shapeLevels}
 use Rattle.folio.specs.Folio.{IsShape, Shaped, AreShapes}
 use Rattle.contents.specs.declared.Shapes.{Shapes}
 use Rattle.contents.specs.declared.Shapes.the-variants as shapes

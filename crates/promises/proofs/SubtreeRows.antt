@@ -13,7 +13,8 @@ use Rattle.kinds.specs.Members.{_∈_, Below}
 use Rattle.kinds.proofs.Places.{on-in}
 use Rattle.term.specs.Terms.{Term, flatten}
 use Rattle.term.proofs.Sizes.{length-flatten, span-pos}
-use Rattle.contents.specs.Tables.{blankWord, shapeLimits, shapeLevels, scoreLimits, scoreLevels}
+use Rattle.contents.specs.Tables.{shapeLimits, scoreLimits}
+use Rattle.kinds.specs.Limits.{blankWord, shapeLevels, scoreLevels}
 use Rattle.checks.specs.Again.{symbolsGood, pieceAt, subtreeAt}
 use Rattle.folio.specs.Folio.{GoodSymbols, IsScore}
 use Rattle.checks.specs.declared.Asked.{Asked}

@@ -41,7 +41,8 @@ use Rattle.readers.specs.declared.Block.the-variants as block
 use Rattle.readers.specs.declared.Announcement.the-variants as announcement
 use Rattle.readers.specs.declared.Successor.the-variants as successor
 use Rattle.report.specs.Text.{line, firstLine, refusalText}
-use Rattle.report.specs.Lines.{lineRoom, outOf, lineOut, firstOut, refusalOut, LineOutcome}
+use Rattle.report.specs.Lines.{outOf, lineOut, firstOut, refusalOut, LineOutcome}
+use Rattle.kinds.specs.Limits.{lineRoom}
 use Rattle.report.specs.declared.Written.the-variants as written
 use Rattle.promises.specs.Found.{FoundRow, Standing, LabelFound, BlockFound, AnnouncementFound, SuccessorFound, ChildFound}
 use Rattle.promises.specs.StepFound.{StepFound}

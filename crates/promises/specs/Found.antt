@@ -18,7 +18,7 @@ use Rattle.kinds.specs.Positions.{codeGood, largest}
 use Rattle.kinds.specs.declared.Position.{Position}
 use Rattle.kinds.specs.declared.Node.{Node}
 use Rattle.term.specs.Terms.{Term, span, depth, flatten, Fits}
-use Rattle.contents.specs.Tables.{blankWord}
+use Rattle.kinds.specs.Limits.{blankWord}
 use Rattle.folio.specs.Folio.{GoodSymbols, IsScore}
 use Rattle.checks.specs.declared.Asked.{Asked}
 use Rattle.checks.specs.declared.Asked.the-variants as asked

@@ -18,7 +18,8 @@ use Rattle.term.specs.declared.Fault.{Fault}
 use Rattle.term.specs.declared.Fault.the-variants.{Ends, NoSymbol, Many, Deep}
 use Rattle.sections.specs.Bytes.{wordAt}
 use Rattle.sections.specs.Sections.{places, symbolsAt, shapesAt, scoreAt}
-use Rattle.contents.specs.Tables.{blankWord, noBlank, shapeLevels, scoreLevels, shapeLimits, scoreLimits}
+use Rattle.contents.specs.Tables.{shapeLimits, scoreLimits}
+use Rattle.kinds.specs.Limits.{blankWord, noBlank, shapeLevels, scoreLevels}
 use Rattle.folio.specs.Opening.{Lent, Room}
 use Rattle.folio.specs.Folio.{AreShapes, GoodSymbols, Shaped, Scored}
 use Rattle.sections.specs.declared.Places.{Places}

@@ -5,7 +5,7 @@ ghost use lib.ListN.{length};
 ghost use Rattle.kinds.specs.Lists.{orElse};
 ghost use Rattle.kinds.specs.Lists.{all};
 ghost use Rattle.following.specs.Following.{target};
-ghost use Rattle.queue.specs.Targets.{fine};
+ghost use Rattle.queue.specs.Targets.{fine, PairsIn};
 ghost use Rattle.readers.specs.BlockWords.{pairList};
 use following::Reached;
 use following::positions::follow;
@@ -23,7 +23,7 @@ pub fn fine_pairs(
     limit: u16,
     room: usize,
 ) -> bool
-    requires { ⌜ at + 2 * count ≤ length (now plan) ⌝ }
+    requires { ⌜ PairsIn (now plan) at count ⌝ }
     ensures { λ r. ⌜ r ≡ all (fine limit room (target nodes (now (spans .entry)) (from .0))) (pairList (now (plan .entry)) at count) ⌝ }
 {
     let mut here = at;

@@ -7,8 +7,8 @@ ghost use Rattle.kinds.specs.Lists.{all};
 ghost use Rattle.kinds.specs.Bits.{withBit};
 ghost use Rattle.following.specs.Following.{target};
 ghost use Rattle.readers.specs.PlanParts.{pairWords};
-ghost use Rattle.queue.specs.Targets.{marked};
-ghost use Rattle.queue.specs.Targets.{fine, landed, closedUp};
+ghost use Rattle.queue.specs.Targets.{marked, Leading, Appended};
+ghost use Rattle.queue.specs.Targets.{fine, landed, closedUp, Leading, Appended};
 ghost use Rattle.readers.specs.BlockWords.{pairList};
 use crate::aiming::aim;
 use kinds::Node;
@@ -24,7 +24,7 @@ pub fn mark_pairs(
     at: usize,
     count: usize,
 )
-    requires { ⌜ (at + 2 * count ≤ length (now plan)) × (all (fine 16 (length (now marks)) (target nodes (now spans) (from .0))) (pairList (now plan) at count) ≡ true) ⌝ }
+    requires { ⌜ Leading (now plan) at count (target nodes (now spans) (from .0)) (now marks) ⌝ }
     ensures { λ r. ⌜ now (marks .exit) ≡ marked (landed (target nodes (now (spans .entry)) (from .0)) (pairList (now (plan .entry)) at count)) (now (marks .entry)) ⌝ }
 {
     let mut here = at;
@@ -68,7 +68,7 @@ pub fn append_pairs(
     count: usize,
     end: usize,
 )
-    requires { ⌜ (at + 2 * count ≤ length (now plan)) × (end + 2 * count ≤ length (now items)) ⌝ }
+    requires { ⌜ Appended (now plan) at count (now items) end ⌝ }
     ensures { λ r. ⌜ now (items .exit) ≡ sets (now (items .entry)) end (pairWords (landed (target nodes (now (spans .entry)) (from .0)) (pairList (now (plan .entry)) at count))) ⌝ }
 {
     let mut here = at;

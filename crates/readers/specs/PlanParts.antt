@@ -14,6 +14,7 @@ use mathlib.Core.Bool.{Bool, true, false, cond, _&&_}
 use mathlib.Core.Option.{Option, none, some}
 use lib.Dec.{eqb, ltb, leb}
 use lib.ListN.{length, getD, getElem?, drop}
+use Rattle.kinds.specs.Limits.{mostStates, mostSymbols, mostShapes}
 use Rattle.kinds.specs.Lists.{bind, need, gather}
 use Rattle.kinds.specs.Positions.{codeGood}
 use Rattle.kinds.specs.Kinds.{position}
@@ -32,7 +33,7 @@ abbrev pub within : ℕ → ℕ → Bool
 within most n = ltb 0 n && leb n most
 
 abbrev pub countsGood : List ℕ → Bool
-countsGood plan = leb 4 (length plan) && (within 128 (getD plan 0 0) && (within 32 (getD plan 1 0) && within 16 (getD plan 2 0)))
+countsGood plan = leb 4 (length plan) && (within mostStates (getD plan 0 0) && (within mostSymbols (getD plan 1 0) && within mostShapes (getD plan 2 0)))
 
 unfoldable pub pairs : ℕ → List ℕ → Option (List (ℕ × ℕ) × List ℕ)
 pairs zero ws = some ([], ws)

@@ -27,13 +27,13 @@ pub fn counts_good(plan: &[u16]) -> bool
     if plan[1] == 0 {
         return false;
     }
-    if 32 < plan[1] {
+    if MOST_SYMBOLS < plan[1] as usize {
         return false;
     }
     if plan[2] == 0 {
         return false;
     }
-    plan[2] <= 16
+    plan[2] as usize <= MOST_SHAPES
 }
 
 // The label of a state, whatever its code.

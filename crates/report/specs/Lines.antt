@@ -8,6 +8,7 @@ use mathlib.Core.List.{List, [], _∷_}
 use lib.Dec.{leb}
 use lib.ListN.{length}
 use lib.Seq.{sets}
+use Rattle.kinds.specs.Limits.{lineRoom}
 use Rattle.kinds.specs.Lists.{unless}
 use Rattle.kinds.specs.Reasons.{Says, gives, refuses}
 use Rattle.kinds.specs.declared.Reason.{Reason}
@@ -23,9 +24,6 @@ pub record LineOutcome : Type 0 where
 
 abbrev pub outOf : Written → List ℕ → LineOutcome
 outOf a o = record { answer = a; out = o }
-
-abbrev pub lineRoom : ℕ
-lineRoom = 1400
 
 unfoldable pub written : List ℕ → List ℕ → LineOutcome
 written text o = unless (leb lineRoom (length o)) (outOf (Refused ShortBuffers) o) (outOf (Bytes (length text)) (sets o 0 text))

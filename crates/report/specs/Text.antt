@@ -15,6 +15,7 @@ use mathlib.Core.Bool.{Bool, cond}
 use mathlib.Core.Option.{Option, none, some}
 use lib.Dec.{ltb}
 use lib.ListN.{length, take}
+use Rattle.kinds.specs.Limits.{numberDigits, pathNumbers}
 use Rattle.kinds.specs.Lists.{gather}
 use Rattle.kinds.specs.Positions.{Pos}
 use Rattle.kinds.specs.Reasons.{numberOf}
@@ -32,7 +33,7 @@ digitsTo (suc d) n = cond (ltb n 10) ((48 + n) ∷ []) (digitsTo d (n / 10) ++ (
 
 -- twenty digits hold any number that a machine word holds
 unfoldable pub digits : ℕ → List ℕ
-digits n = digitsTo 20 n
+digits n = digitsTo numberDigits n
 
 unfoldable pub dotted : Pos → List ℕ
 dotted p = gather (λ i. bytes "." ++ digits i) p
@@ -46,7 +47,7 @@ abbrev pub field : List ℕ → ℕ → List ℕ
 field text n = text ++ digits n
 
 abbrev pub line : List ℕ → Match → List ℕ
-line spans m = digits (m .node) ++ (field (bytes " ") (m .shape) ++ (bytes " " ++ (pathText (pathTo 64 spans (m .node) 0) ++ bytes "\n")))
+line spans m = digits (m .node) ++ (field (bytes " ") (m .shape) ++ (bytes " " ++ (pathText (pathTo pathNumbers spans (m .node) 0) ++ bytes "\n")))
 
 abbrev pub firstLine : ℕ → ℕ → ℕ → ℕ → List ℕ
 firstLine n s m c =

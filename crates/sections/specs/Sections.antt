@@ -10,6 +10,7 @@ use Prim.Native.Nat.{ℕ, _+_, _-_, _%_}
 use mathlib.Core.List.{List, [], _∷_}
 use lib.Dec.{leb, eqb}
 use lib.ListN.{length, getD, take, drop}
+use Rattle.kinds.specs.Limits.{fileBytes, trailerBytes, mostSymbols, mostChildren}
 use Rattle.kinds.specs.Lists.{unless}
 use Rattle.kinds.specs.declared.Reason.the-variants.{Short, Long, EndBytes, Trailer, Symbols, Children}
 use Rattle.sections.specs.Bytes.{wordAt, wordsOf}
@@ -33,8 +34,8 @@ distancesOf e a b c =
 
 unfoldable pub trailerOf : List ℕ → Sections
 trailerOf s =
-    unless (leb 8 (length s)) (Refused Short (length s))
-    (unless (leb (length s) 8744) (Refused Long (length s))
+    unless (leb trailerBytes (length s)) (Refused Short (length s))
+    (unless (leb (length s) fileBytes) (Refused Long (length s))
     (unless (eqb (getD s (length s - 2) 0) 83) (Refused EndBytes (length s - 2))
     (unless (eqb (getD s (length s - 1) 0) 67) (Refused EndBytes (length s - 2))
     (distancesOf (length s - 8) (wordAt s (length s - 8)) (wordAt s (length s - 6)) (wordAt s (length s - 4))))))
@@ -42,12 +43,12 @@ trailerOf s =
 -- i counts stand before these
 unfoldable pub overAt : ℕ → List ℕ → Verdict
 overAt i [] = Good
-overAt i (x ∷ xs) = unless (leb x 4) (Bad Children i) (overAt (i + 1) xs)
+overAt i (x ∷ xs) = unless (leb x mostChildren) (Bad Children i) (overAt (i + 1) xs)
 
 unfoldable pub symbolsOf : List ℕ → Verdict
 symbolsOf ar =
     unless (leb 1 (length ar)) (Bad Symbols 0)
-    (unless (leb (length ar) 32) (Bad Symbols 0)
+    (unless (leb (length ar) mostSymbols) (Bad Symbols 0)
     (overAt 0 ar))
 
 module _ (file : List ℕ) (p : Places) where

@@ -18,7 +18,8 @@ use Rattle.kinds.specs.Lists.{onto}
 use Rattle.kinds.specs.declared.Reason.the-variants.{ShortBuffers, BadScore}
 use Rattle.kinds.proofs.ListLaws.{onto-sets}
 use Rattle.term.proofs.LawsReading.{head-out, reading-bad}
-use Rattle.contents.specs.Tables.{scoreLimits, scoreLevels}
+use Rattle.contents.specs.Tables.{scoreLimits}
+use Rattle.kinds.specs.Limits.{scoreLevels}
 use Rattle.checks.specs.Again.{scoreGood}
 use Rattle.contents.proofs.LawsTables.{score-refused}
 use Rattle.checks.proofs.LawsAgain.{score-good-is}

@@ -8,7 +8,7 @@ use native.Mathlib.Omega.{arith}
 use lib.ListN.{length}
 use Rattle.kinds.proofs.Places.{at-in}
 use Rattle.term.specs.Terms.{Term}
-use Rattle.contents.specs.Tables.{blankWord, noBlank}
+use Rattle.kinds.specs.Limits.{blankWord, noBlank}
 use Rattle.folio.specs.Folio.{Folio}
 use Rattle.folio.proofs.ShapesFound.{solid-node}
 use Rattle.automaton.specs.Paper.{paper}

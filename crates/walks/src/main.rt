@@ -5,6 +5,7 @@
 use folio::Opened;
 use folio::opening::open;
 use kinds::number;
+use kinds::slices::equal;
 use libc::STDOUT_FILENO;
 use plan::Built;
 use plan::Size;
@@ -131,7 +132,7 @@ fn walk_opened(
     match build(symbols, words, starts, &mut plan, &mut scratch) {
         Built::Plan(size) => {
             let built = first(&plan, size.words);
-            show_plan(size, same_words(built, stored));
+            show_plan(size, equal(built, stored));
             walk_ways(symbols, built, score, spans);
         }
         Built::Refused(reason) => {
@@ -171,7 +172,7 @@ fn walk_again(
 ) {
     let mut marks = [9u16; 4096];
     walk_whole(symbols, plan, score, spans, &mut marks, way);
-    if same_words(before, &marks) {
+    if equal(before, &marks) {
         io::write_all(STDOUT_FILENO, b" the same marks\n");
     } else {
         show_marks(&marks, score.len());
@@ -287,18 +288,6 @@ fn show_log(log: &[u16]) {
     for i in 0..log.len() {
         show(b" ", log[i] as usize);
     }
-}
-
-fn same_words(a: &[u16], b: &[u16]) -> bool {
-    if a.len() != b.len() {
-        return false;
-    }
-    for i in 0..a.len() {
-        if a[i] != b[i] {
-            return false;
-        }
-    }
-    true
 }
 
 // The nodes among the first n that have a mark, each with its mark.

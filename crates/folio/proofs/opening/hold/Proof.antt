@@ -1,4 +1,4 @@
-use Rattle.contents.specs.Tables.{blankWord}
+use Rattle.kinds.specs.Limits.{blankWord}
 use Prim.Native.Nat.{ℕ, _-_}
 use mathlib.Core.Path.{sym, _∙_}
 use native.Mathlib.Omega.{arith}
