@@ -1,14 +1,14 @@
 // Opens each folio that it is given by name, and prints what opening answers; then once more with no spans lent. Then it builds the sample, which
 // is its standard input, with plan buffers of 56 words and of 55, and with a scratch of one word too few; printed are the two lengths, what
 // building answers and the plan buffer's words.
-use folio::Opened;
-use folio::opening::open;
-use kinds::Reason;
-use kinds::number;
+use bufferstone::Built;
+use bufferstone::Opened;
+use bufferstone::Reason;
+use bufferstone::build;
+use bufferstone::number;
+use bufferstone::open;
 use libc::STDIN_FILENO;
 use libc::STDOUT_FILENO;
-use plan::Built;
-use plan::building::build;
 
 fn main() {
     for i in 1..os::arg_count() {

@@ -1,11 +1,11 @@
 // Walks the sample with one word of its plan changed: each word in turn set to 0, to 65,535 and to its value and one. Item 0 is taken until a
 // step is refused, at most ten times; printed are the word and its value, the accepted steps and the refusal, the log and the marks.
-use kinds::number;
+use bufferstone::Record;
+use bufferstone::Walked;
+use bufferstone::number;
+use bufferstone::start;
+use bufferstone::step;
 use libc::STDOUT_FILENO;
-use walk::Record;
-use walk::Walked;
-use walk::starting::start;
-use walk::stepping::step;
 
 const PLAN: [u16; 56] = [
     3,

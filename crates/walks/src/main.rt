@@ -2,18 +2,18 @@
 // score is walked with the built plan: taking the first item, the last, and items by a fixed pseudo-random row, each time with a refused choice
 // before every step. Printed are the accepted steps, what waits, what is logged, the refusal of the step after the end, the log where it has at
 // most ten nodes, and the marks.
-use folio::Opened;
-use folio::opening::open;
-use kinds::number;
-use kinds::slices::equal;
+use bufferstone::Built;
+use bufferstone::Opened;
+use bufferstone::Record;
+use bufferstone::Size;
+use bufferstone::Walked;
+use bufferstone::build;
+use bufferstone::equal;
+use bufferstone::number;
+use bufferstone::open;
+use bufferstone::start;
+use bufferstone::step;
 use libc::STDOUT_FILENO;
-use plan::Built;
-use plan::Size;
-use plan::building::build;
-use walk::Record;
-use walk::Walked;
-use walk::starting::start;
-use walk::stepping::step;
 ghost use Rattle.io.specs.Counts.{Counts};
 
 fn main() {
