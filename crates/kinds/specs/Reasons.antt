@@ -1,6 +1,6 @@
 -- The refusal numbers of document 01's table, and what an answer says in its numbers.
 --   numberOf   the number of each reason
---   Says       number 0 and the values answered, or a refusal's number and its place
+--   Says       number 0 and the values answered (gives), or a refusal's number and its place (refusal; refuses: by its reason)
 use Prim.Native.Nat.{ℕ}
 use mathlib.Core.List.{List, [], _∷_}
 use Rattle.kinds.specs.declared.Reason.{Reason}
@@ -42,5 +42,9 @@ pub record Says : Type 0 where
 abbrev pub gives : List ℕ → Says
 gives vs = record { number = 0; values = vs }
 
+-- a refusal by its number in the table, and its place
+abbrev pub refusal : ℕ → ℕ → Says
+refusal n p = record { number = n; values = p ∷ [] }
+
 abbrev pub refuses : Reason → ℕ → Says
-refuses r p = record { number = numberOf r; values = p ∷ [] }
+refuses r p = refusal (numberOf r) p

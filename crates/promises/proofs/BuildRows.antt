@@ -12,11 +12,11 @@ use Rattle.checks.specs.Again.{shapesGood}
 use Rattle.folio.specs.Folio.{shapeTerms}
 use Rattle.folio.proofs.GoodTables.{shapes-good-shaped, shaped-good}
 use Rattle.automaton.specs.PlanWords.{Plan, halted, too-long, plan-of}
-use Rattle.plan.specs.Building.{planOf, written, buildOf}
-use Rattle.plan.specs.Building.{BuildOutcome}
+use Rattle.plan.specs.Building.{planOf, written, buildOf, BuildOutcome}
 use Rattle.plan.proofs.BuildLaws.{built-bad, built-short, built-on}
 use Rattle.promises.specs.Demand1 as rows
-use Rattle.promises.specs.Demand1.{By, BuildRow, GoodShapes}
+use Rattle.promises.specs.Demand1.{BuildRow, GoodShapes}
+use Rattle.promises.specs.Told.{By}
 
 module _ (ar ws st plan scratch : List ℕ) where
   good-or-not : GoodShapes ar ws st plan scratch ⊎ (GoodShapes ar ws st plan scratch → ⊥)

@@ -1,4 +1,5 @@
 -- What is promised, proved.
+pub mod ByNumber
 pub mod TrailerRows
 pub mod ShapeRows
 pub mod ScoreRows

@@ -17,7 +17,8 @@ use Rattle.report.specs.Lines.{LineOutcome, outOf, written, lineOut, firstOut, 
 use Rattle.report.specs.declared.Written.the-variants as answer
 use Rattle.report.proofs.PathLaws.{path-few}
 use Rattle.report.proofs.TextLaws.{line-short, line-is, digits-short, text-few}
-use Rattle.promises.specs.Demand1.{By, LineRow, line-30, writes}
+use Rattle.promises.specs.Demand1.{LineRow, line-30, writes}
+use Rattle.promises.specs.Told.{By}
 
 module _ (text buffer : List ℕ) (small : length text ≤ 1400) where
   whole : 1400 ≤ length buffer → written text buffer ≡ outOf (answer.Bytes (length text)) (text ++ drop (length text) buffer)

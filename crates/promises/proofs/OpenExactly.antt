@@ -37,6 +37,8 @@ use Rattle.folio.proofs.Symbols.{symbols-is, symbols-of}
 use Rattle.folio.proofs.ScoreWhole.{words-below, score-is, score-of}
 use Rattle.kinds.specs.Members.{Below}
 use Rattle.folio.proofs.ShapesFound.{length-starts, found-shapes}
+use Rattle.kinds.specs.Reasons.{numberOf}
+use Rattle.promises.proofs.ByNumber.{RefusedAs, by-reason}
 use Rattle.promises.specs.Refusals.{Framed, Given, in-trailer, in-symbols, in-shapes, in-score, row-18}
 use Rattle.promises.proofs.TrailerRows.{trailer-row, row-trailer, trailer-framed, framed-trailer, symbol-row, row-symbol}
 use Rattle.promises.proofs.ShapeRows.{shape-row, row-shape, pass-shapes}
@@ -59,6 +61,16 @@ module _ (file : List ℕ) (l : Lent) where
       length-take-le (q .score - q .shapes) (drop (q .shapes) file) (omega (arith, length-drop (q .shapes) file, d .size)) ∙ (let z : q .score - q .shapes ≡ 2 * k = omega (arith, d .words, d .score-words) in z) in
       omega (arith, length-words k (take (q .score - q .shapes) (drop (q .shapes) file)) long, d .words, d .score-words)
 
+  -- and the trailer's, behind the score's
+  score-ends : (q : Places) → Placed file q → q .score + 2 * length (scoreAt file q) ≡ q .end
+  score-ends q d =
+      let k = d .nodes in
+      let a = d .first in
+      let b = d .second in
+      let long : length (take (q .end - q .score) (drop (q .score) file)) ≡ 2 * k =
+      length-take-le (q .end - q .score) (drop (q .score) file) (omega (arith, length-drop (q .score) file, d .size)) ∙ (let z : q .end - q .score ≡ 2 * k = omega (arith, d .words, d .score-words) in z) in
+      omega (arith, length-words k (take (q .end - q .score) (drop (q .score) file)) long, d .words, d .score-words)
+
   -- ---- a refusal has its row
   module _ (small : Below 256 file) (r : Reason) (p : ℕ) (e : opened file l .answer ≡ opening.Refused r p) where
     told : (o : OpenOutcome) → opened file l ≡ o → o .answer ≡ opening.Refused r p
@@ -77,7 +89,7 @@ module _ (file : List ℕ) (l : Lent) where
       whole : opened file l ≡ held ar ws sc (q .shapes) l
       whole = opened-at file l q (sections-good file q eq good)
 
-      no-room : (st : List ℕ) (s : Shaped ar ws st) (t : Scored ar sc) → stored ar ws st sc l .answer ≡ opening.Refused r p → Given file l r p
+      no-room : (st : List ℕ) (s : Shaped ar ws st) (t : Scored ar sc) → stored ar ws st sc l .answer ≡ opening.Refused r p → Given file l (numberOf r) p
       no-room st s t d = go (decLt (length (l .words)) (length ws)) (decLt (length (l .starts)) (length st)) (decLt (length (l .score)) (length sc)) (decLt (length (l .spans)) (length sc))
         where
           st-is : length st ≡ length (s .trees)
@@ -86,21 +98,23 @@ module _ (file : List ℕ) (l : Lent) where
           n-is : length sc ≡ span (t .tree)
           n-is = ap length (t .words) ∙ length-flatten (t .tree)
 
-          given : (Room l (length ws) (length (s .trees)) (span (t .tree)) → ⊥) → stored ar ws st sc l ≡ refuseOpening reason.Tables 0 l → Given file l r p
-          given n x = same-refusal (sym (ap (λ (o : OpenOutcome). o .answer) x) ∙ d) λ a b. row-18 q (trailer-framed file q eq) (symbols-is ar good) st s t n (sym a) (sym b)
+          given : (Room l (length ws) (length (s .trees)) (span (t .tree)) → ⊥) → stored ar ws st sc l ≡ refuseOpening reason.Tables 0 l → Given file l (numberOf r) p
+          given n x = same-refusal (sym (ap (λ (o : OpenOutcome). o .answer) x) ∙ d) λ a b. rw (← a, ← b) (row-18 q (trailer-framed file q eq) (symbols-is ar good) st s t n)
 
-          go : Dec (length (l .words) < length ws) → Dec (length (l .starts) < length st) → Dec (length (l .score) < length sc) → Dec (length (l .spans) < length sc) → Given file l r p
+          go : Dec (length (l .words) < length ws) → Dec (length (l .starts) < length st) → Dec (length (l .score) < length sc) → Dec (length (l .spans) < length sc) → Given file l (numberOf r) p
           go (yes a) b c d = given (λ x. let y = x .words in omega arith) (stored-words ar ws st sc l a)
           go (no a) (yes b) c d = given (λ x. let y = x .starts in omega (arith, b, st-is)) (stored-starts ar ws st sc l (omega arith) b)
           go (no a) (no b) (yes c) d = given (λ x. let y = x .score in omega (arith, c, n-is)) (stored-score ar ws st sc l (omega arith) (omega arith) c)
           go (no a) (no b) (no c) (yes d) = given (λ x. let y = x .spans in omega (arith, d, n-is)) (stored-spans ar ws st sc l (omega arith) (omega arith) (omega arith) d)
           go (no a) (no b) (no c) (no x) = no-refusal (sym (ap (λ (o : OpenOutcome). o .answer) (stored-all ar ws st sc l (omega arith) (omega arith) (omega arith) (omega arith))) ∙ d)
 
-      on-score : (n : ℕ) → shapesOf ar blankWord ws .answer ≡ shapes.Whole n → (x : Score) → scoreOf ar sc ≡ x → Given file l r p
+      on-score : (n : ℕ) → shapesOf ar blankWord ws .answer ≡ shapes.Whole n → (x : Score) → scoreOf ar sc ≡ x → Given file l (numberOf r) p
       on-score n es (score.Refused s i) ex =
           same-refusal (told _ (whole ∙ held-score ar ws sc (q .shapes) l es ex)) λ a b.
-          in-score q (trailer-framed file q eq) (symbols-is ar good) (shapesOf ar blankWord ws .starts) (found-shapes ar ws n es) i (score-row ar sc r i (ex ∙ ap (λ y. score.Refused y i) a))
-          (sym b ∙ ap (λ y. y + 2 * i) (score-begins q (trailer-in file q eq)))
+          let placed = trailer-in file q eq in
+          let place : q .score + 2 * i ≡ p = sym (ap (λ y. y + 2 * i) (score-begins q placed)) ∙ b in
+          rw (← place) (in-score q (trailer-framed file q eq) (symbols-is ar good) (shapesOf ar blankWord ws .starts) (found-shapes ar ws n es)
+          (score-row ar sc (q .score) (q .end) (score-ends q placed) r i (ex ∙ ap (λ y. score.Refused y i) a)))
       on-score n es score.Whole ex =
           let s = found-shapes ar ws n es in
           let t = score-is ar sc (words-below _ (λ w m. small w (in-drop (q .score) file (in-take (q .end - q .score) (drop (q .score) file) m)))) ex in
@@ -109,46 +123,67 @@ module _ (file : List ℕ) (l : Lent) where
           rw-told : {o : OpenOutcome} → held ar ws sc (q .shapes) l ≡ o → o .answer ≡ opening.Refused r p
           rw-told d = told _ (whole ∙ d)
 
-      on-shapes : (x : Shapes) → shapesOf ar blankWord ws .answer ≡ x → Given file l r p
+      on-shapes : (x : Shapes) → shapesOf ar blankWord ws .answer ≡ x → Given file l (numberOf r) p
       on-shapes (shapes.Refused s i) ex =
           same-refusal (told _ (whole ∙ held-shapes ar ws sc (q .shapes) l ex)) λ a b.
-          in-shapes q (trailer-framed file q eq) (symbols-is ar good) i (shape-row ar ws r i (ex ∙ ap (λ y. shapes.Refused y i) a)) (sym b)
+          rw (← b) (in-shapes q (trailer-framed file q eq) (symbols-is ar good)
+          (shape-row ar ws (q .shapes) (q .score) (score-begins q (trailer-in file q eq)) r i (ex ∙ ap (λ y. shapes.Refused y i) a)))
       on-shapes (shapes.Whole n) ex = on-score n ex (scoreOf ar sc) refl
 
-    on-symbols : (q : Places) → trailerOf file ≡ sections.At q → (v : Verdict) → symbolsOf (symbolsAt file q) ≡ v → Given file l r p
+    on-symbols : (q : Places) → trailerOf file ≡ sections.At q → (v : Verdict) → symbolsOf (symbolsAt file q) ≡ v → Given file l (numberOf r) p
     on-symbols q eq (verdict.Bad s i) ev =
         same-refusal (told _ (opened-refused file l (sections-symbols file q eq ev))) λ a b.
         in-symbols q (trailer-framed file q eq) (symbol-row (symbolsAt file q) r p (ev ∙ ap₂ verdict.Bad a b))
     on-symbols q eq verdict.Good ev = on-shapes q eq ev (shapesOf (symbolsAt file q) blankWord (shapesAt file q) .answer) refl
 
-    on-trailer : (s : Sections) → trailerOf file ≡ s → Given file l r p
+    on-trailer : (s : Sections) → trailerOf file ≡ s → Given file l (numberOf r) p
     on-trailer (sections.Refused s i) es =
         same-refusal (told _ (opened-refused file l (sections-trailer file es))) λ a b.
         in-trailer (trailer-row file r p (es ∙ ap₂ sections.Refused a b))
     on-trailer (sections.At q) es = on-symbols q es (symbolsOf (symbolsAt file q)) refl
 
-    pub refused-given : Given file l r p
+    pub refused-given : Given file l (numberOf r) p
     refused-given = on-trailer (trailerOf file) refl
 
   -- ---- a row has its refusal
   framed-at : (q : Places) → Framed file q → GoodSymbols (symbolsAt file q) → opened file l ≡ held (symbolsAt file q) (shapesAt file q) (scoreAt file q) (q .shapes) l
   framed-at q f g = opened-at file l q (sections-good file q (framed-trailer file q f) (symbols-of (symbolsAt file q) g))
 
-  pub given-refused : {r : Reason} {p : ℕ} → Given file l r p → opened file l ≡ refuseOpening r p l
-  given-refused (in-trailer x) = opened-refused file l (sections-trailer file (row-trailer file x))
-  given-refused (in-symbols q f x) = opened-refused file l (sections-symbols file q (framed-trailer file q f) (row-symbol (symbolsAt file q) x))
-  given-refused {r} {p} (in-shapes q f g i x e) =
-      framed-at q f g ∙ held-shapes (symbolsAt file q) (shapesAt file q) (scoreAt file q) (q .shapes) l (row-shape (symbolsAt file q) (shapesAt file q) x) ∙ ap (λ y. refuseOpening r y l) (sym e)
-  given-refused {r} {p} (in-score q f g st s i x e) =
-      framed-at q f g
-      ∙ held-score (symbolsAt file q) (shapesAt file q) (scoreAt file q) (q .shapes) l (ap (λ (y : ShapesRead). y .answer) (pass-shapes (symbolsAt file q) (shapesAt file q) st s)) (row-score (symbolsAt file q) (scoreAt file q) x)
-      ∙ ap (λ y. refuseOpening r (y + 2 * i) l) (score-begins q (trailer-in file q (framed-trailer file q f))) ∙ ap (λ y. refuseOpening r y l) (sym e)
-  given-refused {r} {p} (row-18 q f g st s t n er ep) =
-      framed-at q f g
+  abbrev refused : Reason → ℕ → OpenOutcome
+  refused r p = refuseOpening r p l
+
+  pub given-refused : {n p : ℕ} → Given file l n p → RefusedAs refused (opened file l) n p
+  given-refused (in-trailer x) = let y = row-trailer file x in record { reason = y .reason; number = y .number; is = opened-refused file l (sections-trailer file (y .is)) }
+  given-refused (in-symbols q f x) =
+      let y = row-symbol (symbolsAt file q) x in
+      record { reason = y .reason; number = y .number; is = opened-refused file l (sections-symbols file q (framed-trailer file q f) (y .is)) }
+  given-refused (in-shapes q f g x) =
+      let placed = trailer-in file q (framed-trailer file q f) in
+      let y = row-shape (symbolsAt file q) (shapesAt file q) (q .shapes) (q .score) (score-begins q placed) x in
+      let z = y .refused in
+      record {
+        reason = z .reason;
+        number = z .number;
+        is = framed-at q f g ∙ held-shapes (symbolsAt file q) (shapesAt file q) (scoreAt file q) (q .shapes) l (z .is) ∙ ap (refused (z .reason)) (sym (y .place));
+      }
+  given-refused (in-score q f g st s x) =
+      let placed = trailer-in file q (framed-trailer file q f) in
+      let y = row-score (symbolsAt file q) (scoreAt file q) (q .score) (q .end) (score-ends q placed) x in
+      let z = y .refused in
+      let shapes-pass = ap (λ (a : ShapesRead). a .answer) (pass-shapes (symbolsAt file q) (shapesAt file q) st s) in
+      record {
+        reason = z .reason;
+        number = z .number;
+        is = framed-at q f g
+            ∙ held-score (symbolsAt file q) (shapesAt file q) (scoreAt file q) (q .shapes) l shapes-pass (z .is)
+            ∙ ap (λ a. refused (z .reason) (a + 2 * y .word)) (score-begins q placed)
+            ∙ ap (refused (z .reason)) (sym (y .place));
+      }
+  given-refused (row-18 q f g st s t n) = by-reason refused reason.Tables
+      (framed-at q f g
       ∙ held-on ar ws sc (q .shapes) l (ap (λ (y : ShapesRead). y .answer) (pass-shapes ar ws st s)) (ap (scoreOf ar) (t .words) ∙ score-of ar (t .tree) (t .is))
       ∙ ap (λ (y : ShapesRead). stored ar ws (y .starts) sc l) (pass-shapes ar ws st s)
-      ∙ go (decLt (length (l .words)) (length ws)) (decLt (length (l .starts)) (length st)) (decLt (length (l .score)) (length sc)) (decLt (length (l .spans)) (length sc))
-      ∙ ap₂ (λ x y. refuseOpening x y l) (sym er) (sym ep)
+      ∙ go (decLt (length (l .words)) (length ws)) (decLt (length (l .starts)) (length st)) (decLt (length (l .score)) (length sc)) (decLt (length (l .spans)) (length sc)))
     where
       ar : List ℕ
       ar = symbolsAt file q
@@ -171,6 +206,3 @@ module _ (file : List ℕ) (l : Lent) where
       go (no a) (no b) (yes c) d = stored-score ar ws st sc l (omega arith) (omega arith) c
       go (no a) (no b) (no c) (yes d) = stored-spans ar ws st sc l (omega arith) (omega arith) (omega arith) d
       go (no a) (no b) (no c) (no d) = absurd (n (record { words = omega arith; starts = omega (arith, b, st-is); score = omega (arith, c, n-is); spans = omega (arith, d, n-is) }))
-
-  pub refused-exactly : Below 256 file → (r : Reason) (p : ℕ) → (opened file l .answer ≡ opening.Refused r p) ↔ Given file l r p
-  refused-exactly small r p = (refused-given small r p, λ x. ap (λ (o : OpenOutcome). o .answer) (given-refused x))

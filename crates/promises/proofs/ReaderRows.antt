@@ -5,7 +5,7 @@
 --   by-label by-lengths by-announcement by-successor   the readers
 use mathlib.Core.Path.{_≡_, refl, ap, sym, _∙_}
 use mathlib.Core.Bool.{true, false, _&&_}
-use mathlib.Core.List.{List}
+use mathlib.Core.List.{List, _∷_, []}
 use mathlib.Core.Logic.{_⊎_, inl, inr}
 use mathlib.Core.Option.{Option, none, some}
 use Prim.Native.Nat.{ℕ, _+_, _*_, _<_, _≤_}
@@ -20,7 +20,7 @@ use Rattle.kinds.specs.declared.Reason.the-variants.{OutOfRange}
 use Rattle.kinds.proofs.Bools.{test, both, and-l, and-r}
 use Rattle.kinds.proofs.Options.{on-bind, on-need}
 use Rattle.kinds.proofs.Places.{at-below}
-use Rattle.readers.specs.PlanParts.{within, viewGood, labelWord, toLabel, pairAt, labelOf, lengthsOf, toAnnouncement, announcementOf, toSuccessor, successorOf}
+use Rattle.readers.specs.PlanParts.{within, viewGood, labelWord, toLabel, pairAt, labelOf, labelSays, lengthsOf, blockSays, toAnnouncement, announcementOf, announcementSays, toSuccessor, successorOf, successorSays}
 use Rattle.readers.specs.BlockWords.{middle, pairList, outsAt, nextsAt, blockFits, blockStart}
 use Rattle.readers.specs.declared.Label.the-variants as label
 use Rattle.readers.specs.declared.Block.the-variants as block
@@ -28,9 +28,10 @@ use Rattle.readers.specs.declared.Announcement.the-variants as announcement
 use Rattle.readers.specs.declared.Successor.the-variants as successor
 use Rattle.readers.proofs.LawsPairs.{pairList-length, pairList-at, fits-in}
 use Rattle.readers.proofs.LawsParts as laws
-use Rattle.promises.specs.Found.{FoundRow, View, PairFound, LabelFound, BlockFound, AnnouncementFound, SuccessorFound}
-use Rattle.promises.specs.Demand1.{By}
+use Rattle.promises.specs.Found.{FoundRow, View, PairFound, LabelFound, BlockFound, AnnouncementFound, SuccessorFound, pairValues}
+use Rattle.promises.specs.Told.{By}
 use Rattle.promises.proofs.FoundRows.{by-found}
+use Rattle.readers.specs.declared.Block.{Block}
 
 -- ---- a pair
 module _ (plan : List ℕ) (at limit i : ℕ) (x : ℕ × ℕ) where
@@ -107,8 +108,8 @@ module _ (plan : List ℕ) (m k : ℕ) where
             on-need (ltb s m) _ ew λ t₂ d₃.
             inl (w, record { view = good-view t; state = ltb-true s m t₂; word = d₃; code = t₁ })
 
-    pub by-label : By (FoundRow (LabelFound plan m k s) (label.Refused OutOfRange) (λ c. label.At (position c))) (labelOf plan m k s)
-    by-label = by-found (LabelFound plan m k s) (label.Refused OutOfRange) (λ c. label.At (position c)) (labelOf plan m k s) (λ c e. let z : _≡_ {A = ℕ} 0 1 = cc in absurd (omega arith)) label-is label-either
+    pub by-label : By (FoundRow (LabelFound plan m k s) (λ c. c ∷ [])) (labelSays (labelOf plan m k s))
+    by-label = by-found (LabelFound plan m k s) (λ c. c ∷ []) labelSays (label.Refused OutOfRange) (λ c. label.At (position c)) (labelOf plan m k s) refl (λ c. refl) label-is label-either
 
   -- ---- a block
   module _ (s f : ℕ) where
@@ -135,20 +136,23 @@ module _ (plan : List ℕ) (m k : ℕ) where
         go (inl g) none e = out g e
         go (inl g) (some b) e = found b (of-block b g e)
 
-    pub by-lengths : By (FoundRow (BlockFound plan m k s f) (block.Refused OutOfRange) (λ b. block.Of (record { announcements = getD plan b 0; successors = getD plan (middle plan b) 0 }))) (lengthsOf plan m k s f)
+    abbrev lengths : ℕ → Block
+    lengths b = block.Of (record { announcements = getD plan b 0; successors = getD plan (middle plan b) 0 })
+
+    pub by-lengths : By (FoundRow (BlockFound plan m k s f) (λ b. getD plan b 0 ∷ getD plan (middle plan b) 0 ∷ [])) (blockSays (lengthsOf plan m k s f))
     by-lengths =
-        by-found (BlockFound plan m k s f) (block.Refused OutOfRange) (λ b. block.Of (record { announcements = getD plan b 0; successors = getD plan (middle plan b) 0 })) (lengthsOf plan m k s f)
-        (λ b e. let z : _≡_ {A = ℕ} 0 1 = cc in absurd (omega arith))
+        by-found (BlockFound plan m k s f) (λ b. getD plan b 0 ∷ getD plan (middle plan b) 0 ∷ []) blockSays (block.Refused OutOfRange) lengths (lengthsOf plan m k s f)
+        refl (λ b. refl)
         (λ b h. laws.lengths-some plan m k (view-good (h .view)) s f b (block-of b h))
         (on-block (λ b h. inl (b, h)) (λ n. inr (laws.lengths-view plan m k s f n)) (λ g e. inr (laws.lengths-none plan m k g s f e)))
 
     -- ---- a pair of a block
     module _ (i : ℕ) where
-      pub by-announcement : By (FoundRow (AnnouncementFound plan m k s f i) (announcement.Refused OutOfRange) (λ x. announcement.Of (record { 0 = x .0 }) (position (x .1)))) (announcementOf plan m k s f i)
+      pub by-announcement : By (FoundRow (AnnouncementFound plan m k s f i) pairValues) (announcementSays (announcementOf plan m k s f i))
       unfolding announcementOf
       by-announcement =
-          by-found (AnnouncementFound plan m k s f i) (announcement.Refused OutOfRange) (λ x. announcement.Of (record { 0 = x .0 }) (position (x .1))) (announcementOf plan m k s f i)
-          (λ x e. let z : _≡_ {A = ℕ} 0 1 = cc in absurd (omega arith))
+          by-found (AnnouncementFound plan m k s f i) pairValues announcementSays (announcement.Refused OutOfRange) (λ x. announcement.Of (record { 0 = x .0 }) (position (x .1))) (announcementOf plan m k s f i)
+          refl (λ x. refl)
           (λ x h. ap toAnnouncement (laws.pair-in plan m k (view-good (h .block .view)) s f (h .begin) (block-of (h .begin) (h .block)) false i ∙ pair-of plan (h .begin) (getD plan 2 0) i x (h .pair)))
           (on-block (λ b h. in-block b h (pairAt (getD plan 2 0) (outsAt plan b) i) refl) (λ n. inr (ap toAnnouncement (laws.pair-view plan m k false s f i n))) (λ g e. inr (ap toAnnouncement (laws.pair-start plan m k g s f false i e))))
         where
@@ -157,11 +161,11 @@ module _ (plan : List ℕ) (m k : ℕ) where
           in-block b h none e = inr (ap toAnnouncement (laws.pair-in plan m k (view-good (h .view)) s f b (block-of b h) false i ∙ e))
           in-block b h (some x) e = inl (x, record { begin = b; block = h; pair = of-pair plan b (getD plan 2 0) i x e })
 
-      pub by-successor : By (FoundRow (SuccessorFound plan m k s f i) (successor.Refused OutOfRange) (λ x. successor.Of (record { 0 = x .0 }) (position (x .1)))) (successorOf plan m k s f i)
+      pub by-successor : By (FoundRow (SuccessorFound plan m k s f i) pairValues) (successorSays (successorOf plan m k s f i))
       unfolding successorOf
       by-successor =
-          by-found (SuccessorFound plan m k s f i) (successor.Refused OutOfRange) (λ x. successor.Of (record { 0 = x .0 }) (position (x .1))) (successorOf plan m k s f i)
-          (λ x e. let z : _≡_ {A = ℕ} 0 1 = cc in absurd (omega arith))
+          by-found (SuccessorFound plan m k s f i) pairValues successorSays (successor.Refused OutOfRange) (λ x. successor.Of (record { 0 = x .0 }) (position (x .1))) (successorOf plan m k s f i)
+          refl (λ x. refl)
           (λ x h. ap toSuccessor (laws.pair-in plan m k (view-good (h .block .view)) s f (h .begin) (block-of (h .begin) (h .block)) true i ∙ pair-of plan (middle plan (h .begin)) m i x (h .pair)))
           (on-block (λ b h. in-block b h (pairAt m (nextsAt plan b) i) refl) (λ n. inr (ap toSuccessor (laws.pair-view plan m k true s f i n))) (λ g e. inr (ap toSuccessor (laws.pair-start plan m k g s f true i e))))
         where

@@ -5,7 +5,7 @@ use mathlib.Core.Path.{_≡_, refl, ap, ap₂, sym, _∙_, subst}
 use mathlib.Core.Logic.{⊎-elim}
 use mathlib.Core.Bool.{Bool, true, false, cond}
 use mathlib.Core.List.{List, [], _∷_, _++_, append-assoc, append-nil}
-use Prim.Native.Nat.{ℕ, zero, suc, _+_, _-_, _<_, _≤_}
+use Prim.Native.Nat.{ℕ, zero, suc, _+_, _-_, _<_, _≤_, _*_}
 use native.Mathlib.Omega.{arith}
 use native.Mathlib.Nat.{zero-add, add-zero}
 use borrow.Author.Tests.{ltb-true, ltb-false, leb-true, leb-false, lt-ltb, lt-leb, le-leb}
@@ -37,21 +37,31 @@ use Rattle.contents.specs.declared.Shapes.{Shapes}
 use Rattle.contents.specs.declared.Shapes.the-variants as shapes
 use Rattle.contents.proofs.LawsTables.{shapes-none, shapes-some}
 use Rattle.folio.proofs.ShapesFound.{solid, head-word, shapes-found}
+use Rattle.kinds.specs.Reasons.{numberOf}
+use Rattle.term.proofs.FaultPlaces.{ends-at-end, many-at-stop}
+use Rattle.promises.proofs.ByNumber.{RefusedAs, by-reason}
 use Rattle.promises.specs.Refusals.{ShapesTo, ShapeFault, ShapeRow, row-7, row-8, row-9, row-10, row-11, row-12-none, row-12-more}
 
 not-refused {κ} : {C : Type κ} {r : Reason} {n i : ℕ} → shapes.Whole n ≡ shapes.Refused r i → C
 not-refused e = let z : _≡_ {A = ℕ} 0 1 = cc in absurd (omega arith)
 
-module _ (ar ws : List ℕ) where
+module _ (ar ws : List ℕ) (first end : ℕ) (whole : first + 2 * length ws ≡ end) where
   abbrev all : ℕ → ℕ → ℕ → ShapesRead
   all c n at = shapesFrom ar blankWord ws c n at
 
   -- ---- from the tests
-  by-fault : (f : Fault) (i : ℕ) → ShapeFault ar ws f i → ShapeRow ar ws (shapeReason f) i
-  by-fault Ends i x = row-8 i x
-  by-fault NoSymbol i x = row-7 i x
-  by-fault Many i x = row-10 i x
-  by-fault Deep i x = row-11 i x
+  abbrev Row : Reason → ℕ → Type 0
+  Row r i = ShapeRow ar ws first end (numberOf r) (first + 2 * i)
+
+  by-fault : (at : ℕ) (f : Fault) (i : ℕ) → ShapeFault ar ws at f i → Row (shapeReason f) i
+  by-fault at Ends i x =
+      let b = x .begins in
+      let z = ends-at-end ar ws (shapeLimits blankWord at) (x .fault) (omega arith) in
+      let place : end ≡ first + 2 * i = omega (arith, whole, z) in
+      rw (← place) (row-8 at (rw z at x))
+  by-fault at NoSymbol i x = row-7 at i x
+  by-fault at Many i x = let z = many-at-stop ar ws (shapeLimits blankWord at) (x .fault) (omega arith) in rw z (row-10 at (rw z at x))
+  by-fault at Deep i x = row-11 at i x
 
   one-more : (at e n : ℕ) → at < length ws → getD ws at 0 < blankWord → e ≤ at + 16 → (a : TermAt ar ws blankWord shapeLevels at e) → ShapesTo ar ws at n → ShapesTo ar ws e (n + 1)
   one-more at e n h g few a s =
@@ -66,11 +76,11 @@ module _ (ar ws : List ℕ) where
         size = let b = ap length split ∙ length-append (gather flatten (s .shapes)) (flatten t) in omega (arith, a .size, s .size, b, length-flatten t);
       }
 
-  from-row : (c n at : ℕ) (r : Reason) (i : ℕ) → n + c ≡ 16 → ShapesTo ar ws at n → all c n at .answer ≡ shapes.Refused r i → ShapeRow ar ws r i
+  from-row : (c n at : ℕ) (r : Reason) (i : ℕ) → n + c ≡ 16 → ShapesTo ar ws at n → all c n at .answer ≡ shapes.Refused r i → Row r i
   unfolding shapesFrom
   from-row zero n at r i h s e = go (ltb at (length ws)) refl e
     where
-      go : (b : Bool) → ltb at (length ws) ≡ b → cond b (shapesRead (shapes.Refused reason.Shapes at) []) (shapesRead (shapes.Whole n) []) .answer ≡ shapes.Refused r i → ShapeRow ar ws r i
+      go : (b : Bool) → ltb at (length ws) ≡ b → cond b (shapesRead (shapes.Refused reason.Shapes at) []) (shapesRead (shapes.Whole n) []) .answer ≡ shapes.Refused r i → Row r i
       go false eb d = not-refused d
       go true eb d =
           let x : reason.Shapes ≡ r = cc in
@@ -82,12 +92,12 @@ module _ (ar ws : List ℕ) where
     where
       go : (b : Bool) → ltb at (length ws) ≡ b → (x : Reading) → reading ar ws (shapeLimits blankWord at) shapeLevels at ≡ x → (lone : Bool) → leb blankWord (getD ws at 0) ≡ lone
           → cond b (oneShape x at lone (all c (n + 1))) (shapesRead (shapes.Whole n) []) .answer ≡ shapes.Refused r i
-          → ((e : ℕ) → ShapesTo ar ws e (n + 1) → all c (n + 1) e .answer ≡ shapes.Refused r i → ShapeRow ar ws r i) → ShapeRow ar ws r i
+          → ((e : ℕ) → ShapesTo ar ws e (n + 1) → all c (n + 1) e .answer ≡ shapes.Refused r i → Row r i) → Row r i
       go false eb x ex lone el d ih = not-refused d
       go true eb (read.Refused f p) ex lone el d ih =
           let y : shapeReason f ≡ r = cc in
           let z : p ≡ i = cc in
-          rw (← y, ← z) (by-fault f p (record { at = at; number = n; one-of-16 = omega arith; begins = ltb-true at (length ws) eb; before = s; fault = fault-of ar ws (shapeLimits blankWord at) shapeLevels at f p ex }))
+          rw (← y, ← z) (by-fault at f p (record { number = n; one-of-16 = omega arith; begins = ltb-true at (length ws) eb; before = s; fault = fault-of ar ws (shapeLimits blankWord at) shapeLevels at f p ex }))
       go true eb (read.Whole m) ex true el d ih =
           let y : reason.LoneBlank ≡ r = cc in
           let z : at ≡ i = cc in
@@ -100,17 +110,18 @@ module _ (ar ws : List ℕ) where
   none-yet : ShapesTo ar ws 0 0
   none-yet = record { shapes = []; many = refl; each = λ t m. in-none m; words = refl; size = refl }
 
-  pub shape-row : (r : Reason) (i : ℕ) → shapesOf ar blankWord ws .answer ≡ shapes.Refused r i → ShapeRow ar ws r i
+  pub shape-row : (r : Reason) (i : ℕ) → shapesOf ar blankWord ws .answer ≡ shapes.Refused r i → Row r i
   unfolding shapesOf
   shape-row r i e = go (ltb 0 (length ws)) refl e
     where
-      go : (b : Bool) → ltb 0 (length ws) ≡ b → cond b (all 16 0 0) (shapesRead (shapes.Refused reason.Shapes 0) []) .answer ≡ shapes.Refused r i → ShapeRow ar ws r i
+      go : (b : Bool) → ltb 0 (length ws) ≡ b → cond b (all 16 0 0) (shapesRead (shapes.Refused reason.Shapes 0) []) .answer ≡ shapes.Refused r i → Row r i
       go true eb d = from-row 16 0 0 r i refl none-yet d
       go false eb d =
           let x : reason.Shapes ≡ r = cc in
           let y : 0 ≡ i = cc in
           let h = ltb-false 0 (length ws) eb in
-          rw (← x, ← y) (row-12-none (omega arith))
+          let here : first ≡ first + 2 * 0 = omega arith in
+          rw (← x, ← y, ← here) (row-12-none (omega arith))
 
   -- ---- to the tests
   past : (ts : List Term) (c n at : ℕ) (r : List ℕ) → AreShapes ar ts → drop at ws ≡ gather flatten ts ++ r
@@ -142,29 +153,40 @@ module _ (ar ws : List ℕ) where
       let z : 0 + length (gather flatten (s .shapes)) ≡ at = omega (arith, s .size) in
       ap (λ (x : ShapesRead). x .answer) (shapes-some ar blankWord ws (λ e. omega arith)) ∙ ap (λ x. all x 0 0 .answer) (sym k) ∙ p ∙ ap₂ (λ a b. all c a b .answer) y z
 
-  fault-row : (f : Fault) (i : ℕ) → ShapeFault ar ws f i → shapesOf ar blankWord ws .answer ≡ shapes.Refused (shapeReason f) i
+  fault-row : (at : ℕ) (f : Fault) (i : ℕ) → ShapeFault ar ws at f i → shapesOf ar blankWord ws .answer ≡ shapes.Refused (shapeReason f) i
   unfolding shapesFrom
-  fault-row f i x =
+  fault-row at f i x =
       let b = x .begins in
       let n = x .one-of-16 in
       let c = 15 - x .number in
-      to-there (x .at) (x .number) (suc c) (omega arith) (x .before) (omega arith)
-      ∙ rw (lt-ltb (x .at) (length ws) b, of-fault ar ws (shapeLimits blankWord (x .at)) (x .fault)) refl
+      to-there at (x .number) (suc c) (omega arith) (x .before) (omega arith)
+      ∙ rw (lt-ltb at (length ws) b, of-fault ar ws (shapeLimits blankWord at) (x .fault)) refl
 
-  pub row-shape : {r : Reason} {i : ℕ} → ShapeRow ar ws r i → shapesOf ar blankWord ws .answer ≡ shapes.Refused r i
+  -- a row is of a word, or of the section's end
+  pub record ShapesRefused (n p : ℕ) : Type 0 where
+    pub word : ℕ
+    pub place : p ≡ first + 2 * word
+    pub refused : RefusedAs shapes.Refused (shapesOf ar blankWord ws .answer) n word
+
+  at-word : (r : Reason) (i : ℕ) → shapesOf ar blankWord ws .answer ≡ shapes.Refused r i → ShapesRefused (numberOf r) (first + 2 * i)
+  at-word r i e = record { word = i; place = refl; refused = by-reason shapes.Refused r e }
+
+  pub row-shape : {n p : ℕ} → ShapeRow ar ws first end n p → ShapesRefused n p
   unfolding shapesFrom
-  row-shape (row-7 i x) = fault-row NoSymbol i x
-  row-shape (row-8 i x) = fault-row Ends i x
+  row-shape (row-7 at i x) = at-word reason.ShapeWord i (fault-row at NoSymbol i x)
+  row-shape (row-8 at x) = record { word = length ws; place = sym whole; refused = by-reason shapes.Refused reason.ShapeEnds (fault-row at Ends (length ws) x) }
   row-shape (row-9 i n few h s b) =
-      to-there i n (suc (15 - n)) (omega arith) s (omega arith) ∙ rw (lt-ltb i (length ws) h, lone i h b, le-leb blankWord (getD ws i 0) b) refl
+      at-word reason.LoneBlank i (to-there i n (suc (15 - n)) (omega arith) s (omega arith) ∙ rw (lt-ltb i (length ws) h, lone i h b, le-leb blankWord (getD ws i 0) b) refl)
     where
       lone : (i : ℕ) → i < length ws → blankWord ≤ getD ws i 0 → reading ar ws (shapeLimits blankWord i) shapeLevels i ≡ read.Whole (met (i + 1))
       lone i h b = read-back ar ws (shapeLimits blankWord i) (blank (getD ws i 0)) shapeLevels i (drop (i + 1) ws) b (omega arith) (omega arith) (from ws i h) .0
-  row-shape (row-10 i x) = fault-row Many i x
-  row-shape (row-11 i x) = fault-row Deep i x
-  row-shape (row-12-none e) = ap (λ (x : ShapesRead). x .answer) (shapes-none ar blankWord ws e)
-  row-shape (row-12-more i h s) = to-there i 16 0 refl s (omega arith) ∙ rw (lt-ltb i (length ws) h) refl
+  row-shape (row-10 at x) = at-word reason.ShapeNodes (at + 16) (fault-row at Many (at + 16) x)
+  row-shape (row-11 at i x) = at-word reason.ShapeDepth i (fault-row at Deep i x)
+  row-shape (row-12-none e) = record { word = 0; place = omega arith; refused = by-reason shapes.Refused reason.Shapes (ap (λ (x : ShapesRead). x .answer) (shapes-none ar blankWord ws e)) }
+  row-shape (row-12-more i h s) = at-word reason.Shapes i (to-there i 16 0 refl s (omega arith) ∙ rw (lt-ltb i (length ws) h) refl)
 
-  -- ---- where they give nothing
-  pub pass-shapes : (st : List ℕ) (s : Shaped ar ws st) → shapesOf ar blankWord ws ≡ shapesRead (shapes.Whole (0 + length (s .trees))) st
-  pass-shapes st s = ap (shapesOf ar blankWord) (s .words) ∙ shapes-found ar (s .trees) (s .each) (s .some-shape) (s .few-shapes) ∙ ap (shapesRead (shapes.Whole (0 + length (s .trees)))) (sym (s .begins))
+-- ---- where they give nothing
+pub pass-shapes : (ar ws st : List ℕ) (s : Shaped ar ws st) → shapesOf ar blankWord ws ≡ shapesRead (shapes.Whole (0 + length (s .trees))) st
+pass-shapes ar ws st s =
+    ap (shapesOf ar blankWord) (s .words) ∙ shapes-found ar (s .trees) (s .each) (s .some-shape) (s .few-shapes)
+    ∙ ap (shapesRead (shapes.Whole (0 + length (s .trees)))) (sym (s .begins))

@@ -24,13 +24,13 @@ use Rattle.readers.specs.BlockWords.{pairList, middle, outsAt, nextsAt, blockSt
 use Rattle.readers.proofs.LawsPairs.{pairList-at, pairs-list, pairs-none}
 use Rattle.readers.proofs.LawsParts.{block-start}
 use Rattle.queue.specs.Targets.{targets}
-use Rattle.walk.specs.Starting.{Walk}
-use Rattle.walk.specs.Starting.{WalkOutcome}
+use Rattle.walk.specs.Starting.{Walk, WalkOutcome}
 use Rattle.walk.specs.Stepping.{Finding, look, onward, roomy, moved, tried, stepped}
 use Rattle.walking.proofs.StepParts.{look-of, tried-of}
 use Rattle.promises.specs.StepFound.{ItemFound, StepFound}
 use Rattle.promises.specs.Demand1 as rows
-use Rattle.promises.specs.Demand1.{By, StepRow}
+use Rattle.promises.specs.Demand1.{StepRow, walkTold}
+use Rattle.promises.specs.Told.{By, Told}
 use Rattle.promises.proofs.ReaderRows.{view-good, good-view, block-of, of-block}
 use Rattle.promises.proofs.LeadRows.{lead-targets, targets-lead}
 
@@ -145,16 +145,16 @@ module _ (plan score spans : List ℕ) (i : ℕ) (w : Walk) where
             }
 
   -- ---- the rows
-  step-row : StepRow plan score spans i w (stepped plan score spans i w)
+  step-row : StepRow plan score spans i w (walkTold (stepped plan score spans i w))
   unfolding stepped
   step-row = go (decLt i (w .count .waiting)) (tried plan score spans i w) refl
     where
-      go : Dec (i < w .count .waiting) → (o : Option Walk) → tried plan score spans i w ≡ o → StepRow plan score spans i w (stepped plan score spans i w)
+      go : Dec (i < w .count .waiting) → (o : Option Walk) → tried plan score spans i w ≡ o → StepRow plan score spans i w (walkTold (stepped plan score spans i w))
       go (no h) o e = let k : w .count .waiting ≤ i = omega arith in rw (le-ltb i (w .count .waiting) k) (rows.step-32 k)
       go (yes h) none e = rw (lt-ltb i (w .count .waiting) h, e) (rows.step-34 h (λ v s. none-not (sym e ∙ found-tried h v s)))
       go (yes h) (some v) e = rw (lt-ltb i (w .count .waiting) h, e) (rows.takes h v (tried-found h v e))
 
-  step-only : (o : WalkOutcome) → StepRow plan score spans i w o → stepped plan score spans i w ≡ o
+  step-only : (o : Told Walk) → StepRow plan score spans i w o → walkTold (stepped plan score spans i w) ≡ o
   unfolding stepped
   step-only _ (rows.step-32 h) = rw (le-ltb i (w .count .waiting) h) refl
   step-only _ (rows.step-34 h n) = rw (lt-ltb i (w .count .waiting) h, nothing (tried plan score spans i w) refl) refl
@@ -164,5 +164,5 @@ module _ (plan score spans : List ℕ) (i : ℕ) (w : Walk) where
       nothing (some v) e = absurd (n v (tried-found h v e))
   step-only _ (rows.takes h v s) = rw (lt-ltb i (w .count .waiting) h, found-tried h v s) refl
 
-  pub by-step : By (StepRow plan score spans i w) (stepped plan score spans i w)
+  pub by-step : By (StepRow plan score spans i w) (walkTold (stepped plan score spans i w))
   by-step = (step-row, step-only)

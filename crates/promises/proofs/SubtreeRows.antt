@@ -11,7 +11,7 @@ use Rattle.kinds.proofs.Bools.{test}
 use Rattle.kinds.proofs.Members.{∈-left, in-drop}
 use Rattle.kinds.specs.Members.{_∈_, Below}
 use Rattle.kinds.proofs.Places.{on-in}
-use Rattle.term.specs.Terms.{Term, flatten}
+use Rattle.term.specs.Terms.{Term, blank, node, flatten}
 use Rattle.term.proofs.Sizes.{length-flatten, span-pos}
 use Rattle.contents.specs.Tables.{shapeLimits, scoreLimits}
 use Rattle.kinds.specs.Limits.{blankWord, shapeLevels, scoreLevels}
@@ -23,9 +23,10 @@ use Rattle.checks.proofs.LawsAgain.{symbols-good-is}
 use Rattle.folio.proofs.ScoreWhole.{whole-of}
 use Rattle.folio.proofs.Subtrees.{Piece, piece-term, piece-or-none, subtree-shape, subtree-score}
 use Rattle.folio.proofs.Symbols.{symbols-is}
-use Rattle.promises.specs.Found.{FoundRow, InShape, Standing, in-shapes, in-score}
-use Rattle.promises.specs.Demand1.{By}
+use Rattle.promises.specs.Found.{FoundRow, partSays, InShape, Standing, in-shapes, in-score}
+use Rattle.promises.specs.Told.{By}
 use Rattle.promises.proofs.FoundRows.{by-found}
+use Rattle.kinds.specs.Reasons.{gives}
 
 module _ (ar shapes score : List ℕ) (small : Below 65536 score) where
   standing-is : (w : Asked) (t : Term) → Standing ar shapes score w t → subtreeAt w ar shapes score ≡ flatten t
@@ -75,5 +76,10 @@ module _ (ar shapes score : List ℕ) (small : Below 65536 score) where
   either (asked.Shapes at) (inl e) = shape-either (symbols-is ar (symbols-good-is ar e)) at
   either (asked.Score x) (inl e) = score-either (symbols-is ar (symbols-good-is ar e)) x
 
-  pub by-subtree : (w : Asked) → By (FoundRow (Standing ar shapes score w) [] flatten) (subtreeAt w ar shapes score)
-  by-subtree w = by-found (Standing ar shapes score w) [] flatten (subtreeAt w ar shapes score) (λ t e. omega (arith, ap length e, length-flatten t, span-pos t)) (standing-is w) (either w (test (symbolsGood ar)))
+  -- the words of a term are no empty part
+  words-say : (t : Term) → partSays (flatten t) ≡ gives (flatten t)
+  words-say (blank w) = refl
+  words-say (node f ts) = refl
+
+  pub by-subtree : (w : Asked) → By (FoundRow (Standing ar shapes score w) flatten) (partSays (subtreeAt w ar shapes score))
+  by-subtree w = by-found (Standing ar shapes score w) flatten partSays [] flatten (subtreeAt w ar shapes score) refl words-say (standing-is w) (either w (test (symbolsGood ar)))

@@ -21,6 +21,8 @@ use Rattle.sections.specs.declared.Sections.the-variants.{At, Refused}
 use Rattle.sections.specs.declared.Verdict.{Verdict}
 use Rattle.sections.specs.declared.Verdict.the-variants.{Bad}
 use Rattle.sections.proofs.LawsSections.{never, trailer-short, trailer-long, trailer-first, trailer-second, trailer-to, distances-at, symbols-none, symbols-many, symbols-each}
+use Rattle.kinds.specs.Reasons.{numberOf}
+use Rattle.promises.proofs.ByNumber.{RefusedAs, by-reason}
 use Rattle.promises.specs.Refusals.{Sized, Signed, trailerAt, toSymbols, toShapes, toScore, TrailerRow, row-1, row-2, row-3, row-4, Framed, SymbolRow, row-5, row-6}
 
 on-test {κ} : {C : Type κ} (t : Bool) (x y z : Sections) → unless t x y ≡ z → (t ≡ false → x ≡ z → C) → (t ≡ true → y ≡ z → C) → C
@@ -67,7 +69,7 @@ module _ (e a b c : ℕ) where
 
 -- ---- 1 to 4
 module _ (file : List ℕ) where
-  pub trailer-row : (r : Reason) (p : ℕ) → trailerOf file ≡ Refused r p → TrailerRow file r p
+  pub trailer-row : (r : Reason) (p : ℕ) → trailerOf file ≡ Refused r p → TrailerRow file (numberOf r) p
   unfolding trailerOf
   trailer-row r p h =
       on-test (leb 8 (length file)) _ _ _ h (λ t x. let y : Short ≡ r = cc in let z : length file ≡ p = cc in rw (← y, ← z) (row-1 (leb-false 8 (length file) t))) λ t₁ h₁.
@@ -109,11 +111,11 @@ module _ (file : List ℕ) where
       go (no h) = trailer-first file (s .0) (s .1) h
       go (yes h) = trailer-second file (s .0) (s .1) h (λ k. n (h, k))
 
-  pub row-trailer : {r : Reason} {p : ℕ} → TrailerRow file r p → trailerOf file ≡ Refused r p
-  row-trailer (row-1 h) = trailer-short file h
-  row-trailer (row-2 h) = trailer-long file (omega arith) h
-  row-trailer (row-3 s n) = not-signed s n
-  row-trailer (row-4 s t n) = to-distances s t ∙ distances-not (trailerAt file) (toSymbols file) (toShapes file) (toScore file) n
+  pub row-trailer : {n p : ℕ} → TrailerRow file n p → RefusedAs Refused (trailerOf file) n p
+  row-trailer (row-1 h) = by-reason Refused Short (trailer-short file h)
+  row-trailer (row-2 h) = by-reason Refused Long (trailer-long file (omega arith) h)
+  row-trailer (row-3 s n) = by-reason Refused EndBytes (not-signed s n)
+  row-trailer (row-4 s t n) = by-reason Refused Trailer (to-distances s t ∙ distances-not (trailerAt file) (toSymbols file) (toShapes file) (toScore file) n)
 
 -- ---- 5, 6
 on-symbols {κ} : {C : Type κ} (t : Bool) (x y z : Verdict) → unless t x y ≡ z → (t ≡ false → x ≡ z → C) → (t ≡ true → y ≡ z → C) → C
@@ -152,7 +154,7 @@ at-over (x ∷ xs) k (suc p) h o f =
     rw (le-leb x 4 (f 0 (omega arith))) (at-over xs (k + 1) p (omega arith) o (λ i l. f (suc i) (omega arith)) ∙ ap (Bad Children) z)
 
 module _ (ar : List ℕ) where
-  pub symbol-row : (r : Reason) (p : ℕ) → symbolsOf ar ≡ Bad r p → SymbolRow ar r p
+  pub symbol-row : (r : Reason) (p : ℕ) → symbolsOf ar ≡ Bad r p → SymbolRow ar (numberOf r) p
   unfolding symbolsOf
   symbol-row r p e =
       on-symbols (leb 1 (length ar)) _ _ _ e (λ t d. let y : Symbols ≡ r = cc in let z : 0 ≡ p = cc in rw (← y, ← z) (row-5 (λ n. let f = leb-false 1 (length ar) t in let g = n .0 in omega arith))) λ t₁ e₁.
@@ -162,11 +164,11 @@ module _ (ar : List ℕ) where
       let z : x .index ≡ p = omega (arith, x .place) in
       rw (← (o .0), ← z) (row-6 (leb-true 1 (length ar) t₁) (leb-true (length ar) 32 t₂) (x .index) (x .inside) (x .over) (x .first))
 
-  pub row-symbol : {r : Reason} {p : ℕ} → SymbolRow ar r p → symbolsOf ar ≡ Bad r p
-  row-symbol (row-5 n) = go (decLt (length ar) 1) (decLt 32 (length ar))
+  pub row-symbol : {n p : ℕ} → SymbolRow ar n p → RefusedAs Bad (symbolsOf ar) n p
+  row-symbol (row-5 n) = by-reason Bad Symbols (go (decLt (length ar) 1) (decLt 32 (length ar)))
     where
       go : Dec (length ar < 1) → Dec (32 < length ar) → symbolsOf ar ≡ Bad Symbols 0
       go (yes h) d = symbols-none ar h
       go (no h) (yes k) = symbols-many ar (omega arith) k
       go (no h) (no k) = absurd (n (omega arith))
-  row-symbol (row-6 a b p h o f) = let z : 0 + p ≡ p = omega arith in symbols-each ar a b ∙ at-over ar 0 p h o f ∙ ap (Bad Children) z
+  row-symbol (row-6 a b p h o f) = let z : 0 + p ≡ p = omega arith in by-reason Bad Children (symbols-each ar a b ∙ at-over ar 0 p h o f ∙ ap (Bad Children) z)

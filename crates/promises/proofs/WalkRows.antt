@@ -1,5 +1,5 @@
 -- Rows 30 and 31: the outcomes of starting and counting are those that they give.
-use mathlib.Core.Path.{_≡_, refl, sym, _∙_}
+use mathlib.Core.Path.{_≡_, refl, sym, _∙_, ap}
 use mathlib.Core.Bool.{true, false, _&&_}
 use mathlib.Core.Logic.{_⊎_, inl, inr}
 use mathlib.Core.List.{List}
@@ -15,11 +15,13 @@ use Rattle.kinds.specs.Members.{Below}
 use Rattle.checks.specs.Again.{scoreGood}
 use Rattle.folio.proofs.GoodTables.{score-good-scored, scored-good}
 use Rattle.walk.specs.Starting.{Walk, goOn, begun, roomFor, started, WalkOutcome, refuseWalk}
-use Rattle.counting.specs.Counting.{counted}
+use Rattle.counting.specs.Counting.{counted, countedSays}
 use Rattle.counting.specs.declared.Counted.{Counted}
 use Rattle.counting.specs.declared.Counted.the-variants as count
 use Rattle.promises.specs.Demand1 as rows
-use Rattle.promises.specs.Demand1.{By, Good, Roomy, StartRow, CountRow}
+use Rattle.promises.specs.Demand1.{Good, Roomy, StartRow, CountRow, walkTold}
+use Rattle.promises.specs.Told.{By, Told}
+use Rattle.kinds.specs.Reasons.{Says}
 
 module _ (ar score spans : List ℕ) (small : Below 65536 score) where
   score-or-not : (scoreGood ar score spans ≡ true) ⊎ (scoreGood ar score spans ≡ false) → Good ar score spans ⊎ (Good ar score spans → ⊥)
@@ -65,20 +67,20 @@ module _ (ar score spans : List ℕ) (small : Below 65536 score) where
     unfolding started
     started-on e d = rw (e, d) refl
 
-    start-row : StartRow ar score spans w (started ar score spans w)
+    start-row : StartRow ar score spans w (walkTold (started ar score spans w))
     start-row = go (score-or-not (test (scoreGood ar score spans))) (test (roomFor (length score) w))
       where
-        go : Good ar score spans ⊎ (Good ar score spans → ⊥) → (roomFor (length score) w ≡ true) ⊎ (roomFor (length score) w ≡ false) → StartRow ar score spans w (started ar score spans w)
+        go : Good ar score spans ⊎ (Good ar score spans → ⊥) → (roomFor (length score) w ≡ true) ⊎ (roomFor (length score) w ≡ false) → StartRow ar score spans w (walkTold (started ar score spans w))
         go (inr n) d = rw (started-bad (score-bad n)) (rows.start-31 n)
         go (inl g) (inr d) = rw (started-short (score-fine g) d) (rows.start-30 g (λ r. false-true (sym d ∙ room-is r)))
         go (inl g) (inl d) = rw (started-on (score-fine g) d) (rows.starts g (is-room d))
 
-    start-only : (o : WalkOutcome) → StartRow ar score spans w o → started ar score spans w ≡ o
-    start-only _ (rows.start-31 n) = started-bad (score-bad n)
-    start-only _ (rows.start-30 g n) = started-short (score-fine g) (no-room n)
-    start-only _ (rows.starts g r) = started-on (score-fine g) (room-is r)
+    start-only : (o : Told Walk) → StartRow ar score spans w o → walkTold (started ar score spans w) ≡ o
+    start-only _ (rows.start-31 n) = ap walkTold (started-bad (score-bad n))
+    start-only _ (rows.start-30 g n) = ap walkTold (started-short (score-fine g) (no-room n))
+    start-only _ (rows.starts g r) = ap walkTold (started-on (score-fine g) (room-is r))
 
-    pub by-start : By (StartRow ar score spans w) (started ar score spans w)
+    pub by-start : By (StartRow ar score spans w) (walkTold (started ar score spans w))
     by-start = (start-row, start-only)
 
   module _ (f : List ℕ → ℕ) (marks : List ℕ) where
@@ -94,18 +96,18 @@ module _ (ar score spans : List ℕ) (small : Below 65536 score) where
     unfolding counted
     counted-on e h = rw (e, le-leb (length score) (length marks) h) refl
 
-    count-row : CountRow ar score spans f marks (counted f ar score spans marks)
+    count-row : CountRow ar score spans f marks (countedSays (counted f ar score spans marks))
     count-row = go (score-or-not (test (scoreGood ar score spans))) (decLt (length marks) (length score))
       where
-        go : Good ar score spans ⊎ (Good ar score spans → ⊥) → Dec (length marks < length score) → CountRow ar score spans f marks (counted f ar score spans marks)
+        go : Good ar score spans ⊎ (Good ar score spans → ⊥) → Dec (length marks < length score) → CountRow ar score spans f marks (countedSays (counted f ar score spans marks))
         go (inr n) d = rw (counted-bad (score-bad n)) (rows.count-31 n)
         go (inl g) (yes h) = rw (counted-short (score-fine g) h) (rows.count-30 g h)
         go (inl g) (no h) = let k : length score ≤ length marks = omega arith in rw (counted-on (score-fine g) k) (rows.counts g k)
 
-    count-only : (o : Counted) → CountRow ar score spans f marks o → counted f ar score spans marks ≡ o
-    count-only _ (rows.count-31 n) = counted-bad (score-bad n)
-    count-only _ (rows.count-30 g h) = counted-short (score-fine g) h
-    count-only _ (rows.counts g h) = counted-on (score-fine g) h
+    count-only : (o : Says) → CountRow ar score spans f marks o → countedSays (counted f ar score spans marks) ≡ o
+    count-only _ (rows.count-31 n) = ap countedSays (counted-bad (score-bad n))
+    count-only _ (rows.count-30 g h) = ap countedSays (counted-short (score-fine g) h)
+    count-only _ (rows.counts g h) = ap countedSays (counted-on (score-fine g) h)
 
-    pub by-count : By (CountRow ar score spans f marks) (counted f ar score spans marks)
+    pub by-count : By (CountRow ar score spans f marks) (countedSays (counted f ar score spans marks))
     by-count = (count-row, count-only)

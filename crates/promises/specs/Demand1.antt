@@ -7,20 +7,20 @@
 --   CountRow    31, 30; or a number, for matches and for clashes
 --   LineRow     30 for a buffer under 1,400 bytes (docs/DECISIONS.md); or the line at its start, the bytes behind it as they were
 --   FoundRow    34; or what is found: in `Found`, for subtree, the plan readers and a position's child
---   By          an outcome has a row, and every row that applies gives this outcome
+--   openTold walkTold   what opening, starting and stepping say and leave
 use mathlib.Core.Path.{_≡_}
-use mathlib.Core.List.{List, [], _++_}
+use mathlib.Core.List.{List, [], _∷_, _++_}
 use Prim.Native.Nat.{ℕ, _*_, _<_, _≤_}
 use lib.ListN.{length, getD, take, drop}
 use lib.Seq.{sets}
 use Rattle.kinds.specs.Lists.{gather}
-use Rattle.kinds.specs.Kinds.{position, childOf}
+use Rattle.kinds.specs.Reasons.{Says, gives, refusal}
+use Rattle.kinds.specs.Kinds.{childOf, childSays}
 use Rattle.kinds.specs.declared.Position.{Position}
-use Rattle.kinds.specs.declared.Child.the-variants as child
 use Rattle.kinds.specs.declared.Reason.{Reason}
-use Rattle.kinds.specs.declared.Reason.the-variants.{BadShapes, ShortScratch, LongPlan, ShortBuffers, BadScore, NoSuchItem, OutOfRange}
+use Rattle.kinds.specs.declared.Reason.the-variants.{BadShapes, ShortScratch, LongPlan, ShortBuffers}
 use Rattle.term.specs.Terms.{Term, span, flatten}
-use Rattle.folio.specs.Opening.{Lent, Room, refuseOpening, opened, OpenOutcome}
+use Rattle.folio.specs.Opening.{Lent, Room, OpenOutcome, opened, openedSays}
 use Rattle.folio.specs.Folio.{Meaning, GoodSymbols, Shaped, GoodScore, shapeTerms, answered}
 use Rattle.checks.specs.Again.{subtreeAt}
 use Rattle.checks.specs.declared.Asked.{Asked}
@@ -28,36 +28,36 @@ use Rattle.sections.specs.declared.Places.{Places}
 use Rattle.automaton.specs.PlanWords.{halted, too-long, plan-of}
 use Rattle.plan.specs.Building.{scratchWords, cleared, size, stateNumber, planOf, buildOf, BuildOutcome, refuseBuild}
 use Rattle.plan.specs.declared.Built.the-variants as built
-use Rattle.walk.specs.Starting.{Walk, goOn, begun, started, WalkOutcome, refuseWalk}
+use Rattle.walk.specs.Starting.{Walk, WalkOutcome, begun, started, walkedSays}
 use Rattle.walk.specs.Stepping.{stepped}
-use Rattle.counting.specs.Counting.{counted, total, matchAt}
-use Rattle.counting.specs.Clashes.{clashNumber, clash}
-use Rattle.counting.specs.declared.Counted.{Counted}
-use Rattle.counting.specs.declared.Counted.the-variants as count
+use Rattle.counting.specs.Counting.{total, matchAt, matchesOf, countedSays}
+use Rattle.counting.specs.Clashes.{clashNumber, clash, clashesOf}
 use Rattle.readers.specs.BlockWords.{middle}
-use Rattle.readers.specs.PlanParts.{labelOf, lengthsOf, announcementOf, successorOf}
-use Rattle.readers.specs.declared.Label.the-variants as label
-use Rattle.readers.specs.declared.Block.the-variants as block
-use Rattle.readers.specs.declared.Announcement.the-variants as announcement
-use Rattle.readers.specs.declared.Successor.the-variants as successor
+use Rattle.readers.specs.PlanParts.{labelOf, labelSays, lengthsOf, blockSays, announcementOf, announcementSays, successorOf, successorSays}
+use Rattle.following.specs.Following.{target, reached, reachedSays}
 use Rattle.report.specs.Text.{line, firstLine, refusalText}
 use Rattle.report.specs.Lines.{outOf, lineOut, firstOut, refusalOut, LineOutcome}
 use Rattle.kinds.specs.Limits.{lineRoom}
 use Rattle.report.specs.declared.Written.the-variants as written
-use Rattle.promises.specs.Found.{FoundRow, Standing, LabelFound, BlockFound, AnnouncementFound, SuccessorFound, ChildFound}
+use Rattle.promises.specs.Found.{FoundRow, partSays, pairValues, Standing, LabelFound, BlockFound, AnnouncementFound, SuccessorFound, ChildFound, Reaches}
+use Rattle.promises.specs.Told.{Told, told, By}
 use Rattle.promises.specs.StepFound.{StepFound}
 use Rattle.promises.specs.Refusals.{Given, Framed}
 use Rattle.kinds.specs.Members.{Below}
-use Rattle.sections.specs.Sections.{symbolsAt, shapesAt, scoreAt}
+use Rattle.sections.specs.Sections.{symbolsAt}
 
-abbrev pub By : {A : Type 0} → (A → Type 0) → A → Type 0
-By {A} Row outcome = Row outcome × ((o : A) → Row o → outcome ≡ o)
+abbrev pub openTold : OpenOutcome → Told Lent
+openTold o = told (openedSays (o .answer)) (o .tables)
+
+abbrev pub walkTold : WalkOutcome → Told Walk
+walkTold o = told (walkedSays (o .answer)) (o .walk)
 
 -- ---- opening
-pub data OpenRow (file : List ℕ) (l : Lent) : OpenOutcome → Type 0 where
-  refused : (r : Reason) (p : ℕ) → Given file l r p → OpenRow file l (refuseOpening r p l)
+-- it answers the counts of symbols, shapes, shape words and nodes
+pub data OpenRow (file : List ℕ) (l : Lent) : Told Lent → Type 0 where
+  refused : (n p : ℕ) → Given file l n p → OpenRow file l (told (refusal n p) l)
   opens : (at : Places) → Framed file at → (m : Meaning file at) → Room l (length (gather flatten (m .shapes))) (length (m .shapes)) (span (m .score))
-      → OpenRow file l (answered (symbolsAt file at) (m .shapes) (m .score) l)
+      → OpenRow file l (told (gives (length (symbolsAt file at) ∷ length (m .shapes) ∷ length (gather flatten (m .shapes)) ∷ span (m .score) ∷ [])) (answered (symbolsAt file at) (m .shapes) (m .score) l .tables))
 
 -- ---- building
 module _ (ar ws st plan scratch : List ℕ) where
@@ -84,22 +84,22 @@ module _ (ar score spans : List ℕ) where
   abbrev pub Roomy : Walk → Type 0
   Roomy w = (2 * length score ≤ length (w .items)) × (length score ≤ length (w .log)) × (length score ≤ length (w .marks))
 
-  pub data StartRow (w : Walk) : WalkOutcome → Type 0 where
-    start-31 : (Good → ⊥) → StartRow w (refuseWalk BadScore w)
-    start-30 : Good → (Roomy w → ⊥) → StartRow w (refuseWalk ShortBuffers w)
-    starts : Good → Roomy w → StartRow w (goOn (begun (length score) w))
+  pub data StartRow (w : Walk) : Told Walk → Type 0 where
+    start-31 : (Good → ⊥) → StartRow w (told (refusal 31 0) w)
+    start-30 : Good → (Roomy w → ⊥) → StartRow w (told (refusal 30 0) w)
+    starts : Good → Roomy w → StartRow w (told (gives (1 ∷ 0 ∷ [])) (begun (length score) w))
 
   -- ---- counting what f counts in the first n marks
-  pub data CountRow (f : List ℕ → ℕ) (marks : List ℕ) : Counted → Type 0 where
-    count-31 : (Good → ⊥) → CountRow f marks (count.Refused BadScore)
-    count-30 : Good → length marks < length score → CountRow f marks (count.Refused ShortBuffers)
-    counts : Good → length score ≤ length marks → CountRow f marks (count.Number (f (take (length score) marks)))
+  pub data CountRow (f : List ℕ → ℕ) (marks : List ℕ) : Says → Type 0 where
+    count-31 : (Good → ⊥) → CountRow f marks (refusal 31 0)
+    count-30 : Good → length marks < length score → CountRow f marks (refusal 30 0)
+    counts : Good → length score ≤ length marks → CountRow f marks (gives (f (take (length score) marks) ∷ []))
 
 -- ---- stepping
-pub data StepRow (plan score spans : List ℕ) (i : ℕ) (w : Walk) : WalkOutcome → Type 0 where
-  step-32 : w .count .waiting ≤ i → StepRow plan score spans i w (refuseWalk NoSuchItem w)
-  step-34 : i < w .count .waiting → ((v : Walk) → StepFound plan score spans i w v → ⊥) → StepRow plan score spans i w (refuseWalk OutOfRange w)
-  takes : i < w .count .waiting → (v : Walk) → StepFound plan score spans i w v → StepRow plan score spans i w (goOn v)
+pub data StepRow (plan score spans : List ℕ) (i : ℕ) (w : Walk) : Told Walk → Type 0 where
+  step-32 : w .count .waiting ≤ i → StepRow plan score spans i w (told (refusal 32 0) w)
+  step-34 : i < w .count .waiting → ((v : Walk) → StepFound plan score spans i w v → ⊥) → StepRow plan score spans i w (told (refusal 34 0) w)
+  takes : i < w .count .waiting → (v : Walk) → StepFound plan score spans i w v → StepRow plan score spans i w (told (gives (v .count .waiting ∷ v .count .logged ∷ [])) v)
 
 -- ---- a line of the report
 pub data LineRow (text buffer : List ℕ) : LineOutcome → Type 0 where
@@ -107,21 +107,20 @@ pub data LineRow (text buffer : List ℕ) : LineOutcome → Type 0 where
   writes : lineRoom ≤ length buffer → LineRow text buffer (outOf (written.Bytes (length text)) (text ++ drop (length text) buffer))
 
 pub record Demand1 : Type 0 where
-  pub opening : (file : List ℕ) (l : Lent) → Below 256 file → By (OpenRow file l) (opened file l)
+  pub opening : (file : List ℕ) (l : Lent) → Below 256 file → By (OpenRow file l) (openTold (opened file l))
   pub building : (ar ws st plan scratch : List ℕ) → By (BuildRow ar ws st plan scratch) (buildOf ar ws st plan scratch)
-  pub starting : (ar score spans : List ℕ) (w : Walk) → Below 65536 score → By (StartRow ar score spans w) (started ar score spans w)
-  pub stepping : (plan score spans : List ℕ) (i : ℕ) (w : Walk) → By (StepRow plan score spans i w) (stepped plan score spans i w)
-  pub matches : (ar score spans marks : List ℕ) → Below 65536 score → By (CountRow ar score spans total marks) (counted total ar score spans marks)
-  pub clashes : (ar score spans marks : List ℕ) → Below 65536 score → By (CountRow ar score spans (clashNumber (clash spans)) marks) (counted (clashNumber (clash spans)) ar score spans marks)
-  pub subtree : (w : Asked) (ar shapes score : List ℕ) → Below 65536 score → By (FoundRow (Standing ar shapes score w) [] flatten) (subtreeAt w ar shapes score)
-  pub label : (plan : List ℕ) (m k s : ℕ) → By (FoundRow (LabelFound plan m k s) (label.Refused OutOfRange) (λ c. label.At (position c))) (labelOf plan m k s)
+  pub starting : (ar score spans : List ℕ) (w : Walk) → Below 65536 score → By (StartRow ar score spans w) (walkTold (started ar score spans w))
+  pub stepping : (plan score spans : List ℕ) (i : ℕ) (w : Walk) → By (StepRow plan score spans i w) (walkTold (stepped plan score spans i w))
+  pub matches : (ar score spans marks : List ℕ) → Below 65536 score → By (CountRow ar score spans total marks) (countedSays (matchesOf ar score spans marks))
+  pub clashes : (ar score spans marks : List ℕ) → Below 65536 score → By (CountRow ar score spans (clashNumber (clash spans)) marks) (countedSays (clashesOf ar score spans marks))
+  pub subtree : (w : Asked) (ar shapes score : List ℕ) → Below 65536 score → By (FoundRow (Standing ar shapes score w) flatten) (partSays (subtreeAt w ar shapes score))
+  pub label : (plan : List ℕ) (m k s : ℕ) → By (FoundRow (LabelFound plan m k s) (λ c. c ∷ [])) (labelSays (labelOf plan m k s))
   pub lengths : (plan : List ℕ) (m k s f : ℕ)
-      → By (FoundRow (BlockFound plan m k s f) (block.Refused OutOfRange) (λ b. block.Of (record { announcements = getD plan b 0; successors = getD plan (middle plan b) 0 }))) (lengthsOf plan m k s f)
-  pub announcement : (plan : List ℕ) (m k s f i : ℕ)
-      → By (FoundRow (AnnouncementFound plan m k s f i) (announcement.Refused OutOfRange) (λ x. announcement.Of (record { 0 = x .0 }) (position (x .1)))) (announcementOf plan m k s f i)
-  pub successor : (plan : List ℕ) (m k s f i : ℕ)
-      → By (FoundRow (SuccessorFound plan m k s f i) (successor.Refused OutOfRange) (λ x. successor.Of (record { 0 = x .0 }) (position (x .1)))) (successorOf plan m k s f i)
+      → By (FoundRow (BlockFound plan m k s f) (λ b. getD plan b 0 ∷ getD plan (middle plan b) 0 ∷ [])) (blockSays (lengthsOf plan m k s f))
+  pub announcement : (plan : List ℕ) (m k s f i : ℕ) → By (FoundRow (AnnouncementFound plan m k s f i) pairValues) (announcementSays (announcementOf plan m k s f i))
+  pub successor : (plan : List ℕ) (m k s f i : ℕ) → By (FoundRow (SuccessorFound plan m k s f i) pairValues) (successorSays (successorOf plan m k s f i))
   pub first-line : (n s m c : ℕ) (buffer : List ℕ) → By (LineRow (firstLine n s m c) buffer) (firstOut n s m c buffer)
   pub match-line : (spans : List ℕ) (x j : ℕ) (buffer : List ℕ) → By (LineRow (line spans (matchAt x j)) buffer) (lineOut spans x j buffer)
   pub refusal-line : (r : Reason) (p : ℕ) (buffer : List ℕ) → By (LineRow (refusalText r p) buffer) (refusalOut r p buffer)
-  pub child-of : (p : Position) (i : ℕ) → By (FoundRow (ChildFound p i) child.Beyond (λ c. child.At (position c))) (childOf p i)
+  pub child-of : (p : Position) (i : ℕ) → By (FoundRow (ChildFound p i) (λ c. c ∷ [])) (childSays (childOf p i))
+  pub following : (spans : List ℕ) (n from by : ℕ) → By (FoundRow (Reaches spans n from by) (λ x. x ∷ [])) (reachedSays (reached (target n spans from by)))

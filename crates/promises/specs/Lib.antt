@@ -1,6 +1,7 @@
 -- What is promised.
 pub mod Computing
 pub mod Sample
+pub mod Told
 pub mod Refusals
 pub mod Found
 pub mod StepFound

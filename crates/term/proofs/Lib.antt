@@ -9,3 +9,4 @@ pub mod Sizes
 pub mod Numbers
 pub mod Subterms
 pub mod MatchTest
+pub mod FaultPlaces
