@@ -18,5 +18,6 @@ pub mod Demand1
 pub mod Demand2
 pub mod Demand3
 pub mod SampleFile
+pub mod Calls
 pub mod Determined
 pub mod ChildRows
