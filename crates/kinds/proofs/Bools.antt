@@ -1,9 +1,8 @@
 -- Tests: one that passes is `b ≡ true`.
 --   and-l and-r both and-false and-true       the parts of a test of two that must both pass
 --   or-l or-r or-case on-or neither or-first  of two of which one must
---   test bool-ext not-true not-of of-not of-not-false   one or the other; equal tests; what is not true is false; denied tests
+--   test bool-ext not-true of-not of-not-false   one or the other; equal tests; what is not true is false; denied tests
 --   false-true                                both at once proves anything
---   T→is is→T                                 the library's truth of a test and ours
 --   eqb-is is-eqb ltb-is is-ltb leb-is is-leb, ltb-not leb-not   what a test of two numbers says
 --   Order order, ltb-irrefl ltb-suc ltb-shift eqb-shift   less, equal or more
 --   half-leb key-order                        with half of a number; of two numbers in one
@@ -59,14 +58,6 @@ pub or-first : (a b : Bool) → (a || b) ≡ false → a ≡ false
 or-first false b e = refl
 or-first true b e = e
 
-pub T→is : {b : Bool} → T b → b ≡ true
-T→is {b = true} h = refl
-T→is {b = false} h = absurd h
-
-pub is→T : {b : Bool} → b ≡ true → T b
-is→T {b = true} h = tt
-is→T {b = false} h = absurd (false≢true h)
-
 pub false-true {κ} : {C : Type κ} → false ≡ true → C
 false-true e = absurd (false≢true e)
 
@@ -82,9 +73,6 @@ bool-ext false false f g = refl
 pub not-true : (b : Bool) → (b ≡ true → ⊥) → b ≡ false
 not-true true h = absurd (h refl)
 not-true false h = refl
-
-pub not-of : {b : Bool} → b ≡ false → not b ≡ true
-not-of e = ap not e
 
 pub of-not : (b : Bool) → not b ≡ true → b ≡ false
 of-not true e = absurd (false≢true e)

@@ -1,10 +1,10 @@
 -- Codes of positions.
 --   codeFrom-append codeFrom-is code-join code-snoc code-le five-pos   the code of a position put after another
---   Proper proper-nil proper-cons proper-head proper-tail proper-append proper-left proper-right   child numbers are 1 to 4
+--   Proper proper-nil proper-cons proper-head proper-tail proper-append proper-right   child numbers are 1 to 4
 --   Small small-code small-prefix small-rest small-snoc   and at most six of them: the positions in use
---   decode-nil decode-last decode-more decode-child decode-fewer decode-short decode-digits   the digits of a code
+--   decode-nil decode-last decode-more decode-fewer decode-short decode-digits   the digits of a code
 --   decode-of decode-proper decode-code code-of code-decode code-same   back and forth
---   code-good good-small                             the codes in use
+--   code-good                             the codes in use
 --   pad-nil pad-code pad-lt before-pad pad-before    document order by padded codes
 use mathlib.Core.Path.{_≡_, refl, ap, ap₂, sym, _∙_}
 use mathlib.Core.List.{[], _∷_, _++_, append-assoc, append-nil}
@@ -75,9 +75,6 @@ proper-tail h d m = h d (there m)
 pub proper-append : (p q : Pos) → Proper p → Proper q → Proper (p ++ q)
 proper-append p q a b d m = ⊎-elim (a d) (b d) (∈-append p m)
 
-pub proper-left : (p q : Pos) → Proper (p ++ q) → Proper p
-proper-left p q h d m = h d (∈-left q m)
-
 pub proper-right : (p q : Pos) → Proper (p ++ q) → Proper q
 proper-right p q h d m = h d (∈-right p m)
 
@@ -135,12 +132,6 @@ decode-fewer (suc k) (suc c) h =
 
 pub decode-more : (c : ℕ) → 0 < c → c < 78125 → decode c ≡ decode (c / 5) ++ (c % 5 ∷ [])
 decode-more c h l = decode-last 6 c h ∙ ap (λ p. p ++ (c % 5 ∷ [])) (sym (decode-fewer 6 (c / 5) (omega arith)))
-
-pub decode-child : (c i : ℕ) → 0 < 5 * c + i → i ≤ 4 → c < 15625 → decode (5 * c + i) ≡ decode c ++ (i ∷ [])
-decode-child c i h l u =
-    let d : (5 * c + i) / 5 ≡ c = omega arith in
-    let m : (5 * c + i) % 5 ≡ i = omega arith in
-    decode-more (5 * c + i) h (omega arith) ∙ ap₂ (λ x y. decode x ++ (y ∷ [])) d m
 
 pub decode-short : (k c : ℕ) → length (decodeTo k c) ≤ k
 unfolding decodeTo
@@ -203,15 +194,6 @@ code-same p q hp hq lp lq = go (same p q) refl
 -- ---- the codes in use
 pub code-good : (p : Pos) → Small p → codeGood (code p) ≡ true
 code-good p s = both (is-leb (code p) 15624 (small-code p s)) (rw (decode-code p s) (all-of (λ d. ltb 0 d) p (λ d m. is-ltb 0 d ((s .digits d m) .0))))
-
-pub good-small : (c : ℕ) → codeGood c ≡ true → Small (decode c)
-good-small c e =
-    let l = leb-is c 15624 (and-l _ e) in
-    let six : decode c ≡ decodeTo 6 c = decode-fewer 6 c (omega arith) in
-    record {
-      short = rw six (decode-short 6 c);
-      digits = λ d m. (ltb-is 0 d (all-at (λ d. ltb 0 d) (and-r (leb c 15624) e) m), decode-digits 7 c d m);
-    }
 
 -- ---- document order by padded codes
 pub pad-nil : (k : ℕ) → padTo k [] ≡ 0

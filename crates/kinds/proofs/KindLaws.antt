@@ -1,6 +1,5 @@
 -- The position kind, case by case.
---   child-none child-many child-far child-at      a position followed by a child number, by codes
---   child-small child-deep                        and by positions
+--   child-bad child-none child-many child-far child-at   a position followed by a child number, by codes
 --   noZero good-far good-near, zero-next zero-stop zero-end   is a code in use: no 0 among its digits, from the last one on
 --   digits-next digits-end                        how many digits, from the last one on
 --   padded-start padded-next padded-end padded-room   a code, with zeros put after it one by one
@@ -26,38 +25,21 @@ use Rattle.kinds.proofs.ListLaws.{all-append}
 use Rattle.kinds.proofs.Codes.{five-pos, code-snoc, codeFrom-is, Small, small-code, proper-head, decode-nil, decode-more, decode-short, decode-digits, code-decode, pad-code, pad-lt, before-pad}
 
 module _ (p : Position) (i : ℕ) where
-  pub child-none : i < 1 → childOf p i ≡ Beyond
-  child-none h = rw (lt-leb 1 i h)
+  pub child-bad : codeGood (p .0) ≡ false → childOf p i ≡ Beyond
+  child-bad e = rw e
 
-  pub child-many : 4 < i → childOf p i ≡ Beyond
-  child-many h = rw (le-leb 1 i (omega arith), lt-leb i 4 h)
+  module _ (good : codeGood (p .0) ≡ true) where
+    pub child-none : i < 1 → childOf p i ≡ Beyond
+    child-none h = rw (good, lt-leb 1 i h)
 
-  pub child-far : 1 ≤ i → i ≤ 4 → largest < 5 * p .0 + i → childOf p i ≡ Beyond
-  child-far l u h = rw (le-leb 1 i l, le-leb i 4 u, lt-leb (5 * p .0 + i) largest h)
+    pub child-many : 4 < i → childOf p i ≡ Beyond
+    child-many h = rw (good, le-leb 1 i (omega arith), lt-leb i 4 h)
 
-  pub child-at : 1 ≤ i → i ≤ 4 → 5 * p .0 + i ≤ largest → childOf p i ≡ At (position (5 * p .0 + i))
-  child-at l u h = rw (le-leb 1 i l, le-leb i 4 u, le-leb (5 * p .0 + i) largest h)
+    pub child-far : 1 ≤ i → i ≤ 4 → largest < 5 * p .0 + i → childOf p i ≡ Beyond
+    child-far l u h = rw (good, le-leb 1 i l, le-leb i 4 u, lt-leb (5 * p .0 + i) largest h)
 
--- a child of a position in use that is in use too
-pub child-small : (p : Pos) (i : ℕ) → Small (p ++ (i ∷ [])) → childOf (position (code p)) i ≡ At (position (code (p ++ (i ∷ []))))
-child-small p i s =
-    let b = (s .digits) i (∈-right p (here refl)) in
-    child-at (position (code p)) i (b .0) (b .1) (rw (← (code-snoc p i)) (small-code (p ++ (i ∷ [])) s))
-    ∙ ap (λ c. At (position c)) (sym (code-snoc p i))
-
--- and one that has a seventh number
-pub child-deep : (p : Pos) (i : ℕ) → Small p → length p ≡ 6 → 1 ≤ i → i ≤ 4 → childOf (position (code p)) i ≡ Beyond
-child-deep [] i s e l u = absurd (omega arith)
-child-deep (j ∷ p) i s e l u = child-far (position (code (j ∷ p))) i l u (omega (arith, first-counts))
-  where
-    five : length p ≡ 5
-    five = omega arith
-
-    first-counts : 3125 ≤ code (j ∷ p)
-    first-counts =
-        let b = proper-head (s .digits) in
-        let w : code (j ∷ p) ≡ (5 * 0 + j) * 5 ^ 5 + code p = codeFrom-is p (5 * 0 + j) ∙ ap (λ (n : ℕ). (5 * 0 + j) * 5 ^ n + code p) five in
-        omega (arith, w)
+    pub child-at : 1 ≤ i → i ≤ 4 → 5 * p .0 + i ≤ largest → childOf p i ≡ At (position (5 * p .0 + i))
+    child-at l u h = rw (good, le-leb 1 i l, le-leb i 4 u, le-leb (5 * p .0 + i) largest h)
 
 -- ---- no 0 among the digits
 abbrev pub noZero : ℕ → Bool

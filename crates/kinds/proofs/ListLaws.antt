@@ -7,9 +7,9 @@
 --   append-same                                   what follows the same start
 --   map-append map-map map-same, filter-map filter-same filter-append   each; by a test
 --   any-map any-same any-append, all-map all-same all-append
---   gather-append gather-map gather-same map-gather, concat-append gather-concat, insert-map sort-map
+--   gather-append gather-map gather-same map-gather, concat-append , insert-map sort-map
 --   insert-map-in sort-map-in nil-same            where the order is kept of the elements at hand; no element
---   length-mapAt, range-append range-next         with their places; numbers in a row
+--   , range-append range-next         with their places; numbers in a row
 use Prim.Native.Nat.{ℕ, zero, suc, _+_, _-_, _<_, _≤_}
 use mathlib.Core.Path.{_≡_, refl, ap, ap₂, sym, _∙_}
 use mathlib.Core.List.{List, [], _∷_, _++_, map, append-assoc}
@@ -260,14 +260,6 @@ module _ {ℓ κ} {A : Type ℓ} {B : Type κ} where
   pub gather-append : (f : A → List B) (xs ys : List A) → gather f (xs ++ ys) ≡ gather f xs ++ gather f ys
   gather-append f [] ys = refl
   gather-append f (x ∷ xs) ys = ap (λ l. f x ++ l) (gather-append f xs ys) ∙ sym (append-assoc (f x) (gather f xs) (gather f ys))
-
-  pub gather-concat : (f : A → List B) (xs : List A) → gather f xs ≡ concat (map f xs)
-  gather-concat f [] = refl
-  gather-concat f (x ∷ xs) = ap (λ l. f x ++ l) (gather-concat f xs)
-
-  pub length-mapAt : (f : ℕ → A → B) (c : ℕ) (xs : List A) → length (mapAt f c xs) ≡ length xs
-  length-mapAt f c [] = refl
-  length-mapAt f c (x ∷ xs) = ap suc (length-mapAt f (suc c) xs)
 
 pub concat-append {ℓ} : {A : Type ℓ} (xs ys : List (List A)) → concat (xs ++ ys) ≡ concat xs ++ concat ys
 concat-append [] ys = refl

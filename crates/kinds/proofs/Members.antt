@@ -7,7 +7,7 @@
 --   Distinct distinct-map, Without without distinct-le   no element twice; the pigeonhole
 --   filter-split filter-le filter-at-most gather-length   how many
 --   Perm perm-refl perm-sym perm-length perm-in insert-perm sort-perm sort-in in-sort   the same elements, each as often
---   range-in in-range length-range distinct-below       numbers in a row
+--   range-in in-range length-range       numbers in a row
 --   in-take in-drop                              in a part
 use mathlib.Core.Path.{_≡_, refl, ap, sym, _∙_}
 use mathlib.Core.Bool.{Bool, true, false, cond, not, false≢true}
@@ -214,10 +214,6 @@ in-range (suc n) c i (there m) = let h = in-range n (suc c) i m in omega arith
 pub length-range : (c n : ℕ) → length (range c n) ≡ n
 length-range c zero = refl
 length-range c (suc n) = ap suc (length-range (suc c) n)
-
--- distinct numbers below n are at most n
-pub distinct-below : (n : ℕ) (xs : List ℕ) → Distinct xs → ((x : ℕ) → x ∈ xs → x < n) → length xs ≤ n
-distinct-below n xs d h = rw (← (length-range 0 n)) (distinct-le xs (range 0 n) d (λ x m. let b = h x m in range-in n 0 x (omega arith) (omega arith)))
 
 -- ---- how many
 pub filter-le : {A : Type 0} (p q : A → Bool) (xs : List A) → ((x : A) → p x ≡ true → q x ≡ true) → length (filter p xs) ≤ length (filter q xs)

@@ -1,7 +1,7 @@
 -- Places in lists: getElem? s i.
 --   at-in at-below at-some on-in, at-getD getD-at getD-in    what stands there, and is in the list
 --   getElem-some getElem-none                                 a word at a place, or none
---   at-left at-right at-end at-map at-mapAt split-at          in lists put together and in what is made of each
+--   at-left at-right at-end at-map split-at          in lists put together and in what is made of each
 --   Ext ext-refl ext-trans at-ext ext-length getD-ext         a list that grew at its end
 --   find-at find-none find-more find-new find-same            the first that passes; in a longer list; in what is made of each
 --   on-mapAt                                                  in what is made of each with its place
@@ -138,11 +138,6 @@ module _ {ℓ κ} {A : Type ℓ} {B : Type κ} where
   at-map f [] i e = none-not e
   at-map f (y ∷ s) zero {x} e = let z : y ≡ x = cc in rw z
   at-map f (y ∷ s) (suc i) e = at-map f s i e
-
-  pub at-mapAt : (f : ℕ → A → B) (c : ℕ) (s : List A) (i : ℕ) {x : A} → getElem? s i ≡ some x → getElem? (mapAt f c s) i ≡ some (f (c + i) x)
-  at-mapAt f c [] i e = none-not e
-  at-mapAt f c (y ∷ s) zero {x} e = let z : y ≡ x = cc in rw (z, add-zero)
-  at-mapAt f c (y ∷ s) (suc i) e = let d : suc c + i ≡ c + suc i = omega arith in rw (← d) (at-mapAt f (suc c) s i e)
 
   pub on-mapAt {μ} : {C : Type μ} (f : ℕ → A → B) (c : ℕ) (s : List A) {y : B} → y ∈ mapAt f c s → ((i : ℕ) (x : A) → getElem? s i ≡ some x → y ≡ f (c + i) x → C) → C
   on-mapAt f c (x ∷ s) (here e) k = k 0 x refl (rw add-zero e)

@@ -4,7 +4,7 @@
 --   common-left common-right common-least                     the greatest common prefix is the least position above both
 --   strip-append strip-join strip-self strip-below strip-back strip-more strip-strip   what is left below a prefix
 --   prefix-is is-prefix below-prefix prefix-append   above, as a test
---   not-same                                            positions that are not the same
+--                                              positions that are not the same
 use mathlib.Core.Path.{_≡_, refl, ap, sym, _∙_}
 use mathlib.Core.Bool.{Bool, true, false, cond, not, _&&_, false≢true}
 use mathlib.Core.List.{[], _∷_, _++_, append-assoc, append-nil}
@@ -148,6 +148,3 @@ below-prefix {q} {r} h = rw (h .eq) (is-prefix r (h .by))
 pub prefix-append : (a r q : Pos) → prefix (a ++ r) (a ++ q) ≡ prefix r q
 prefix-append [] r q = refl
 prefix-append (i ∷ a) r q = rw (is-eqb i i refl) (prefix-append a r q)
-
-pub not-same : (p q : Pos) → not (same p q) ≡ true → q ≡ p → ⊥
-not-same p q e h = false≢true (ap not (sym (same-refl p)) ∙ (rw h at e))

@@ -1,7 +1,7 @@
 -- The position kind: "The root position and the largest code in use, 15,624, belong to the kind itself."
 --   position       the kind of a code
 --   root           the root position
---   childOf        a position followed by a child number: none past the largest code, or for a number that is not 1 to 4
+--   childOf        a position followed by a child number: none for a code that is no position, a number that is not 1 to 4, or past the largest code
 --   childSays      its answer in document 01's numbers
 --   isGood         is it the code of a position in use
 --   lengthOf       how many numbers it has
@@ -11,6 +11,7 @@ use mathlib.Core.List.{List, [], _∷_}
 use mathlib.Core.Bool.{Bool}
 use lib.Dec.{leb}
 use lib.ListN.{length}
+use Rattle.kinds.specs.Limits.{mostChildren}
 use Rattle.kinds.specs.Lists.{unless}
 use Rattle.kinds.specs.Positions.{before, decode, largest, codeGood}
 use Rattle.kinds.specs.Reasons.{Says, gives, refuses}
@@ -27,10 +28,11 @@ root = position 0
 
 abbrev pub childOf : Position → ℕ → Child
 childOf p i =
-    unless (leb 1 i) Beyond
-    (unless (leb i 4) Beyond
+    unless (codeGood (p .0)) Beyond
+    (unless (leb 1 i) Beyond
+    (unless (leb i mostChildren) Beyond
     (unless (leb (5 * p .0 + i) largest) Beyond
-    (At (position (5 * p .0 + i)))))
+    (At (position (5 * p .0 + i))))))
 
 abbrev pub childSays : Child → Says
 childSays (At p) = gives (p .0 ∷ [])

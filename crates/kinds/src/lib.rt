@@ -2,7 +2,7 @@ ghost use mathlib.Core.Path.{_≡_};
 ghost use mathlib.Core.Bool.{Bool};
 ghost use Prim.Native.Nat.{ℕ};
 ghost use Rattle.kinds.specs.Positions.{padTo, decode};
-ghost use Rattle.kinds.specs.Kinds.{childOf, isGood, lengthOf, comesBefore};
+ghost use Rattle.kinds.specs.Kinds.{root, childOf, isGood, lengthOf, comesBefore};
 ghost use Rattle.kinds.specs.Reasons.{numberOf};
 
 pub mod limits; // the numbers of document 01
@@ -33,10 +33,21 @@ impl Position {
 
     pub const LARGEST: Position = Position(15624);
 
+    // The root.
+    pub fn root() -> Position
+        ensures { λ r. ⌜ r ≡ root ⌝ }
+    {
+        Position::ROOT
+    }
+
     // The position followed by a child number.
     pub fn child(self, i: u16) -> Child
         ensures { λ r. ⌜ r ≡ childOf self i ⌝ }
     {
+        let good = self.is_good();
+        if !good {
+            return Child::Beyond;
+        }
         if i == 0 {
             return Child::Beyond;
         }

@@ -5,7 +5,8 @@ use mathlib.Core.Option.{Option, none, some}
 use mathlib.Core.Logic.{_⊎_, inl, inr}
 use borrow.Author.Tests.{lt-ltb, ltb-true}
 use lib.Dec.{ltb}
-use Rattle.kinds.proofs.Bools.{and-l, and-r}
+use mathlib.Core.Bool.{true, false}
+use Rattle.kinds.proofs.Bools.{and-l, and-r, test}
 use Rattle.kinds.proofs.Options.{on-bind, on-need}
 use Rattle.following.specs.Following.{follow, nodeGood, target, reached, reachedSays}
 use Prim.Native.Nat.{ℕ, _+_, _*_, _<_, _≤_}
@@ -15,22 +16,23 @@ use Rattle.kinds.specs.Positions.{decode, codeGood, largest}
 use Rattle.kinds.specs.Kinds.{position, childOf, childSays}
 use Rattle.kinds.specs.declared.Position.{Position}
 use Rattle.kinds.specs.declared.Child.the-variants.{At, Beyond}
-use Rattle.kinds.proofs.KindLaws.{child-none, child-many, child-far, child-at}
+use Rattle.kinds.proofs.KindLaws.{child-bad, child-none, child-many, child-far, child-at}
 use Rattle.promises.specs.Found.{FoundRow, ChildFound, Reaches}
 use Rattle.promises.specs.Told.{By}
 use Rattle.promises.proofs.FoundRows.{by-found}
 
 pub by-child : (p : Position) (i : ℕ) → By (FoundRow (ChildFound p i) (λ c. c ∷ [])) (childSays (childOf p i))
-by-child p i = by-found (ChildFound p i) (λ c. c ∷ []) childSays Beyond (λ c. At (position c)) (childOf p i) refl (λ c. refl) is (either (decLt i 1) (decLt 4 i) (decLt largest (5 * p .0 + i)))
+by-child p i = by-found (ChildFound p i) (λ c. c ∷ []) childSays Beyond (λ c. At (position c)) (childOf p i) refl (λ c. refl) is (either (test (codeGood (p .0))) (decLt i 1) (decLt 4 i) (decLt largest (5 * p .0 + i)))
   where
     is : (c : ℕ) → ChildFound p i c → childOf p i ≡ At (position c)
-    is c f = let e = f .code in let u = f .in-use in child-at p i (f .number .0) (f .number .1) (omega arith) ∙ ap (λ x. At (position x)) (sym e)
+    is c f = let e = f .code in let u = f .in-use in child-at p i (f .position) (f .number .0) (f .number .1) (omega arith) ∙ ap (λ x. At (position x)) (sym e)
 
-    either : Dec (i < 1) → Dec (4 < i) → Dec (largest < 5 * p .0 + i) → ((c : ℕ) × ChildFound p i c) ⊎ (childOf p i ≡ Beyond)
-    either (yes a) b c = inr (child-none p i a)
-    either (no a) (yes b) c = inr (child-many p i b)
-    either (no a) (no b) (yes c) = inr (child-far p i (omega arith) (omega arith) c)
-    either (no a) (no b) (no c) = inl (5 * p .0 + i, record { number = (omega arith, omega arith); code = refl; in-use = omega arith })
+    either : (codeGood (p .0) ≡ true) ⊎ (codeGood (p .0) ≡ false) → Dec (i < 1) → Dec (4 < i) → Dec (largest < 5 * p .0 + i) → ((c : ℕ) × ChildFound p i c) ⊎ (childOf p i ≡ Beyond)
+    either (inr n) a b c = inr (child-bad p i n)
+    either (inl g) (yes a) b c = inr (child-none p i g a)
+    either (inl g) (no a) (yes b) c = inr (child-many p i g b)
+    either (inl g) (no a) (no b) (yes c) = inr (child-far p i g (omega arith) (omega arith) c)
+    either (inl g) (no a) (no b) (no c) = inl (5 * p .0 + i, record { position = g; number = (omega arith, omega arith); code = refl; in-use = omega arith })
 
 pub by-follow : (spans : List ℕ) (n from by : ℕ) → By (FoundRow (Reaches spans n from by) (λ x. x ∷ [])) (reachedSays (reached (target n spans from by)))
 unfolding target

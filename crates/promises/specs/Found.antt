@@ -16,7 +16,7 @@ use mathlib.Core.List.{List, [], _∷_, _++_}
 use mathlib.Core.Option.{some}
 use Prim.Native.Nat.{ℕ, _+_, _*_, _<_, _≤_}
 use lib.ListN.{length, getD, getElem?, drop}
-use Rattle.kinds.specs.Positions.{decode, codeGood, largest}
+use Rattle.kinds.specs.Positions.{decode, codeGood}
 use Rattle.kinds.specs.Reasons.{Says, gives, refusal}
 use Rattle.kinds.specs.declared.Position.{Position}
 use Rattle.kinds.specs.declared.Node.{Node}
@@ -102,6 +102,7 @@ pub record Reaches (spans : List ℕ) (n from code x : ℕ) : Type 0 where
 
 -- ---- a child of a position
 pub record ChildFound (p : Position) (i c : ℕ) : Type 0 where
+  pub position : codeGood (p .0) ≡ true
   pub number : (1 ≤ i) × (i ≤ 4)
   pub code : c ≡ 5 * p .0 + i
-  pub in-use : c ≤ largest
+  pub in-use : c ≤ 15624
