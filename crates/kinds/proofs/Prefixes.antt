@@ -4,7 +4,6 @@
 --   common-left common-right common-least                     the greatest common prefix is the least position above both
 --   strip-append strip-join strip-self strip-below strip-back strip-more strip-strip   what is left below a prefix
 --   prefix-is is-prefix below-prefix prefix-append   above, as a test
---                                              positions that are not the same
 use mathlib.Core.Path.{_≡_, refl, ap, sym, _∙_}
 use mathlib.Core.Bool.{Bool, true, false, cond, not, _&&_, false≢true}
 use mathlib.Core.List.{[], _∷_, _++_, append-assoc, append-nil}
