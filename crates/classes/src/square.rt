@@ -8,7 +8,7 @@ ghost use mathlib.Core.Bool.{true, false};
 ghost use Prim.Native.Nat.{ℕ, _+_, _*_, _<_, _≤_};
 ghost use lib.ListN.{length};
 ghost use Rattle.goals.specs.GoalWords.{Tabled, goalAt};
-ghost use Rattle.goals.specs.GoalKinds.{wordsOf};
+ghost use Rattle.goals.specs.GoalKinds.{asWords};
 ghost use Rattle.goals.specs.WordStages.{depW};
 ghost use Rattle.classes.specs.Links.{Linked};
 ghost use Rattle.classes.specs.Squares.{cell, Square};
@@ -16,7 +16,7 @@ ghost use Rattle.classes.specs.Squares.{cell, Square};
 // Do two goals share an obligation position?
 fn depends(tab: &[u16], g: Goal, h: Goal) -> bool
     requires { ⌜ Tabled (now tab) × (g .shape .0 < 16) × (h .shape .0 < 16) ⌝ }
-    ensures { λ r. ⌜ r ≡ depW (now (tab .entry)) (wordsOf g) (wordsOf h) ⌝ }
+    ensures { λ r. ⌜ r ≡ depW (now (tab .entry)) (asWords g) (asWords h) ⌝ }
 {
     match share(tab, g, h) {
         Shared::At(x) => true,

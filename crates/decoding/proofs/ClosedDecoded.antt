@@ -12,7 +12,7 @@ use Rattle.automaton.specs.Goals.{State}
 use Rattle.automaton.specs.Classes.{entry, dep, square}
 use Rattle.goals.specs.GoalWords.{GoalWords, goalW, goalAt, goalsFrom}
 use Rattle.goals.specs.WordStages.{depW}
-use Rattle.decoding.specs.Decoding.{goalOf, stateOf, shapeAt, TableOf}
+use Rattle.decoding.specs.Decoding.{goalMeant, stateMeant, shapeAt, TableOf}
 use Rattle.decoding.proofs.GoalDecoded.{Fine}
 use Rattle.decoding.proofs.DepDecoded.{dep-is}
 use Rattle.automaton.proofs.Closure.{Chain, link, step, chain-join}
@@ -40,25 +40,25 @@ goals-at ws at (suc k) (suc a) h = let e : at + 3 + 3 * a ≡ at + 3 * suc a = o
 module _ (shapes : List Term) (tab : List ℕ) (tables : (s : ℕ) → s < length shapes → TableOf tab s (shapeAt shapes s)) (ws : List ℕ) (n : ℕ)
     (fine : (a : ℕ) → a < n → Fine shapes (goalAt ws (3 * a))) where
   abbrev pub goals : State Pos
-  goals = stateOf shapes (goalsFrom ws 0 n)
+  goals = stateMeant shapes (goalsFrom ws 0 n)
 
   abbrev pub linkedBy : ℕ → ℕ → Bool
   linkedBy i j = depW tab (goalAt ws (3 * i)) (goalAt ws (3 * j))
 
   size : length goals ≡ n
-  size = length-map (goalsFrom ws 0 n) (goalOf shapes) ∙ goals-length ws 0 n
+  size = length-map (goalsFrom ws 0 n) (goalMeant shapes) ∙ goals-length ws 0 n
 
-  goal-at : (a : ℕ) → a < n → getD goals a (goalOf shapes none-goal) ≡ goalOf shapes (goalAt ws (3 * a))
+  goal-at : (a : ℕ) → a < n → getD goals a (goalMeant shapes none-goal) ≡ goalMeant shapes (goalAt ws (3 * a))
   goal-at a h =
-      map-at (goalOf shapes) (goalsFrom ws 0 n) a (goalOf shapes none-goal) none-goal (rw (goals-length ws 0 n) h)
-      ∙ ap (goalOf shapes) (goals-at ws 0 n a h ∙ ap (goalAt ws) (let e : 0 + 3 * a ≡ 3 * a = omega arith in e))
+      map-at (goalMeant shapes) (goalsFrom ws 0 n) a (goalMeant shapes none-goal) none-goal (rw (goals-length ws 0 n) h)
+      ∙ ap (goalMeant shapes) (goals-at ws 0 n a h ∙ ap (goalAt ws) (let e : 0 + 3 * a ≡ 3 * a = omega arith in e))
 
   entry-is : (a b : ℕ) → a < n → b < n → linkedBy a b ≡ entry (square (bare shapes) goals) a b
   entry-is a b ha hb =
       dep-is shapes tab tables (goalAt ws (3 * a)) (goalAt ws (3 * b)) (fine a ha) (fine b hb)
       ∙ sym (
-      ap (λ r. getD r b false) (map-at (λ g. map (dep (bare shapes) g) goals) goals a [] (goalOf shapes none-goal) (rw size ha))
-      ∙ map-at (dep (bare shapes) (getD goals a (goalOf shapes none-goal))) goals b false (goalOf shapes none-goal) (rw size hb)
+      ap (λ r. getD r b false) (map-at (λ g. map (dep (bare shapes) g) goals) goals a [] (goalMeant shapes none-goal) (rw size ha))
+      ∙ map-at (dep (bare shapes) (getD goals a (goalMeant shapes none-goal))) goals b false (goalMeant shapes none-goal) (rw size hb)
       ∙ ap₂ (dep (bare shapes)) (goal-at a ha) (goal-at b hb))
 
   to-chain : {a b : ℕ} → a < n → b < n → Linked n linkedBy a b → Chain (entry (square (bare shapes) goals)) n a b

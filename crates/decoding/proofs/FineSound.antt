@@ -39,7 +39,7 @@ use Rattle.automaton.proofs.Reachable.{deriv-sound}
 use Rattle.automaton.proofs.Classes.{picked-in}
 use Rattle.goals.specs.GoalWords.{GoalWords, nodeAt, labelCode}
 use Rattle.goals.specs.WordStages.{stays, moves, reduct, goesOn, withMask, freshW, freshesW, bornW, derivW, pickedW, closedW, classBeforeW, classesW}
-use Rattle.decoding.specs.Decoding.{shapeAt, goalOf, stateOf}
+use Rattle.decoding.specs.Decoding.{shapeAt, goalMeant, stateMeant}
 use Rattle.decoding.specs.GoodStates.{Ready, settingOf, GoodState}
 use Rattle.decoding.proofs.GoalDecoded.{Fine}
 use Rattle.decoding.proofs.Goalwise.{goal-apart}
@@ -55,7 +55,7 @@ pub bounded-within : (shapes : List Term) (gs hs : List GoalWords) → hs ⊆ gs
 bounded-within shapes gs hs i b = record { code = λ g m. b .code g (i g m); mask = λ g m. b .mask g (i g m) }
 
 pub record GoodFor {ar tab : List ℕ} {n : ℕ} (r : Ready ar tab n) (gs : List GoalWords) : Type 0 where
-  pub sound : SoundState (settingOf r) (stateOf (r .shapes) gs)
+  pub sound : SoundState (settingOf r) (stateMeant (r .shapes) gs)
   pub few : length gs ≤ 32
   pub bounded : Bounded (r .shapes) gs
 
@@ -72,7 +72,7 @@ shape-fits ar (t ∷ ts) h zero = h 0 t refl .fits
 shape-fits ar (t ∷ ts) h (suc s) = shape-fits ar ts (λ i u e. h (suc i) u e) s
 
 module _ {ar tab : List ℕ} {n : ℕ} (r : Ready ar tab n) where
-  pub sound-fine : (gs : List GoalWords) → Sound (settingOf r) (stateOf (r .shapes) gs) → Bounded (r .shapes) gs → (g : GoalWords) → g ∈ gs → Fine (r .shapes) g
+  pub sound-fine : (gs : List GoalWords) → Sound (settingOf r) (stateMeant (r .shapes) gs) → Bounded (r .shapes) gs → (g : GoalWords) → g ∈ gs → Fine (r .shapes) g
   sound-fine gs w b g m = record {
     shape = at-below (r .shapes) (g .sh) (real .is-shape);
     small = b .code g m;
@@ -82,18 +82,18 @@ module _ {ar tab : List ℕ} {n : ℕ} (r : Ready ar tab n) where
     apart = goal-apart (r .shapes) g alone;
   }
     where
-      inside : goalOf (r .shapes) g ∈ stateOf (r .shapes) gs
-      inside = map-in (goalOf (r .shapes)) m
+      inside : goalMeant (r .shapes) g ∈ stateMeant (r .shapes) gs
+      inside = map-in (goalMeant (r .shapes)) m
 
-      real : Real (settingOf r) (goalOf (r .shapes) g) (w .owing (goalOf (r .shapes) g) inside .0)
-      real = let o = w .owing (goalOf (r .shapes) g) inside in w .real (goalOf (r .shapes) g) inside (o .0) (o .1)
+      real : Real (settingOf r) (goalMeant (r .shapes) g) (w .owing (goalMeant (r .shapes) g) inside .0)
+      real = let o = w .owing (goalMeant (r .shapes) g) inside in w .real (goalMeant (r .shapes) g) inside (o .0) (o .1)
 
-      alone : (p c : Pos) → p ∈ goalOf (r .shapes) g .obs → (p ++ c) ∈ goalOf (r .shapes) g .obs → c ≡ []
+      alone : (p c : Pos) → p ∈ goalMeant (r .shapes) g .obs → (p ++ c) ∈ goalMeant (r .shapes) g .obs → c ≡ []
       alone p c i j = append-same p c [] (w .apart (p ++ c) p (owes inside j) (owes inside i) (record { by = c; eq = refl }) ∙ sym (append-nil p))
 
   module _ (gs : List GoalWords) (good : GoodFor r gs) where
     abbrev S : State Pos
-    S = stateOf (r .shapes) gs
+    S = stateMeant (r .shapes) gs
 
     abbrev L : Pos
     L = label (bare (r .shapes)) S
@@ -133,9 +133,9 @@ module _ {ar tab : List ℕ} {n : ℕ} (r : Ready ar tab n) where
       blanks : (s : ℕ) (p : Pos) (w : ℕ) → sub (shapeAt (r .shapes) s) p ≡ some (blank w) → 65535 ≤ w
       blanks s p w e = fits-sub ar 65535 p (shapeAt (r .shapes) s) (shape-fits ar (r .shapes) (r .is-shape) s) e
 
-      pub deriv-decoded : stateOf (r .shapes) D ≡ deriv (bare (r .shapes)) S f k
+      pub deriv-decoded : stateMeant (r .shapes) D ≡ deriv (bare (r .shapes)) S f k
       deriv-decoded =
-          ap₂ (λ m c. stateOf (r .shapes) (derivW tab m c f k gs)) (sym (r .count)) label-code
+          ap₂ (λ m c. stateMeant (r .shapes) (derivW tab m c f k gs)) (sym (r .count)) label-code
           ∙ deriv-is (r .shapes) tab (r .tables) L (label-small .digits) (label-small .short) f k symbol (r .children f k a) arity blanks gs good-fine refl
 
       pub reduct-for : (g : GoalWords) → g ∈ gs → Reduct (r .shapes) g L f k (reduct tab (labelCode tab gs) f g)
@@ -196,7 +196,7 @@ module _ {ar tab : List ℕ} {n : ℕ} (r : Ready ar tab n) where
           mask-of (moved h x i l e) = rw e l
           mask-of (born i j l u w e) = rw e (pow-lt (span-pos (shapeAt (r .shapes) j)))
 
-      pub deriv-goals-sound : Sound (settingOf r) (stateOf (r .shapes) D)
+      pub deriv-goals-sound : Sound (settingOf r) (stateMeant (r .shapes) D)
       deriv-goals-sound = subst (Sound (settingOf r)) (sym deriv-decoded) (deriv-sound (settingOf r) S (good .sound) f k a)
 
       pub deriv-fine : (g : GoalWords) → g ∈ D → Fine (r .shapes) g

@@ -26,7 +26,7 @@ use Rattle.kinds.specs.Positions.{Pos, code, decode}
 use Rattle.decoding.proofs.ShapeNodes.{Node, node-of, kidsIn, headWord}
 use Rattle.decoding.proofs.MaskReduced.{below, args-select, swap-mask, dom-below, span-below, roots-below, swapped}
 use Rattle.decoding.proofs.Selecting.{select-at, select-zero, select-none}
-use Rattle.decoding.specs.Decoding.{select, roots, shapeAt, goalOf, TableOf}
+use Rattle.decoding.specs.Decoding.{select, roots, shapeAt, goalMeant, TableOf}
 use Rattle.goals.specs.GoalWords.{GoalWords, codeAt, sizeOf, symOf, kidsOf, owedFrom, owedBy, nodeFrom, nodeAt, maskAfter}
 use Rattle.goals.specs.WordStages.{stays, moves, reduct, goesOn, withMask}
 use Rattle.term.specs.Places.{sub, dom}
@@ -140,7 +140,7 @@ module _ (shapes : List Term) (tab : List ℕ) (tables : (s : ℕ) → s < lengt
   codes-at i h = ap (codeAt tab (g .sh) (g .an)) (zero-add i) ∙ code-at i (rw (← (length-dom (shapeAt shapes (g .sh)))) h)
 
   -- the codes owed are the codes of the obligations
-  pub owed-is : owedBy tab g ≡ map code (goalOf shapes g .obs)
+  pub owed-is : owedBy tab g ≡ map code (goalMeant shapes g .obs)
   owed-is = ap (λ k. owedFrom tab (g .sh) (g .an) k 0 (g .mask)) size-is ∙ owed-select tab (g .sh) (g .an) (decode (g .an)) (dom (shapeAt shapes (g .sh))) 0 (g .mask) codes-at
 
   pub finds : (P : Pos) → Proper P → length P ≤ 7 → Found tab (g .sh) (g .an) (decode (g .an)) P (g .mask) 0 (dom (shapeAt shapes (g .sh))) (nodeAt tab (g .sh) (g .an) (g .mask) (code P))
@@ -148,16 +148,16 @@ module _ (shapes : List Term) (tab : List ℕ) (tables : (s : ℕ) → s < lengt
       rw size-is (find tab (g .sh) (g .an) (decode (g .an)) P proper short (dom (shapeAt shapes (g .sh))) 0 (g .mask) codes-at (fine .fit))
 
   module _ (P : Pos) (proper : Proper P) (short : length P ≤ 7) where
-    has-at : (i : ℕ) → i < length (dom (shapeAt shapes (g .sh))) → g .mask / 2 ^ i % 2 ≡ 1 → decode (g .an) ++ getD (dom (shapeAt shapes (g .sh))) i [] ≡ P → any (same P) (goalOf shapes g .obs) ≡ true
+    has-at : (i : ℕ) → i < length (dom (shapeAt shapes (g .sh))) → g .mask / 2 ^ i % 2 ≡ 1 → decode (g .an) ++ getD (dom (shapeAt shapes (g .sh))) i [] ≡ P → any (same P) (goalMeant shapes g .obs) ≡ true
     has-at i l b w =
         any-map (same P) (λ q. decode (g .an) ++ q) (select (g .mask) (dom (shapeAt shapes (g .sh))))
         ∙ any-of (λ q. same P (decode (g .an) ++ q)) (select-at (g .mask) i (dom (shapeAt shapes (g .sh))) [] l b) (ap (same P) w ∙ same-refl P)
 
     -- a goal stays exactly if it has no obligation at P
-    pub stays-is : stays tab (code P) g ≡ cond (not (any (same P) (goalOf shapes g .obs))) (g ∷ []) []
+    pub stays-is : stays tab (code P) g ≡ cond (not (any (same P) (goalMeant shapes g .obs))) (g ∷ []) []
     stays-is = go (finds P proper short)
       where
-        go : Found tab (g .sh) (g .an) (decode (g .an)) P (g .mask) 0 (dom (shapeAt shapes (g .sh))) (nodeAt tab (g .sh) (g .an) (g .mask) (code P)) → stays tab (code P) g ≡ cond (not (any (same P) (goalOf shapes g .obs))) (g ∷ []) []
+        go : Found tab (g .sh) (g .an) (decode (g .an)) P (g .mask) 0 (dom (shapeAt shapes (g .sh))) (nodeAt tab (g .sh) (g .an) (g .mask) (code P)) → stays tab (code P) g ≡ cond (not (any (same P) (goalMeant shapes g .obs))) (g ∷ []) []
         go (lacks x z) = rw (eq-eqb _ _ x, any-map (same P) (λ q. decode (g .an) ++ q) (select (g .mask) (dom (shapeAt shapes (g .sh)))), z) refl
         go (found i x l b w) =
             let s : i < span (shapeAt shapes (g .sh)) = rw (← (length-dom (shapeAt shapes (g .sh)))) l in
@@ -169,11 +169,11 @@ module _ (shapes : List Term) (tab : List ℕ) (tables : (s : ℕ) → s < lengt
       -- what a goal puts in after reducing, on positions
       abbrev pub Moved : List (Goal Pos)
       Moved =
-          cond (bare shapes .expects f P (goalOf shapes g))
-          (cond (not (isNil (reduced (bare shapes) P k (goalOf shapes g) .obs))) (reduced (bare shapes) P k (goalOf shapes g) ∷ []) [])
+          cond (bare shapes .expects f P (goalMeant shapes g))
+          (cond (not (isNil (reduced (bare shapes) P k (goalMeant shapes g) .obs))) (reduced (bare shapes) P k (goalMeant shapes g) ∷ []) [])
           []
 
-      owed-at : (p : Pos) → decode (g .an) ++ p ≡ P → owed shapes (goalOf shapes g) P ≡ sub (shapeAt shapes (g .sh)) p
+      owed-at : (p : Pos) → decode (g .an) ++ p ≡ P → owed shapes (goalMeant shapes g) P ≡ sub (shapeAt shapes (g .sh)) p
       owed-at p w = rw (shape-at shapes (g .sh) (fine .shape), ← w, strip-append (decode (g .an)) p) refl
 
       -- f is not what stands there
@@ -181,23 +181,23 @@ module _ (shapes : List Term) (tab : List ℕ) (tables : (s : ℕ) → s < lengt
       other (blank w) ne = refl
       other (node h ts) ne = ne-eqb h f ne
 
-      no-move : reduct tab (code P) f g ≡ 65536 → bare shapes .expects f P (goalOf shapes g) ≡ false → map (goalOf shapes) (moves tab (code P) f g) ≡ Moved
+      no-move : reduct tab (code P) f g ≡ 65536 → bare shapes .expects f P (goalMeant shapes g) ≡ false → map (goalMeant shapes) (moves tab (code P) f g) ≡ Moved
       no-move e d = rw (e, d) refl
 
       -- after reducing: the mask is empty exactly if the list is
-      ended : (x : ℕ) → x < 2 ^ span (shapeAt shapes (g .sh)) → bare shapes .expects f P (goalOf shapes g) ≡ true
-          → goalOf shapes (withMask g x) .obs ≡ reduced (bare shapes) P k (goalOf shapes g) .obs
-          → map (goalOf shapes) (goesOn x g) ≡ Moved
+      ended : (x : ℕ) → x < 2 ^ span (shapeAt shapes (g .sh)) → bare shapes .expects f P (goalMeant shapes g) ≡ true
+          → goalMeant shapes (withMask g x) .obs ≡ reduced (bare shapes) P k (goalMeant shapes g) .obs
+          → map (goalMeant shapes) (goesOn x g) ≡ Moved
       ended x l d e = rw (d, ← e) (go (eqb x 0) refl)
         where
-          go : (b : Bool) → eqb x 0 ≡ b → map (goalOf shapes) (cond b [] (cond (ltb x 65536) (withMask g x ∷ []) [])) ≡ cond (not (isNil (goalOf shapes (withMask g x) .obs))) (goalOf shapes (withMask g x) ∷ []) []
+          go : (b : Bool) → eqb x 0 ≡ b → map (goalMeant shapes) (cond b [] (cond (ltb x 65536) (withMask g x ∷ []) [])) ≡ cond (not (isNil (goalMeant shapes (withMask g x) .obs))) (goalMeant shapes (withMask g x) ∷ []) []
           go true z = rw (eqb-is x 0 z, select-zero (dom (shapeAt shapes (g .sh)))) refl
           go false z = rw (lt-ltb x 65536 small-mask) (full (select x (dom (shapeAt shapes (g .sh)))) refl)
             where
               small-mask : x < 65536
               small-mask = let w = pow-le (fine .low) in omega (arith, l, w)
 
-              full : (ys : List Pos) → select x (dom (shapeAt shapes (g .sh))) ≡ ys → _≡_ {A = List (Goal Pos)} (goalOf shapes (withMask g x) ∷ []) (cond (not (isNil (map (λ r. decode (g .an) ++ r) ys))) (goalOf shapes (withMask g x) ∷ []) [])
+              full : (ys : List Pos) → select x (dom (shapeAt shapes (g .sh))) ≡ ys → _≡_ {A = List (Goal Pos)} (goalMeant shapes (withMask g x) ∷ []) (cond (not (isNil (map (λ r. decode (g .an) ++ r) ys))) (goalMeant shapes (withMask g x) ∷ []) [])
               full [] n = absurd (false≢true (sym z ∙ eq-eqb x 0 (select-none x (dom (shapeAt shapes (g .sh))) (rw (length-dom (shapeAt shapes (g .sh))) l) n)))
               full (y ∷ ys) n = refl
 
@@ -212,17 +212,17 @@ module _ (shapes : List Term) (tab : List ℕ) (tables : (s : ℕ) → s < lengt
           or-lt (span (shapeAt shapes (g .sh))) _ _ (xor-lt (span (shapeAt shapes (g .sh))) _ _ (fine .bits) c) (omega (arith, a, b))
 
       -- it moves on exactly as the definition says
-      pub moves-is : map (goalOf shapes) (moves tab (code P) f g) ≡ Moved
+      pub moves-is : map (goalMeant shapes) (moves tab (code P) f g) ≡ Moved
       moves-is = go (finds P proper short)
         where
-          at-node : (i : ℕ) (o : Node (shapeAt shapes (g .sh)) i) (u : Term) → o .under ≡ u → nodeAt tab (g .sh) (g .an) (g .mask) (code P) ≡ i → (i ≡ 16 → ⊥) → any (same P) (goalOf shapes g .obs) ≡ true
-              → owed shapes (goalOf shapes g) P ≡ some u → decode (g .an) ++ o .at ≡ P → g .mask / 2 ^ i % 2 ≡ 1 → symOf tab (g .sh) i ≡ headWord u → kidsOf tab (g .sh) i ≡ roots (kidsIn (o .under)) * 2 ^ suc i
-              → Dec (headWord u ≡ f) → map (goalOf shapes) (moves tab (code P) f g) ≡ Moved
+          at-node : (i : ℕ) (o : Node (shapeAt shapes (g .sh)) i) (u : Term) → o .under ≡ u → nodeAt tab (g .sh) (g .an) (g .mask) (code P) ≡ i → (i ≡ 16 → ⊥) → any (same P) (goalMeant shapes g .obs) ≡ true
+              → owed shapes (goalMeant shapes g) P ≡ some u → decode (g .an) ++ o .at ≡ P → g .mask / 2 ^ i % 2 ≡ 1 → symOf tab (g .sh) i ≡ headWord u → kidsOf tab (g .sh) i ≡ roots (kidsIn (o .under)) * 2 ^ suc i
+              → Dec (headWord u ≡ f) → map (goalMeant shapes) (moves tab (code P) f g) ≡ Moved
           at-node i o u ou n ne h ow w b sy ki (no d) = no-move (rw (n, ne-eqb i 16 ne, sy, ne-eqb (headWord u) f d) refl) (rw (h, ow) (other u d))
           at-node i o (blank v) ou n ne h ow w b sy ki (yes d) = let z = blanks (o .at) v (o .is ∙ ap some ou) in absurd (omega arith)
           at-node i o (node f′ ts) ou n ne h ow w b sy ki (yes d) =
               let re : reduct tab (code P) f g ≡ maskAfter (g .mask) i (roots (kidsIn (o .under)) * 2 ^ suc i) = rw (n, ne-eqb i 16 ne, sy, eq-eqb f′ f d, ki) refl in
-              let new = argsOf P k (owed shapes (goalOf shapes g) P) in
+              let new = argsOf P k (owed shapes (goalMeant shapes g) P) in
               let is : new ≡ map (λ q. (decode (g .an) ++ o .at) ++ q) (select (roots (kidsIn (o .under))) (below (o .under))) =
               ap (argsOf P k) ow
               ∙ ap (λ c. args P 1 c ts) (sym (arity (o .at) ts (o .is ∙ ap some ou ∙ ap (λ h. some (node h ts)) d)))
@@ -230,9 +230,9 @@ module _ (shapes : List Term) (tab : List ℕ) (tables : (s : ℕ) → s < lengt
               ∙ rw (w, ou) refl in
               rw re (ended (maskAfter (g .mask) i (roots (kidsIn (o .under)) * 2 ^ suc i)) (mask-fits i o) (rw (h, ow) (eq-eqb f′ f d))
               (swap-mask (decode (g .an)) new (shapeAt shapes (g .sh)) i (g .mask) o (fine .apart i o b) is
-              ∙ ap (λ Q. gather (swapped Q new) (goalOf shapes g .obs)) w))
+              ∙ ap (λ Q. gather (swapped Q new) (goalMeant shapes g .obs)) w))
 
-          go : Found tab (g .sh) (g .an) (decode (g .an)) P (g .mask) 0 (dom (shapeAt shapes (g .sh))) (nodeAt tab (g .sh) (g .an) (g .mask) (code P)) → map (goalOf shapes) (moves tab (code P) f g) ≡ Moved
+          go : Found tab (g .sh) (g .an) (decode (g .an)) P (g .mask) 0 (dom (shapeAt shapes (g .sh))) (nodeAt tab (g .sh) (g .an) (g .mask) (code P)) → map (goalMeant shapes) (moves tab (code P) f g) ≡ Moved
           go (lacks x z) = no-move (rw (eq-eqb _ _ x) refl) (rw (any-map (same P) (λ q. decode (g .an) ++ q) (select (g .mask) (dom (shapeAt shapes (g .sh)))), z) refl)
           go (found i x l b w) =
               let T = tables (g .sh) (fine .shape) in

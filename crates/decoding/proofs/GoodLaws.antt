@@ -28,7 +28,7 @@ use Rattle.automaton.proofs.Sound.{SoundState}
 use Rattle.automaton.proofs.Reachable.{initial-sound}
 use Rattle.goals.specs.GoalWords.{GoalWords, Low, labelCode}
 use Rattle.goals.specs.WordStages.{freshW, freshesW, derivW, leastCode, liftW, classesW, outputsW}
-use Rattle.decoding.specs.Decoding.{shapeAt, goalOf, stateOf}
+use Rattle.decoding.specs.Decoding.{shapeAt, goalMeant, stateMeant}
 use Rattle.decoding.specs.GoodStates.{Ready, settingOf, GoodState}
 use Rattle.decoding.proofs.GoalDecoded.{Fine}
 use Rattle.decoding.proofs.Room.{deriv-room as room-of}
@@ -38,15 +38,15 @@ use Rattle.decoding.proofs.ClassLifted.{class-part, part-displaced, dis
 use Rattle.decoding.proofs.DerivDecoded.{fresh-is}
 
 -- ---- the beginning
-pub start-decoded : (shapes : List Term) → stateOf shapes (freshesW (length shapes) 0) ≡ initial (bare shapes)
+pub start-decoded : (shapes : List Term) → stateMeant shapes (freshesW (length shapes) 0) ≡ initial (bare shapes)
 start-decoded shapes =
-    map-map (goalOf shapes) (freshW 0) (range 0 (length shapes))
-    ∙ map-same (λ j. goalOf shapes (freshW 0 j)) (fresh []) (range 0 (length shapes)) (λ j m. fresh-is shapes 0 j ∙ ap (λ p. fresh p j) (decode-nil 7))
+    map-map (goalMeant shapes) (freshW 0) (range 0 (length shapes))
+    ∙ map-same (λ j. goalMeant shapes (freshW 0 j)) (fresh []) (range 0 (length shapes)) (λ j m. fresh-is shapes 0 j ∙ ap (λ p. fresh p j) (decode-nil 7))
 
 module _ {ar tab : List ℕ} {n : ℕ} (r : Ready ar tab n) where
   pub start-good : GoodFor r (freshesW n 0)
   start-good = record {
-    sound = subst (SoundState (settingOf r)) (sym (ap (λ m. stateOf (r .shapes) (freshesW m 0)) (sym (r .count)) ∙ start-decoded (r .shapes))) (initial-sound (settingOf r));
+    sound = subst (SoundState (settingOf r)) (sym (ap (λ m. stateMeant (r .shapes) (freshesW m 0)) (sym (r .count)) ∙ start-decoded (r .shapes))) (initial-sound (settingOf r));
     few = let e = length-map (range 0 n) (freshW 0) in let d = length-range 0 n in let h = r .few-shapes in omega arith;
     bounded = record {
       code = λ g m. on-map (freshW 0) (range 0 n) m λ j i e. rw e (omega arith);

@@ -21,7 +21,7 @@ use Rattle.kinds.specs.Lists.{any, all, same}
 use Rattle.kinds.specs.Positions.{Pos, code, strip, decode}
 use Rattle.decoding.proofs.GoalDecoded.{Fine}
 use Rattle.decoding.proofs.Selecting.{select-sub}
-use Rattle.decoding.specs.Decoding.{select, shapeAt, goalOf, stateOf}
+use Rattle.decoding.specs.Decoding.{select, shapeAt, goalMeant, stateMeant}
 use Rattle.goals.specs.GoalWords.{GoalWords}
 use Rattle.goals.specs.WordStages.{sameW, amongW, withinW, sameStateW}
 use Rattle.term.specs.Places.{dom}
@@ -96,19 +96,19 @@ same-self shapes g =
 
 module _ (shapes : List Term) where
   -- two goals are the same exactly if their words are
-  pub same-goal-is : (g h : GoalWords) → Fine shapes g → Fine shapes h → sameW g h ≡ sameGoal (bare shapes) (goalOf shapes g) (goalOf shapes h)
+  pub same-goal-is : (g h : GoalWords) → Fine shapes g → Fine shapes h → sameW g h ≡ sameGoal (bare shapes) (goalMeant shapes g) (goalMeant shapes h)
   same-goal-is g h fg fh = bool-ext _ _ there-and back
     where
       words : g .sh ≡ h .sh → g .an ≡ h .an → g .mask ≡ h .mask → g ≡ h
       words a b c = λ i. record { sh = a i; an = b i; mask = c i }
 
-      there-and : sameW g h ≡ true → sameGoal (bare shapes) (goalOf shapes g) (goalOf shapes h) ≡ true
+      there-and : sameW g h ≡ true → sameGoal (bare shapes) (goalMeant shapes g) (goalMeant shapes h) ≡ true
       there-and e =
           let r = and-r (eqb (g .sh) (h .sh)) e in
-          rw (words (eqb-is (g .sh) (h .sh) (and-l _ e)) (eqb-is (g .an) (h .an) (and-l _ r)) (eqb-is (g .mask) (h .mask) (and-r (eqb (g .an) (h .an)) r))) (same-self shapes (goalOf shapes h))
+          rw (words (eqb-is (g .sh) (h .sh) (and-l _ e)) (eqb-is (g .an) (h .an) (and-l _ r)) (eqb-is (g .mask) (h .mask) (and-r (eqb (g .an) (h .an)) r))) (same-self shapes (goalMeant shapes h))
 
       masks : g .sh ≡ h .sh → g .an ≡ h .an
-          → all (λ o. any (same o) (goalOf shapes h .obs)) (goalOf shapes g .obs) ≡ true → all (λ o. any (same o) (goalOf shapes g .obs)) (goalOf shapes h .obs) ≡ true → g .mask ≡ h .mask
+          → all (λ o. any (same o) (goalMeant shapes h .obs)) (goalMeant shapes g .obs) ≡ true → all (λ o. any (same o) (goalMeant shapes g .obs)) (goalMeant shapes h .obs) ≡ true → g .mask ≡ h .mask
       masks a b c d =
           let ps = dom (shapeAt shapes (h .sh)) in
           let c′ : all (λ o. any (same o) (map (λ q. decode (h .an) ++ q) (select (h .mask) ps))) (map (λ q. decode (h .an) ++ q) (select (g .mask) ps)) ≡ true = rw (a, b) at c in
@@ -118,24 +118,24 @@ module _ (shapes : List Term) where
           (into (decode (h .an)) (select (g .mask) ps) (select (h .mask) ps) c′)
           (into (decode (h .an)) (select (h .mask) ps) (select (g .mask) ps) d′)
 
-      back : sameGoal (bare shapes) (goalOf shapes g) (goalOf shapes h) ≡ true → sameW g h ≡ true
+      back : sameGoal (bare shapes) (goalMeant shapes g) (goalMeant shapes h) ≡ true → sameW g h ≡ true
       back e =
           let e₁ = and-l _ e in
           let e₂ = and-l _ e₁ in
           let a = eqb-is (g .sh) (h .sh) (and-l _ e₂) in
           let b : g .an ≡ h .an = sym (code-of 7 (g .an) (fg .small)) ∙ ap code (same-is (decode (g .an)) (decode (h .an)) (and-r (eqb (g .sh) (h .sh)) e₂)) ∙ code-of 7 (h .an) (fh .small) in
-          let m = masks a b (and-r (eqb (g .sh) (h .sh) && same (decode (g .an)) (decode (h .an))) e₁) (and-r (eqb (g .sh) (h .sh) && same (decode (g .an)) (decode (h .an)) && all (λ o. any (same o) (goalOf shapes h .obs)) (goalOf shapes g .obs)) e) in
+          let m = masks a b (and-r (eqb (g .sh) (h .sh) && same (decode (g .an)) (decode (h .an))) e₁) (and-r (eqb (g .sh) (h .sh) && same (decode (g .an)) (decode (h .an)) && all (λ o. any (same o) (goalMeant shapes h .obs)) (goalMeant shapes g .obs)) e) in
           both (eq-eqb _ _ a) (both (eq-eqb _ _ b) (eq-eqb _ _ m))
 
-  among-is : (g : GoalWords) (hs : List GoalWords) → Fine shapes g → ((h : GoalWords) → h ∈ hs → Fine shapes h) → amongW g hs ≡ any (sameGoal (bare shapes) (goalOf shapes g)) (stateOf shapes hs)
+  among-is : (g : GoalWords) (hs : List GoalWords) → Fine shapes g → ((h : GoalWords) → h ∈ hs → Fine shapes h) → amongW g hs ≡ any (sameGoal (bare shapes) (goalMeant shapes g)) (stateMeant shapes hs)
   unfolding amongW
   among-is g [] fg fh = refl
   among-is g (h ∷ hs) fg fh = ap₂ (λ a b. a || b) (same-goal-is g h fg (fh h (here refl))) (among-is g hs fg (λ k i. fh k (there i)))
 
-  within-is : (gs hs : List GoalWords) → ((g : GoalWords) → g ∈ gs → Fine shapes g) → ((h : GoalWords) → h ∈ hs → Fine shapes h) → withinW gs hs ≡ all (λ g. any (sameGoal (bare shapes) g) (stateOf shapes hs)) (stateOf shapes gs)
+  within-is : (gs hs : List GoalWords) → ((g : GoalWords) → g ∈ gs → Fine shapes g) → ((h : GoalWords) → h ∈ hs → Fine shapes h) → withinW gs hs ≡ all (λ g. any (sameGoal (bare shapes) g) (stateMeant shapes hs)) (stateMeant shapes gs)
   unfolding withinW
   within-is [] hs fg fh = refl
   within-is (g ∷ gs) hs fg fh = ap₂ (λ a b. a && b) (among-is g hs (fg g (here refl)) fh) (within-is gs hs (λ k i. fg k (there i)) fh)
 
-  pub same-state-is : (gs hs : List GoalWords) → ((g : GoalWords) → g ∈ gs → Fine shapes g) → ((h : GoalWords) → h ∈ hs → Fine shapes h) → sameStateW gs hs ≡ sameState (bare shapes) (stateOf shapes gs) (stateOf shapes hs)
+  pub same-state-is : (gs hs : List GoalWords) → ((g : GoalWords) → g ∈ gs → Fine shapes g) → ((h : GoalWords) → h ∈ hs → Fine shapes h) → sameStateW gs hs ≡ sameState (bare shapes) (stateMeant shapes gs) (stateMeant shapes hs)
   same-state-is gs hs fg fh = ap₂ (λ a b. a && b) (within-is gs hs fg fh) (within-is hs gs fh fg)

@@ -38,12 +38,12 @@ abbrev mutual
 abbrev pub shapeAt : List Term → ℕ → Term
 shapeAt shapes s = getD shapes s (blank 65535)
 
-abbrev pub goalOf : List Term → GoalWords → Goal Pos
-goalOf shapes g =
+abbrev pub goalMeant : List Term → GoalWords → Goal Pos
+goalMeant shapes g =
     record { shape = g .sh; ann = decode (g .an); obs = map (λ r. decode (g .an) ++ r) (select (g .mask) (dom (shapeAt shapes (g .sh)))) }
 
-abbrev pub stateOf : List Term → List GoalWords → State Pos
-stateOf shapes gs = map (goalOf shapes) gs
+abbrev pub stateMeant : List Term → List GoalWords → State Pos
+stateMeant shapes gs = map (goalMeant shapes) gs
 
 -- the words of shape s in the tables
 pub record TableOf (tab : List ℕ) (s : ℕ) (t : Term) : Type 0 where

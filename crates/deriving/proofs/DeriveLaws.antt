@@ -13,13 +13,13 @@ use lib.Seq.{sets}
 use Rattle.kinds.specs.Lists.{gather, range}
 use Rattle.kinds.proofs.ListLaws.{sets-append}
 use Rattle.goals.specs.GoalWords.{GoalWords, goalW, goalAt, goalsFrom, flat, nodeAt, symOf, kidsOf, maskAfter}
-use Rattle.goals.specs.GoalKinds.{goalOf}
+use Rattle.goals.specs.GoalKinds.{asGoal}
 use Rattle.goals.specs.declared.Goal.{Goal}
 use Rattle.goals.specs.WordStages.{stays, moves, reduct, goesOn, withMask, freshW, freshesW, bornW, derivW}
 use Rattle.goals.proofs.GoalLaws.{goals-next, goals-end}
 
 -- a goal as the code hands it on, and as words
-pub node-is : (tab : List ℕ) (c k : ℕ) (g : GoalWords) (r : Goal) → r ≡ goalOf g → k ≡ nodeAt tab (r .shape .0) (r .at .0) (r .mask) c → k ≡ nodeAt tab (g .sh) (g .an) (g .mask) c
+pub node-is : (tab : List ℕ) (c k : ℕ) (g : GoalWords) (r : Goal) → r ≡ asGoal g → k ≡ nodeAt tab (r .shape .0) (r .at .0) (r .mask) c → k ≡ nodeAt tab (g .sh) (g .an) (g .mask) c
 node-is tab c k g r e n = n ∙ ap (λ (x : Goal). nodeAt tab (x .shape .0) (x .at .0) (x .mask) c) e
 
 pub flat-append : (gs hs : List GoalWords) → flat (gs ++ hs) ≡ flat gs ++ flat hs

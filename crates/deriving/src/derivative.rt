@@ -12,13 +12,13 @@ ghost use lib.ListN.{length};
 ghost use lib.Seq.{sets};
 ghost use Rattle.kinds.specs.Lists.{gather};
 ghost use Rattle.goals.specs.GoalWords.{Tabled, goalsFrom, Low, flat};
-ghost use Rattle.goals.specs.GoalKinds.{wordsOf};
+ghost use Rattle.goals.specs.GoalKinds.{asWords};
 ghost use Rattle.goals.specs.WordStages.{stays, moves, reduct, goesOn, freshesW, bornW, derivW};
 
 // A goal's mask after reducing at a position by a symbol; 65536 where the symbol is not expected there.
 pub fn reduce(tab: &[u16], g: Goal, root: Position, symbol: Symbol) -> u32
     requires { ⌜ Tabled (now tab) × (g .shape .0 < 16) ⌝ }
-    ensures { λ x. ⌜ x ≡ reduct (now (tab .entry)) (root .0) (symbol .0) (wordsOf g) ⌝ }
+    ensures { λ x. ⌜ x ≡ reduct (now (tab .entry)) (root .0) (symbol .0) (asWords g) ⌝ }
 {
     let s = g.shape.0 as usize;
     let r = node_at(tab, g, root);
@@ -90,9 +90,9 @@ fn put_moving(
 
 // One goal with mask x, where that is a mask and not empty.
 fn put_moved(out: &mut [u16], to: usize, g: Goal, x: u32) -> usize
-    requires { ⌜ to + length (flat (goesOn x (wordsOf g))) ≤ length (now out) ⌝ }
-    ensures next { λ r. ⌜ r ≡ to + length (flat (goesOn x (wordsOf g))) ⌝ }
-    ensures wrote { λ r. ⌜ now (out .exit) ≡ sets (now (out .entry)) to (flat (goesOn x (wordsOf g))) ⌝ }
+    requires { ⌜ to + length (flat (goesOn x (asWords g))) ≤ length (now out) ⌝ }
+    ensures next { λ r. ⌜ r ≡ to + length (flat (goesOn x (asWords g))) ⌝ }
+    ensures wrote { λ r. ⌜ now (out .exit) ≡ sets (now (out .entry)) to (flat (goesOn x (asWords g))) ⌝ }
 {
     if x == 0 {
         return to;

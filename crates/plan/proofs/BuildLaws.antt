@@ -33,7 +33,7 @@ use Rattle.goals.specs.GoalWords.{GoalWords}
 use Rattle.goals.specs.WordStages.{sameW, amongW, withinW, sameStateW}
 use Rattle.decoding.specs.WordMachine.{words, statesIn, Kept}
 use Rattle.decoding.specs.GoodStates.{Ready}
-use Rattle.states.specs.Meeting.{AllGood, wordsOf, ExploredIs}
+use Rattle.states.specs.Meeting.{AllGood, blocksLength, ExploredIs}
 use Rattle.plan.specs.Building.{Out, cleared, size, written, planOf, buildOf, refuse}
 use Rattle.folio.specs.Folio.{shapeTerms}
 use Rattle.plan.specs.declared.Built.{Built}
@@ -116,7 +116,7 @@ module _ (ar tab : List ℕ) (n : ℕ) where
           let bs = t .2 .0 in
           let long = states-length sc m in
           let again = blocks-again (words tab n) same-self ar (statesIn sc m) bs (t .2 .1) in
-          let many : w ≡ wordsOf (allBlocks (words tab n) (statesIn sc m) ar) = t .2 .2 ∙ ap wordsOf (again .0) in
+          let many : w ≡ blocksLength (allBlocks (words tab n) (statesIn sc m) ar) = t .2 .2 ∙ ap blocksLength (again .0) in
           record {
             kept = t .0;
             good = t .1;

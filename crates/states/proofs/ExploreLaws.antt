@@ -34,9 +34,9 @@ use Rattle.goals.specs.WordStages.{freshesW, freshW, derivW, leastCode, liftW, 
 use Rattle.decoding.specs.WordMachine.{words, stateIn, statesIn, Kept}
 use Rattle.decoding.specs.GoodStates.{Ready, GoodState}
 use Rattle.deriving.specs.Orders.{keyed, classAt, outItems, goalOn}
-use Rattle.states.specs.Meeting.{placeOf, liftedW, AllGood, wordsOf, MetIs, RowIs, ExploredIs}
-use Rattle.states.specs.declared.Met.{Met as Going}
-use Rattle.states.specs.declared.Met.the-variants as going
+use Rattle.states.specs.Meeting.{placeOf, liftedW, AllGood, blocksLength, MetIs, RowIs, ExploredIs}
+use Rattle.states.specs.declared.Going.{Going}
+use Rattle.states.specs.declared.Going.the-variants as going
 use Rattle.states.specs.declared.Explored.the-variants as result
 use Rattle.decoding.proofs.Room.{flat-length}
 use Rattle.decoding.proofs.ClosedDecoded.{goals-length}
@@ -220,10 +220,10 @@ block-length b = let x = length-append (gather (λ a. a .shape ∷ code (a .at) 
     let z = pairs-length (λ s. s .to) (λ s. code (s .by)) (b .succs) in
     omega arith
 
-pub words-more : (bs cs : List Block) → wordsOf (bs ++ cs) ≡ wordsOf bs + wordsOf cs
+pub words-more : (bs cs : List Block) → blocksLength (bs ++ cs) ≡ blocksLength bs + blocksLength cs
 words-more bs cs = ap (λ l. length (concat l)) (map-append blockWords bs cs) ∙ ap length (concat-append (map blockWords bs) (map blockWords cs)) ∙ length-append (concat (map blockWords bs)) (concat (map blockWords cs))
 
-words-one : (b : Block) → wordsOf (b ∷ []) ≡ length (blockWords b)
+words-one : (b : Block) → blocksLength (b ∷ []) ≡ length (blockWords b)
 words-one b = ap length (append-nil (blockWords b))
 
 -- no more announcements than goals
@@ -250,7 +250,7 @@ pub record Rowing (ar tab : List ℕ) (n : ℕ) (sc₀ : List ℕ) (m i : ℕ) (
   pub still : stateIn sc i ≡ stateIn sc₀ i
   pub sum : count ≤ 300 * f
   pub more : List Block
-  pub many : count ≡ wordsOf more
+  pub many : count ≡ blocksLength more
   pub is : (bs : List Block) → row (words tab n) i (stateIn sc₀ i) 0 ar (statesIn sc₀ m) bs ≡ row (words tab n) i (stateIn sc₀ i) f (drop f ar) (statesIn sc states) (bs ++ more)
 
 module _ (ar tab : List ℕ) (n : ℕ) (sc₀ : List ℕ) (m i : ℕ) where
@@ -343,7 +343,7 @@ pub record Running (ar tab : List ℕ) (n : ℕ) (sc₀ sc : List ℕ) (m count 
   pub good : AllGood ar tab n (statesIn sc m)
   pub sum : count ≤ 10000 * i
   pub blocks : List Block
-  pub many : count ≡ wordsOf blocks
+  pub many : count ≡ blocksLength blocks
   pub is : explored (words tab n) ar ≡ run (words tab n) ar (128 - i) i (statesIn sc m) blocks
 
 module _ (ar tab : List ℕ) (n : ℕ) (sc₀ : List ℕ) where

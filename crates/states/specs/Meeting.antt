@@ -2,7 +2,7 @@
 --   placeOf      the number of the first state that is equal to one, their count where none is
 --   liftedW      a class lifted
 --   AllGood      each state is good
---   wordsOf      how many words blocks take
+--   blocksLength      how many words blocks take
 --   MetIs        what meeting classes answers: the states are in scratch, with two words counted for each successor; or why it stops
 --   RowIs        what a state on each symbol answers: its blocks come after others, and their words are counted
 --   ExploredIs   what all states answer
@@ -18,8 +18,8 @@ use Rattle.goals.specs.GoalWords.{GoalWords}
 use Rattle.goals.specs.WordStages.{sameStateW, leastCode, liftW}
 use Rattle.decoding.specs.WordMachine.{statesIn, Kept}
 use Rattle.decoding.specs.GoodStates.{GoodState}
-use Rattle.states.specs.declared.Met.{Met as Going}
-use Rattle.states.specs.declared.Met.the-variants as going
+use Rattle.states.specs.declared.Going.{Going}
+use Rattle.states.specs.declared.Going.the-variants as going
 use Rattle.states.specs.declared.Explored.{Explored}
 use Rattle.states.specs.declared.Explored.the-variants as explored
 
@@ -33,8 +33,8 @@ liftedW k = map (liftW (leastCode 65535 k)) k
 abbrev pub AllGood : List ℕ → List ℕ → ℕ → List (List GoalWords) → Type 0
 AllGood ar tab n ss = (s : List GoalWords) → s ∈ ss → GoodState ar tab n s
 
-abbrev pub wordsOf : List Block → ℕ
-wordsOf bs = length (concat (map blockWords bs))
+abbrev pub blocksLength : List Block → ℕ
+blocksLength bs = length (concat (map blockWords bs))
 
 abbrev pub MetIs : Going → List ℕ → ℕ → Met (List GoalWords) → Type 0
 MetIs (going.On m w) sc base e = Kept sc m × ((xs : List Succ) × (e ≡ met (statesIn sc m) xs) × (w ≡ base + 2 * length xs) × (length xs ≤ 96))
@@ -42,9 +42,9 @@ MetIs (going.Stopped r) sc base e = e ≡ stopped r
 
 abbrev pub RowIs : Going → List ℕ → List ℕ → ℕ → List ℕ → ℕ → List Block → Made (List GoalWords) → Type 0
 RowIs (going.On m w) ar tab n sc i bs e =
-    Kept sc m × (i < m) × AllGood ar tab n (statesIn sc m) × ((more : List Block) × (e ≡ made (statesIn sc m) (bs ++ more)) × (w ≡ wordsOf more)) × (w ≤ 10000)
+    Kept sc m × (i < m) × AllGood ar tab n (statesIn sc m) × ((more : List Block) × (e ≡ made (statesIn sc m) (bs ++ more)) × (w ≡ blocksLength more)) × (w ≤ 10000)
 RowIs (going.Stopped r) ar tab n sc i bs e = e ≡ refused r i
 
 abbrev pub ExploredIs : Explored → List ℕ → List ℕ → ℕ → List ℕ → Made (List GoalWords) → Type 0
-ExploredIs (explored.Made m w) ar tab n sc e = Kept sc m × AllGood ar tab n (statesIn sc m) × ((bs : List Block) × (e ≡ made (statesIn sc m) bs) × (w ≡ wordsOf bs)) × (w ≤ 1280000)
+ExploredIs (explored.Made m w) ar tab n sc e = Kept sc m × AllGood ar tab n (statesIn sc m) × ((bs : List Block) × (e ≡ made (statesIn sc m) bs) × (w ≡ blocksLength bs)) × (w ≤ 1280000)
 ExploredIs (explored.Stopped r i) ar tab n sc e = e ≡ refused r (i .0)

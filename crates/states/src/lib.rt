@@ -4,7 +4,7 @@ use kinds::State;
 pub mod keeping; // the states met, in scratch
 
 // How many states there are now, and how many words the blocks made take.
-pub enum Met {
+pub enum Going {
     On(usize, usize),
     Stopped(Reason),
 }

@@ -30,17 +30,17 @@ ghost use Rattle.writing.specs.FinalBlocks.{blockOf, allBlocks, SmallOn,
 // The plan of the m states in scratch, of `total` words.
 pub fn write_plan(
     tab: &[u16],
-    arity: &[u8],
+    symbols: &[u8],
     shapes: usize,
     scratch: &[u16],
     m: usize,
     total: usize,
     plan: &mut [u16],
 )
-    requires { ⌜ Kept (now scratch) m × AllGood (now arity) (now tab) shapes (statesIn (now scratch) m) × ((s : List GoalWords) → s ∈ statesIn (now scratch) m → SmallOn (machine (now tab) shapes) s 0 (now arity)) × Ready (now arity) (now tab) shapes × (total ≡ length (planWords (machine (now tab) shapes) (length (now arity)) shapes (statesIn (now scratch) m) (allBlocks (machine (now tab) shapes) (statesIn (now scratch) m) (now arity)))) × (total ≤ length (now plan)) × (total ≤ 65535) ⌝ }
-    ensures { λ r. ⌜ now (plan .exit) ≡ sets (now (plan .entry)) 0 (planWords (machine (now (tab .entry)) shapes) (length (now (arity .entry))) shapes (statesIn (now (scratch .entry)) m) (allBlocks (machine (now (tab .entry)) shapes) (statesIn (now (scratch .entry)) m) (now (arity .entry)))) ⌝ }
+    requires { ⌜ Kept (now scratch) m × AllGood (now symbols) (now tab) shapes (statesIn (now scratch) m) × ((s : List GoalWords) → s ∈ statesIn (now scratch) m → SmallOn (machine (now tab) shapes) s 0 (now symbols)) × Ready (now symbols) (now tab) shapes × (total ≡ length (planWords (machine (now tab) shapes) (length (now symbols)) shapes (statesIn (now scratch) m) (allBlocks (machine (now tab) shapes) (statesIn (now scratch) m) (now symbols)))) × (total ≤ length (now plan)) × (total ≤ 65535) ⌝ }
+    ensures { λ r. ⌜ now (plan .exit) ≡ sets (now (plan .entry)) 0 (planWords (machine (now (tab .entry)) shapes) (length (now (symbols .entry))) shapes (statesIn (now (scratch .entry)) m) (allBlocks (machine (now (tab .entry)) shapes) (statesIn (now (scratch .entry)) m) (now (symbols .entry)))) ⌝ }
 {
-    let k = arity.len();
+    let k = symbols.len();
     plan[0] = m as u16;
     plan[1] = k as u16;
     plan[2] = shapes as u16;
@@ -52,7 +52,7 @@ pub fn write_plan(
         plan[4 + i] = c;
         at = write_row(
             tab,
-            arity,
+            symbols,
             shapes,
             scratch,
             m,
@@ -68,7 +68,7 @@ pub fn write_plan(
 // The blocks of a state from `at` on, and their starts; answers the place after them.
 fn write_row(
     tab: &[u16],
-    arity: &[u8],
+    symbols: &[u8],
     shapes: usize,
     scratch: &[u16],
     m: usize,
@@ -77,18 +77,18 @@ fn write_row(
     at: usize,
     plan: &mut [u16],
 ) -> usize
-    requires { ⌜ Kept (now scratch) m × (state .0 < m) × AllGood (now arity) (now tab) shapes (statesIn (now scratch) m) × SmallOn (machine (now tab) shapes) (stateIn (now scratch) (state .0)) 0 (now arity) × (root .0 ≡ labelCode (now tab) (stateIn (now scratch) (state .0))) × (4 + m + state .0 * length (now arity) + length (now arity) ≤ at) × (at + length (concat (rowWords (now tab) shapes (now scratch) m (state .0) 0 (now arity))) ≤ length (now plan)) × (at + length (concat (rowWords (now tab) shapes (now scratch) m (state .0) 0 (now arity))) ≤ 65535) ⌝ }
-    ensures next { λ r. ⌜ r ≡ at + length (concat (rowWords (now (tab .entry)) shapes (now (scratch .entry)) m (state .0) 0 (now (arity .entry)))) ⌝ }
-    ensures wrote { λ r. ⌜ now (plan .exit) ≡ sets (sets (now (plan .entry)) (4 + m + state .0 * length (now (arity .entry))) (startsFrom at (rowWords (now (tab .entry)) shapes (now (scratch .entry)) m (state .0) 0 (now (arity .entry))))) at (concat (rowWords (now (tab .entry)) shapes (now (scratch .entry)) m (state .0) 0 (now (arity .entry)))) ⌝ }
+    requires { ⌜ Kept (now scratch) m × (state .0 < m) × AllGood (now symbols) (now tab) shapes (statesIn (now scratch) m) × SmallOn (machine (now tab) shapes) (stateIn (now scratch) (state .0)) 0 (now symbols) × (root .0 ≡ labelCode (now tab) (stateIn (now scratch) (state .0))) × (4 + m + state .0 * length (now symbols) + length (now symbols) ≤ at) × (at + length (concat (rowWords (now tab) shapes (now scratch) m (state .0) 0 (now symbols))) ≤ length (now plan)) × (at + length (concat (rowWords (now tab) shapes (now scratch) m (state .0) 0 (now symbols))) ≤ 65535) ⌝ }
+    ensures next { λ r. ⌜ r ≡ at + length (concat (rowWords (now (tab .entry)) shapes (now (scratch .entry)) m (state .0) 0 (now (symbols .entry)))) ⌝ }
+    ensures wrote { λ r. ⌜ now (plan .exit) ≡ sets (sets (now (plan .entry)) (4 + m + state .0 * length (now (symbols .entry))) (startsFrom at (rowWords (now (tab .entry)) shapes (now (scratch .entry)) m (state .0) 0 (now (symbols .entry))))) at (concat (rowWords (now (tab .entry)) shapes (now (scratch .entry)) m (state .0) 0 (now (symbols .entry)))) ⌝ }
 {
-    let starts = 4 + m + state.0 as usize * arity.len();
+    let starts = 4 + m + state.0 as usize * symbols.len();
     let mut here = at;
     let mut f = 0;
-    while f < arity.len() {
+    while f < symbols.len() {
         plan[starts + f] = here as u16;
         here = write_block(
             tab,
-            arity,
+            symbols,
             shapes,
             scratch,
             m,
@@ -106,7 +106,7 @@ fn write_row(
 // The block of a state on a symbol, from `at` on; answers the place after it.
 fn write_block(
     tab: &[u16],
-    arity: &[u8],
+    symbols: &[u8],
     shapes: usize,
     scratch: &[u16],
     m: usize,
@@ -116,16 +116,16 @@ fn write_block(
     at: usize,
     plan: &mut [u16],
 ) -> usize
-    requires { ⌜ Kept (now scratch) m × (state .0 < m) × AllGood (now arity) (now tab) shapes (statesIn (now scratch) m) × SmallOn (machine (now tab) shapes) (stateIn (now scratch) (state .0)) 0 (now arity) × (root .0 ≡ labelCode (now tab) (stateIn (now scratch) (state .0))) × (symbol .0 < length (now arity)) × (at + length (blockWords (blockOf (machine (now tab) shapes) (statesIn (now scratch) m) (stateIn (now scratch) (state .0)) (symbol .0) (getD (now arity) (symbol .0) 0))) ≤ length (now plan)) ⌝ }
-    ensures next { λ r. ⌜ r ≡ at + length (blockWords (blockOf (machine (now (tab .entry)) shapes) (statesIn (now (scratch .entry)) m) (stateIn (now (scratch .entry)) (state .0)) (symbol .0) (getD (now (arity .entry)) (symbol .0) 0))) ⌝ }
-    ensures wrote { λ r. ⌜ now (plan .exit) ≡ sets (now (plan .entry)) at (blockWords (blockOf (machine (now (tab .entry)) shapes) (statesIn (now (scratch .entry)) m) (stateIn (now (scratch .entry)) (state .0)) (symbol .0) (getD (now (arity .entry)) (symbol .0) 0))) ⌝ }
+    requires { ⌜ Kept (now scratch) m × (state .0 < m) × AllGood (now symbols) (now tab) shapes (statesIn (now scratch) m) × SmallOn (machine (now tab) shapes) (stateIn (now scratch) (state .0)) 0 (now symbols) × (root .0 ≡ labelCode (now tab) (stateIn (now scratch) (state .0))) × (symbol .0 < length (now symbols)) × (at + length (blockWords (blockOf (machine (now tab) shapes) (statesIn (now scratch) m) (stateIn (now scratch) (state .0)) (symbol .0) (getD (now symbols) (symbol .0) 0))) ≤ length (now plan)) ⌝ }
+    ensures next { λ r. ⌜ r ≡ at + length (blockWords (blockOf (machine (now (tab .entry)) shapes) (statesIn (now (scratch .entry)) m) (stateIn (now (scratch .entry)) (state .0)) (symbol .0) (getD (now (symbols .entry)) (symbol .0) 0))) ⌝ }
+    ensures wrote { λ r. ⌜ now (plan .exit) ≡ sets (now (plan .entry)) at (blockWords (blockOf (machine (now (tab .entry)) shapes) (statesIn (now (scratch .entry)) m) (stateIn (now (scratch .entry)) (state .0)) (symbol .0) (getD (now (symbols .entry)) (symbol .0) 0))) ⌝ }
 {
     let mut goals = [0u16; 288];
     let mut dep = [[false; 96]; 96];
     let mut order = [0u32; 96];
     let mut out = [0u32; 96];
     let i = state.0 as usize;
-    let k = arity[symbol.0 as usize] as u16;
+    let k = symbols[symbol.0 as usize] as u16;
     let from = 128 + 96 * i;
     let n = scratch[i] as usize;
     let outs = outputs(tab, scratch, from, n, root, symbol, &mut out);

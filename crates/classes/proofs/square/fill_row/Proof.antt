@@ -1,4 +1,4 @@
-use Rattle.goals.specs.GoalKinds.{goalOf, wordsOf}
+use Rattle.goals.specs.GoalKinds.{asGoal, asWords}
 use Rattle.goals.specs.declared.Goal.{Goal}
 use mathlib.Core.Path.{ap₂}
 use Rattle.classes.proofs.SquareLaws.{RowIs, row-none, row-more}
@@ -62,7 +62,7 @@ loop-less c = search needs
 loop-again : tie.Need-loop-again Inv-loop μ-loop
 loop-again c =
     let entry = c .before .before .before .before .before .before .before in
-    let a = entry .args in let l = c .before .before .before .loop in (omega arith, row-more (a .i) (λ b. depW (a .tab .now) (goalAt (a .ws .now) (3 * a .i)) (goalAt (a .ws .now) (3 * b))) (a .dep .now) (l .dep) (l .j) (c .depends .result) (omega (arith, entry .pre .1, entry .pre .2)) (omega (arith, entry .pre .1, c .before .before .loop-test .taken)) (l .inv .1) (c .depends .ensures ∙ ap₂ (λ (x y : Goal). depW (a .tab .now) (wordsOf x) (wordsOf y)) (c .before .before .before .before .goal-at .ensures) (c .before .goal-at2 .ensures)))
+    let a = entry .args in let l = c .before .before .before .loop in (omega arith, row-more (a .i) (λ b. depW (a .tab .now) (goalAt (a .ws .now) (3 * a .i)) (goalAt (a .ws .now) (3 * b))) (a .dep .now) (l .dep) (l .j) (c .depends .result) (omega (arith, entry .pre .1, entry .pre .2)) (omega (arith, entry .pre .1, c .before .before .loop-test .taken)) (l .inv .1) (c .depends .ensures ∙ ap₂ (λ (x y : Goal). depW (a .tab .now) (asWords x) (asWords y)) (c .before .before .before .before .goal-at .ensures) (c .before .goal-at2 .ensures)))
 
 returns : tie.Need-returns Inv-loop μ-loop
 returns c = let r = c .before .loop .inv .1 in (r .square, ((λ b h. r .row b (omega (arith, c .before .loop .inv .0, c .loop-test .left, h))), r .others))

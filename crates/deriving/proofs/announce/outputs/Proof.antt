@@ -1,4 +1,4 @@
-use Rattle.goals.specs.GoalKinds.{goalOf, wordsOf}
+use Rattle.goals.specs.GoalKinds.{asGoal, asWords}
 use Rattle.goals.specs.declared.Goal.{Goal}
 use Rattle.goals.specs.GoalWords.{pad}
 use Rattle.goals.specs.WordStages.{reduct}
@@ -125,7 +125,7 @@ loop-again c =
     let at-loop-test = c .before .before .before .loop-test in
     let at-goal-at = c .before .before .goal-at in
     let a = entry .args in let l = c .before .before .before .before .loop in
-    let d = c .before .reduce .ensures ∙ ap (λ (x : Goal). reduct (a .tab .now) (a .root .0) (a .symbol .0) (wordsOf x)) (at-goal-at .ensures) in
+    let d = c .before .reduce .ensures ∙ ap (λ (x : Goal). reduct (a .tab .now) (a .root .0) (a .symbol .0) (asWords x)) (at-goal-at .ensures) in
     ⊎-elim
     (λ w. rw (w .4, w .5) (listed-on (l .inv) (at-loop-test .taken) (eq-eqb _ _ (sym d ∙ w .0 .taken)) _ (ap₂ (λ (x : ℕ) (y : Goal). 128 * (16 * x + y .shape .0) + l .j) (w .2 .ensures ∙ ap (λ (y : Goal). pad (y .at .0)) (at-goal-at .ensures)) (at-goal-at .ensures))))
     (λ w. rw (w .1, w .2) (listed-off (l .inv) (at-loop-test .taken) (ne-eqb _ _ (λ e. w .0 .left (d ∙ e)))))

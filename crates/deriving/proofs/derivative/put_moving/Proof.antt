@@ -1,4 +1,4 @@
-use Rattle.goals.specs.GoalKinds.{goalOf, wordsOf}
+use Rattle.goals.specs.GoalKinds.{asGoal, asWords}
 use Rattle.goals.specs.WordStages.{reduct}
 use Rattle.goals.specs.declared.Goal.{Goal}
 use Rattle.kinds.proofs.ListLaws.{sets-append}
@@ -15,7 +15,7 @@ use native.Mathlib.Omega.{arith}
 use borrow.Author.Needs.{needs}
 use Rattle.deriving.proofs.derivative.put_moving.Statement.{statement}
 use Rattle.deriving.proofs.derivative.put_moving.Tie as tie
-use Rattle.goals.specs.GoalKinds.{goalOf, wordsOf}
+use Rattle.goals.specs.GoalKinds.{asGoal, asWords}
 use Rattle.goals.specs.WordStages.{reduct}
 use Rattle.goals.specs.declared.Goal.{Goal}
 use Rattle.deriving.proofs.derivative.put_moving.Reads as reads
@@ -73,9 +73,9 @@ loop-again c =
     let e = moves (a .tab .now) (a .root .0) (a .symbol .0) in
     let p = pass-next e (a .ws .now) (l .here) (l .left) (at-loop-test .taken) in
     let rest = Pass e (a .ws .now) (l .here + 3) (l .left - 1) in
-    let d = c .before .before .before .before .reduce .ensures ∙ ap (λ (r : Goal). reduct (a .tab .now) (a .root .0) (a .symbol .0) (wordsOf r)) (at-goal-at .ensures) in
-    let n = at-put-moved .ensures .0 ∙ ap₂ (λ (x : ℕ) (r : Goal). l .next + length (flat (goesOn x (wordsOf r)))) d (at-goal-at .ensures) in
-    let o = at-put-moved .ensures .1 ∙ ap₂ (λ (x : ℕ) (r : Goal). sets (l .out) (l .next) (flat (goesOn x (wordsOf r)))) d (at-goal-at .ensures) in (
+    let d = c .before .before .before .before .reduce .ensures ∙ ap (λ (r : Goal). reduct (a .tab .now) (a .root .0) (a .symbol .0) (asWords r)) (at-goal-at .ensures) in
+    let n = at-put-moved .ensures .0 ∙ ap₂ (λ (x : ℕ) (r : Goal). l .next + length (flat (goesOn x (asWords r)))) d (at-goal-at .ensures) in
+    let o = at-put-moved .ensures .1 ∙ ap₂ (λ (x : ℕ) (r : Goal). sets (l .out) (l .next) (flat (goesOn x (asWords r)))) d (at-goal-at .ensures) in (
       at-put-moved .kept .0 ∙ l .inv .0,
       omega arith,
       low,

@@ -1,4 +1,4 @@
-use Rattle.goals.specs.GoalKinds.{goalOf, wordsOf}
+use Rattle.goals.specs.GoalKinds.{asGoal, asWords}
 use Rattle.deriving.proofs.DeriveLaws.{no-node, no-symbol, reduces}
 use Rattle.goals.proofs.GoalLaws.{node-low}
 use Rattle.goals.specs.GoalWords.{nodeAt, sizeOf, goalW}
@@ -10,7 +10,7 @@ use native.Mathlib.Omega.{arith}
 use borrow.Author.Needs.{needs}
 use Rattle.deriving.proofs.derivative.reduce.Statement.{statement}
 use Rattle.deriving.proofs.derivative.reduce.Tie as tie
-use Rattle.goals.specs.GoalKinds.{goalOf, wordsOf}
+use Rattle.goals.specs.GoalKinds.{asGoal, asWords}
 use Rattle.deriving.proofs.derivative.reduce.Reads as reads
 use Rattle.deriving.proofs.derivative.reduce.Lts as lts
 use Rattle.goals.proofs.obligations.mask_after.Reads as mask-after-reads
@@ -25,7 +25,7 @@ node-at-requires : tie.Need-node-at-requires
 node-at-requires c κs = search needs
 
 returns : tie.Need-returns
-returns c = let a = c .before .before .before .before .args in sym (no-node (a .tab .now) (a .root .0) (a .symbol .0) (wordsOf (a .g)) (sym (c .before .node-at .ensures) ∙ c .if1 .taken))
+returns c = let a = c .before .before .before .before .args in sym (no-node (a .tab .now) (a .root .0) (a .symbol .0) (asWords (a .g)) (sym (c .before .node-at .ensures) ∙ c .if1 .taken))
 
 mul-if2 : tie.Need-mul-if2
 mul-if2 c = search needs
@@ -54,7 +54,7 @@ returns-2 : tie.Need-returns-2
 returns-2 c =
     let entry = c .before .before .before .before .before .before .before in
     let at-node-at = c .before .before .before .before .node-at in
-    let a = entry .args in sym (no-symbol (a .tab .now) (a .root .0) (a .symbol .0) (wordsOf (a .g)) (at-node-at .result) (at-node-at .ensures) (c .before .before .before .if1 .left) (c .if2 .taken))
+    let a = entry .args in sym (no-symbol (a .tab .now) (a .root .0) (a .symbol .0) (asWords (a .g)) (at-node-at .result) (at-node-at .ensures) (c .before .before .before .if1 .left) (c .if2 .taken))
 
 mul-mask-after : tie.Need-mul-mask-after
 mul-mask-after c = search needs
@@ -91,7 +91,7 @@ returns-3 : tie.Need-returns-3
 returns-3 c =
     let entry = c .before .before .before .before .before .before .before .before .before in
     let at-node-at = c .before .before .before .before .before .before .node-at in
-    let a = entry .args in c .mask-after .ensures ∙ sym (reduces (a .tab .now) (a .root .0) (a .symbol .0) (wordsOf (a .g)) (at-node-at .result) (at-node-at .ensures) (c .before .before .before .before .before .if1 .left) (c .before .before .if2 .left))
+    let a = entry .args in c .mask-after .ensures ∙ sym (reduces (a .tab .now) (a .root .0) (a .symbol .0) (asWords (a .g)) (at-node-at .result) (at-node-at .ensures) (c .before .before .before .before .before .if1 .left) (c .before .before .if2 .left))
 
 pub reduce-spec : {M : Type 1} → statement M
 reduce-spec =

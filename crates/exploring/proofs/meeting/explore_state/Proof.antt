@@ -16,10 +16,10 @@ use Rattle.exploring.proofs.meeting.explore_symbol.Reads as explore-sym
 use Rattle.goals.proofs.obligations.label.Reads as label-reads
 
 abbrev Inv-loop : tie.InvT-loop
-Inv-loop tab arity shapes scratch₀ m state i n c states₀ words₀ f₀ scratch states words f = Rowing arity tab shapes scratch₀ m (state .0) scratch states words f
+Inv-loop tab symbols shapes scratch₀ m state i n c states₀ words₀ f₀ scratch states words f = Rowing symbols tab shapes scratch₀ m (state .0) scratch states words f
 
 abbrev μ-loop : tie.MeasureT-loop
-μ-loop tab arity shapes scratch₀ m state i n c states₀ words₀ f₀ scratch states words f = length arity - f
+μ-loop tab symbols shapes scratch₀ m state i n c states₀ words₀ f₀ scratch states words f = length symbols - f
 
 -- src/meeting.rt:62:13
 mul-n : tie.Need-mul-n Inv-loop μ-loop
@@ -67,7 +67,7 @@ cast-c c =
 loop-holds : tie.Need-loop-holds Inv-loop μ-loop
 loop-holds c =
     let entry = c .before .before .before .before .before .before .before in
-    rowing-begin (entry .args .arity .now) (entry .args .tab .now) (entry .args .shapes) (entry .args .scratch .now) (entry .args .m) (entry .args .state .0) (entry .pre .0) (entry .pre .1) (entry .pre .2)
+    rowing-begin (entry .args .symbols .now) (entry .args .tab .now) (entry .args .shapes) (entry .args .scratch .now) (entry .args .m) (entry .args .state .0) (entry .pre .0) (entry .pre .1) (entry .pre .2)
 
 -- src/meeting.rt:68:15
 explore-symbol-requires : tie.Need-explore-symbol-requires Inv-loop μ-loop
@@ -88,7 +88,7 @@ add-words c =
     let at-loop = c .before .before .before .before .before .before .before .before .loop in
     let at-loop-test = c .before .before .before .before .before .before .before .loop-test in
     let at-explore-symbol = c .before .before .before .before .before .explore-symbol in
-    let s = (rowing-on (entry .args .arity .now) (entry .args .tab .now) (entry .args .shapes) (entry .args .scratch .now) (entry .args .m) (entry .args .state .0) (at-loop .inv) (at-loop-test .taken) (at-label .result) (at-label .ensures) _ (at-explore-symbol .result) _ _ (c .before .all .given .1) (at-explore-symbol .ensures .0) (at-explore-symbol .ensures .1) (at-explore-symbol .kept .1 .1 .1 .0)) in omega (arith, s .sum, s .below, (entry .pre .2 (stateIn (entry .args .scratch .now) (entry .args .state .0)) (state-in (entry .args .scratch .now) (entry .args .m) (entry .args .state .0) (entry .pre .1))) .ready .few-symbols)
+    let s = (rowing-on (entry .args .symbols .now) (entry .args .tab .now) (entry .args .shapes) (entry .args .scratch .now) (entry .args .m) (entry .args .state .0) (at-loop .inv) (at-loop-test .taken) (at-label .result) (at-label .ensures) _ (at-explore-symbol .result) _ _ (c .before .all .given .1) (at-explore-symbol .ensures .0) (at-explore-symbol .ensures .1) (at-explore-symbol .kept .1 .1 .1 .0)) in omega (arith, s .sum, s .below, (entry .pre .2 (stateIn (entry .args .scratch .now) (entry .args .state .0)) (state-in (entry .args .scratch .now) (entry .args .m) (entry .args .state .0) (entry .pre .1))) .ready .few-symbols)
 
 -- src/meeting.rt:73:26
 enum-known-reason : tie.Need-enum-known-reason Inv-loop μ-loop
@@ -108,7 +108,7 @@ returns c =
     let at-loop = c .before .before .before .before .before .before .before .before .loop in
     let at-loop-test = c .before .before .before .before .before .before .before .loop-test in
     let at-explore-symbol = c .before .before .before .before .before .explore-symbol in
-    (rowing-stop (entry .args .arity .now) (entry .args .tab .now) (entry .args .shapes) (entry .args .scratch .now) (entry .args .m) (entry .args .state .0) (at-loop .inv) (at-loop-test .taken) (at-label .result) (at-label .ensures) _ (at-explore-symbol .result) _ (c .before .reason .given .1) (at-explore-symbol .ensures .0), at-explore-symbol .ensures .1 ∙ at-loop .inv .behind)
+    (rowing-stop (entry .args .symbols .now) (entry .args .tab .now) (entry .args .shapes) (entry .args .scratch .now) (entry .args .m) (entry .args .state .0) (at-loop .inv) (at-loop-test .taken) (at-label .result) (at-label .ensures) _ (at-explore-symbol .result) _ (c .before .reason .given .1) (at-explore-symbol .ensures .0), at-explore-symbol .ensures .1 ∙ at-loop .inv .behind)
 
 -- src/meeting.rt:77:9
 add-f : tie.Need-add-f Inv-loop μ-loop
@@ -126,7 +126,7 @@ loop-again c =
     let at-loop = c .before .before .before .before .before .before .before .before .loop in
     let at-loop-test = c .before .before .before .before .before .before .before .loop-test in
     let at-explore-symbol = c .before .before .before .before .before .explore-symbol in
-    (rowing-on (entry .args .arity .now) (entry .args .tab .now) (entry .args .shapes) (entry .args .scratch .now) (entry .args .m) (entry .args .state .0) (at-loop .inv) (at-loop-test .taken) (at-label .result) (at-label .ensures) _ (at-explore-symbol .result) _ _ (c .before .all .given .1) (at-explore-symbol .ensures .0) (at-explore-symbol .ensures .1) (at-explore-symbol .kept .1 .1 .1 .0))
+    (rowing-on (entry .args .symbols .now) (entry .args .tab .now) (entry .args .shapes) (entry .args .scratch .now) (entry .args .m) (entry .args .state .0) (at-loop .inv) (at-loop-test .taken) (at-label .result) (at-label .ensures) _ (at-explore-symbol .result) _ _ (c .before .all .given .1) (at-explore-symbol .ensures .0) (at-explore-symbol .ensures .1) (at-explore-symbol .kept .1 .1 .1 .0))
 
 -- src/meeting.rt:57:1
 same-length-2 : tie.Need-same-length-2 Inv-loop μ-loop
@@ -136,7 +136,7 @@ same-length-2 c = c .before .loop .inv .long
 returns-2 : tie.Need-returns-2 Inv-loop μ-loop
 returns-2 c =
     let entry = c .before .before .before .before .before .before .before .before .before in
-    (rowing-end (entry .args .arity .now) (entry .args .tab .now) (entry .args .shapes) (entry .args .scratch .now) (entry .args .m) (entry .args .state .0) (c .before .loop .inv) (c .loop-test .left) ((entry .pre .2 (stateIn (entry .args .scratch .now) (entry .args .state .0)) (state-in (entry .args .scratch .now) (entry .args .m) (entry .args .state .0) (entry .pre .1))) .ready .few-symbols), c .before .loop .inv .behind)
+    (rowing-end (entry .args .symbols .now) (entry .args .tab .now) (entry .args .shapes) (entry .args .scratch .now) (entry .args .m) (entry .args .state .0) (c .before .loop .inv) (c .loop-test .left) ((entry .pre .2 (stateIn (entry .args .scratch .now) (entry .args .state .0)) (state-in (entry .args .scratch .now) (entry .args .m) (entry .args .state .0) (entry .pre .1))) .ready .few-symbols), c .before .loop .inv .behind)
 
 cast-i : tie.Need-cast-i Inv-loop μ-loop
 cast-i c = search needs

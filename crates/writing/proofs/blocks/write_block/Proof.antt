@@ -95,7 +95,7 @@ write-outputs-requires c κs =
     let entry = c .before .before .before .before .before .before .before .before .before .before .before .before .before .before in
     let at-outputs = c .before .before .before .before .outputs in
     let e = ap length (part-is (goesOut (entry .args .tab .now) (entry .args .scratch .now) (128 + 96 * entry .args .state .0) (entry .args .root .0) (entry .args .symbol .0)) (λ x. annKey (goalOn (entry .args .scratch .now) (128 + 96 * entry .args .state .0) x)) (getD (entry .args .scratch .now) (entry .args .state .0) 0) (replicate {A = ℕ} 96 0) (at-outputs .last .1 .1 .1 .1 .1 .1 .0) (at-outputs .result) (omega (arith, entry .pre .0 .counts (entry .args .state .0) (entry .pre .1))) (omega (arith, entry .pre .0 .counts (entry .args .state .0) (entry .pre .1))) (at-outputs .ensures .0) (at-outputs .ensures .1)) ∙ sort-length (outItems (entry .args .tab .now) (entry .args .scratch .now) (128 + 96 * entry .args .state .0) (entry .args .root .0) (entry .args .symbol .0) (getD (entry .args .scratch .now) (entry .args .state .0) 0)) ∙ sym (at-outputs .ensures .0) in
-    (part-few (goesOut (entry .args .tab .now) (entry .args .scratch .now) (128 + 96 * entry .args .state .0) (entry .args .root .0) (entry .args .symbol .0)) (λ x. annKey (goalOn (entry .args .scratch .now) (128 + 96 * entry .args .state .0) x)) (getD (entry .args .scratch .now) (entry .args .state .0) 0) (replicate {A = ℕ} 96 0) (at-outputs .last .1 .1 .1 .1 .1 .1 .0) (at-outputs .result) (omega (arith, entry .pre .0 .counts (entry .args .state .0) (entry .pre .1))) (omega (arith, entry .pre .0 .counts (entry .args .state .0) (entry .pre .1))) (at-outputs .ensures .0) (at-outputs .ensures .1), (λ j h. let w = part-within (goesOut (entry .args .tab .now) (entry .args .scratch .now) (128 + 96 * entry .args .state .0) (entry .args .root .0) (entry .args .symbol .0)) (λ x. annKey (goalOn (entry .args .scratch .now) (128 + 96 * entry .args .state .0) x)) (getD (entry .args .scratch .now) (entry .args .state .0) 0) (replicate {A = ℕ} 96 0) (at-outputs .last .1 .1 .1 .1 .1 .1 .0) (at-outputs .result) (omega (arith, entry .pre .0 .counts (entry .args .state .0) (entry .pre .1))) (omega (arith, entry .pre .0 .counts (entry .args .state .0) (entry .pre .1))) (at-outputs .ensures .0) (at-outputs .ensures .1) j h in omega (arith, w, entry .pre .0 .counts (entry .args .state .0) (entry .pre .1))), omega (arith, entry .pre .0 .long, entry .pre .0 .few, entry .pre .1), omega (arith, e, out-room (entry .args .tab .now) (entry .args .shapes) (statesIn (entry .args .scratch .now) (entry .args .m)) (stateIn (entry .args .scratch .now) (entry .args .state .0)) (entry .args .symbol .0) (getD (entry .args .arity .now) (entry .args .symbol .0) 0) (entry .args .root .0) (at-outputs .result) (entry .pre .4) (outs-many (entry .args .tab .now) (entry .args .scratch .now) (128 + 96 * entry .args .state .0) (entry .args .root .0) (entry .args .symbol .0) (getD (entry .args .scratch .now) (entry .args .state .0) 0) (at-outputs .result) (omega (arith, entry .pre .0 .counts (entry .args .state .0) (entry .pre .1))) (at-outputs .ensures .0)), entry .pre .6))
+    (part-few (goesOut (entry .args .tab .now) (entry .args .scratch .now) (128 + 96 * entry .args .state .0) (entry .args .root .0) (entry .args .symbol .0)) (λ x. annKey (goalOn (entry .args .scratch .now) (128 + 96 * entry .args .state .0) x)) (getD (entry .args .scratch .now) (entry .args .state .0) 0) (replicate {A = ℕ} 96 0) (at-outputs .last .1 .1 .1 .1 .1 .1 .0) (at-outputs .result) (omega (arith, entry .pre .0 .counts (entry .args .state .0) (entry .pre .1))) (omega (arith, entry .pre .0 .counts (entry .args .state .0) (entry .pre .1))) (at-outputs .ensures .0) (at-outputs .ensures .1), (λ j h. let w = part-within (goesOut (entry .args .tab .now) (entry .args .scratch .now) (128 + 96 * entry .args .state .0) (entry .args .root .0) (entry .args .symbol .0)) (λ x. annKey (goalOn (entry .args .scratch .now) (128 + 96 * entry .args .state .0) x)) (getD (entry .args .scratch .now) (entry .args .state .0) 0) (replicate {A = ℕ} 96 0) (at-outputs .last .1 .1 .1 .1 .1 .1 .0) (at-outputs .result) (omega (arith, entry .pre .0 .counts (entry .args .state .0) (entry .pre .1))) (omega (arith, entry .pre .0 .counts (entry .args .state .0) (entry .pre .1))) (at-outputs .ensures .0) (at-outputs .ensures .1) j h in omega (arith, w, entry .pre .0 .counts (entry .args .state .0) (entry .pre .1))), omega (arith, entry .pre .0 .long, entry .pre .0 .few, entry .pre .1), omega (arith, e, out-room (entry .args .tab .now) (entry .args .shapes) (statesIn (entry .args .scratch .now) (entry .args .m)) (stateIn (entry .args .scratch .now) (entry .args .state .0)) (entry .args .symbol .0) (getD (entry .args .symbols .now) (entry .args .symbol .0) 0) (entry .args .root .0) (at-outputs .result) (entry .pre .4) (outs-many (entry .args .tab .now) (entry .args .scratch .now) (128 + 96 * entry .args .state .0) (entry .args .root .0) (entry .args .symbol .0) (getD (entry .args .scratch .now) (entry .args .state .0) 0) (at-outputs .result) (omega (arith, entry .pre .0 .counts (entry .args .state .0) (entry .pre .1))) (at-outputs .ensures .0)), entry .pre .6))
 
 slice-aggregate-derive : tie.Need-slice-aggregate-derive
 slice-aggregate-derive c = search needs

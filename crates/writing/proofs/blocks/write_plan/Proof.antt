@@ -16,10 +16,10 @@ use Rattle.goals.proofs.obligations.label.Reads as label-reads
 use Rattle.writing.proofs.blocks.write_row.Reads as write-row-reads
 
 abbrev Inv-loop : tie.InvT-loop
-Inv-loop tab arity shapes scratch m total plan₀ k at₀ i₀ plan at i = Planned arity tab shapes scratch m plan₀ plan at i
+Inv-loop tab symbols shapes scratch m total plan₀ k at₀ i₀ plan at i = Planned symbols tab shapes scratch m plan₀ plan at i
 
 abbrev μ-loop : tie.MeasureT-loop
-μ-loop tab arity shapes scratch m total plan₀ k at₀ i₀ plan at i = m - i
+μ-loop tab symbols shapes scratch m total plan₀ k at₀ i₀ plan at i = m - i
 
 -- src/blocks.rt:33:15
 cast-plan : tie.Need-cast-plan Inv-loop μ-loop
@@ -29,7 +29,7 @@ cast-plan c = omega (arith, c .before .before .before .before .pre .0 .few)
 slice-write-plan : tie.Need-slice-write-plan Inv-loop μ-loop
 slice-write-plan c =
     let entry = c .before .before .before .before in
-    omega (arith, plan-total (entry .args .arity .now) (entry .args .tab .now) (entry .args .shapes) (entry .args .scratch .now) (entry .args .m) (entry .args .total) (entry .pre .4), entry .pre .5)
+    omega (arith, plan-total (entry .args .symbols .now) (entry .args .tab .now) (entry .args .shapes) (entry .args .scratch .now) (entry .args .m) (entry .args .total) (entry .pre .4), entry .pre .5)
 
 -- src/blocks.rt:34:15
 cast-plan-2 : tie.Need-cast-plan-2 Inv-loop μ-loop
@@ -39,7 +39,7 @@ cast-plan-2 c = omega (arith, c .before .before .before .before .pre .3 .few-sym
 slice-write-plan-2 : tie.Need-slice-write-plan-2 Inv-loop μ-loop
 slice-write-plan-2 c =
     let entry = c .before .before .before .before in
-    omega (arith, plan-total (entry .args .arity .now) (entry .args .tab .now) (entry .args .shapes) (entry .args .scratch .now) (entry .args .m) (entry .args .total) (entry .pre .4), entry .pre .5, length-set (entry .args .plan .now) 0 (entry .args .m))
+    omega (arith, plan-total (entry .args .symbols .now) (entry .args .tab .now) (entry .args .shapes) (entry .args .scratch .now) (entry .args .m) (entry .args .total) (entry .pre .4), entry .pre .5, length-set (entry .args .plan .now) 0 (entry .args .m))
 
 -- src/blocks.rt:35:15
 cast-plan-3 : tie.Need-cast-plan-3 Inv-loop μ-loop
@@ -49,7 +49,7 @@ cast-plan-3 c = omega (arith, c .before .before .before .before .pre .3 .few-sha
 slice-write-plan-3 : tie.Need-slice-write-plan-3 Inv-loop μ-loop
 slice-write-plan-3 c =
     let entry = c .before .before .before .before in
-    omega (arith, plan-total (entry .args .arity .now) (entry .args .tab .now) (entry .args .shapes) (entry .args .scratch .now) (entry .args .m) (entry .args .total) (entry .pre .4), entry .pre .5, length-set (entry .args .plan .now) 0 (entry .args .m), length-set (set (entry .args .plan .now) 0 (entry .args .m)) 1 (length (entry .args .arity .now)))
+    omega (arith, plan-total (entry .args .symbols .now) (entry .args .tab .now) (entry .args .shapes) (entry .args .scratch .now) (entry .args .m) (entry .args .total) (entry .pre .4), entry .pre .5, length-set (entry .args .plan .now) 0 (entry .args .m), length-set (set (entry .args .plan .now) 0 (entry .args .m)) 1 (length (entry .args .symbols .now)))
 
 -- src/blocks.rt:36:15
 cast-plan-4 : tie.Need-cast-plan-4 Inv-loop μ-loop
@@ -59,7 +59,7 @@ cast-plan-4 c = omega (arith, c .before .before .before .before .pre .6)
 slice-write-plan-4 : tie.Need-slice-write-plan-4 Inv-loop μ-loop
 slice-write-plan-4 c =
     let entry = c .before .before .before .before in
-    omega (arith, plan-total (entry .args .arity .now) (entry .args .tab .now) (entry .args .shapes) (entry .args .scratch .now) (entry .args .m) (entry .args .total) (entry .pre .4), entry .pre .5, head-length (entry .args .plan .now) (entry .args .m) (length (entry .args .arity .now)) (entry .args .shapes) (entry .args .total), length-set (set (set (set (entry .args .plan .now) 0 (entry .args .m)) 1 (length (entry .args .arity .now))) 2 (entry .args .shapes)) 3 (entry .args .total))
+    omega (arith, plan-total (entry .args .symbols .now) (entry .args .tab .now) (entry .args .shapes) (entry .args .scratch .now) (entry .args .m) (entry .args .total) (entry .pre .4), entry .pre .5, head-length (entry .args .plan .now) (entry .args .m) (length (entry .args .symbols .now)) (entry .args .shapes) (entry .args .total), length-set (set (set (set (entry .args .plan .now) 0 (entry .args .m)) 1 (length (entry .args .symbols .now))) 2 (entry .args .shapes)) 3 (entry .args .total))
 
 -- src/blocks.rt:37:18
 add-at : tie.Need-add-at Inv-loop μ-loop
@@ -69,19 +69,19 @@ add-at c = omega (arith, c .before .before .before .before .pre .0 .few)
 mul-at : tie.Need-mul-at Inv-loop μ-loop
 mul-at c =
     let entry = c .before .before .before .before in
-    omega (arith, plan-total (entry .args .arity .now) (entry .args .tab .now) (entry .args .shapes) (entry .args .scratch .now) (entry .args .m) (entry .args .total) (entry .pre .4), entry .pre .6)
+    omega (arith, plan-total (entry .args .symbols .now) (entry .args .tab .now) (entry .args .shapes) (entry .args .scratch .now) (entry .args .m) (entry .args .total) (entry .pre .4), entry .pre .6)
 
 -- src/blocks.rt:37:18
 add-at-2 : tie.Need-add-at-2 Inv-loop μ-loop
 add-at-2 c =
     let entry = c .before .before .before .before in
-    omega (arith, plan-total (entry .args .arity .now) (entry .args .tab .now) (entry .args .shapes) (entry .args .scratch .now) (entry .args .m) (entry .args .total) (entry .pre .4), entry .pre .6)
+    omega (arith, plan-total (entry .args .symbols .now) (entry .args .tab .now) (entry .args .shapes) (entry .args .scratch .now) (entry .args .m) (entry .args .total) (entry .pre .4), entry .pre .6)
 
 -- src/blocks.rt:39:5
 loop-holds : tie.Need-loop-holds Inv-loop μ-loop
 loop-holds c =
     let entry = c .before .before .before .before in
-    planned-begin (entry .args .arity .now) (entry .args .tab .now) (entry .args .shapes) (entry .args .scratch .now) (entry .args .m) (set (set (set (set (entry .args .plan .now) 0 (entry .args .m)) 1 (length (entry .args .arity .now))) 2 (entry .args .shapes)) 3 (entry .args .total))
+    planned-begin (entry .args .symbols .now) (entry .args .tab .now) (entry .args .shapes) (entry .args .scratch .now) (entry .args .m) (set (set (set (set (entry .args .plan .now) 0 (entry .args .m)) 1 (length (entry .args .symbols .now))) 2 (entry .args .shapes)) 3 (entry .args .total))
 
 -- src/blocks.rt:40:43
 mul-label : tie.Need-mul-label Inv-loop μ-loop
@@ -143,7 +143,7 @@ mul-plan c =
 slice-write-plan-5 : tie.Need-slice-write-plan-5 Inv-loop μ-loop
 slice-write-plan-5 c =
     let entry = c .before .before .before .before .before .before .before .before in
-    omega (arith, c .before .before .loop-test .taken, c .before .before .before .loop .inv .long, head-length (entry .args .plan .now) (entry .args .m) (length (entry .args .arity .now)) (entry .args .shapes) (entry .args .total), plan-total (entry .args .arity .now) (entry .args .tab .now) (entry .args .shapes) (entry .args .scratch .now) (entry .args .m) (entry .args .total) (entry .pre .4), entry .pre .5)
+    omega (arith, c .before .before .loop-test .taken, c .before .before .before .loop .inv .long, head-length (entry .args .plan .now) (entry .args .m) (length (entry .args .symbols .now)) (entry .args .shapes) (entry .args .total), plan-total (entry .args .symbols .now) (entry .args .tab .now) (entry .args .shapes) (entry .args .scratch .now) (entry .args .m) (entry .args .total) (entry .pre .4), entry .pre .5)
 
 -- src/blocks.rt:42:9
 write-row-requires : tie.Need-write-row-requires Inv-loop μ-loop
@@ -151,8 +151,8 @@ write-row-requires c κs =
     let entry = c .before .before .before .before .before .before .before .before .before in
     let at-loop = c .before .before .before .before .loop in
     let at-loop-test = c .before .before .before .loop-test in
-    let r = planned-room (entry .args .arity .now) (entry .args .tab .now) (entry .args .shapes) (entry .args .scratch .now) (entry .args .m) (at-loop .inv) (at-loop-test .taken) in let l = length-set (at-loop .plan) (4 + (at-loop .i)) (c .before .label .result) in
-    (entry .pre .0, at-loop-test .taken, entry .pre .1, entry .pre .2 (stateIn (entry .args .scratch .now) (at-loop .i)) (state-in (entry .args .scratch .now) (entry .args .m) (at-loop .i) (at-loop-test .taken)), c .before .label .ensures, (planned-below (entry .args .arity .now) (entry .args .tab .now) (entry .args .shapes) (entry .args .scratch .now) (entry .args .m) (at-loop .inv) (at-loop-test .taken)), omega (arith, r, l, at-loop .inv .long, head-length (entry .args .plan .now) (entry .args .m) (length (entry .args .arity .now)) (entry .args .shapes) (entry .args .total), plan-total (entry .args .arity .now) (entry .args .tab .now) (entry .args .shapes) (entry .args .scratch .now) (entry .args .m) (entry .args .total) (entry .pre .4), entry .pre .5), omega (arith, r, plan-total (entry .args .arity .now) (entry .args .tab .now) (entry .args .shapes) (entry .args .scratch .now) (entry .args .m) (entry .args .total) (entry .pre .4), entry .pre .6))
+    let r = planned-room (entry .args .symbols .now) (entry .args .tab .now) (entry .args .shapes) (entry .args .scratch .now) (entry .args .m) (at-loop .inv) (at-loop-test .taken) in let l = length-set (at-loop .plan) (4 + (at-loop .i)) (c .before .label .result) in
+    (entry .pre .0, at-loop-test .taken, entry .pre .1, entry .pre .2 (stateIn (entry .args .scratch .now) (at-loop .i)) (state-in (entry .args .scratch .now) (entry .args .m) (at-loop .i) (at-loop-test .taken)), c .before .label .ensures, (planned-below (entry .args .symbols .now) (entry .args .tab .now) (entry .args .shapes) (entry .args .scratch .now) (entry .args .m) (at-loop .inv) (at-loop-test .taken)), omega (arith, r, l, at-loop .inv .long, head-length (entry .args .plan .now) (entry .args .m) (length (entry .args .symbols .now)) (entry .args .shapes) (entry .args .total), plan-total (entry .args .symbols .now) (entry .args .tab .now) (entry .args .shapes) (entry .args .scratch .now) (entry .args .m) (entry .args .total) (entry .pre .4), entry .pre .5), omega (arith, r, plan-total (entry .args .symbols .now) (entry .args .tab .now) (entry .args .shapes) (entry .args .scratch .now) (entry .args .m) (entry .args .total) (entry .pre .4), entry .pre .6))
 
 -- src/blocks.rt:43:9
 add-i : tie.Need-add-i Inv-loop μ-loop
@@ -170,19 +170,19 @@ loop-again c =
     let at-loop-test = c .before .before .before .before .before .before .loop-test in
     let at-label = c .before .before .before .before .label in
     let at-write-row = c .before .before .write-row in
-    planned-on (entry .args .arity .now) (entry .args .tab .now) (entry .args .shapes) (entry .args .scratch .now) (entry .args .m) (at-loop .inv) (at-loop-test .taken) (entry .pre .1 (stateIn (entry .args .scratch .now) (at-loop .i)) (state-in (entry .args .scratch .now) (entry .args .m) (at-loop .i) (at-loop-test .taken))) (at-label .result) (at-label .ensures) _ (at-write-row .result) (at-write-row .ensures .1) (at-write-row .ensures .0)
+    planned-on (entry .args .symbols .now) (entry .args .tab .now) (entry .args .shapes) (entry .args .scratch .now) (entry .args .m) (at-loop .inv) (at-loop-test .taken) (entry .pre .1 (stateIn (entry .args .scratch .now) (at-loop .i)) (state-in (entry .args .scratch .now) (entry .args .m) (at-loop .i) (at-loop-test .taken))) (at-label .result) (at-label .ensures) _ (at-write-row .result) (at-write-row .ensures .1) (at-write-row .ensures .0)
 
 -- src/blocks.rt:28:1
 same-length : tie.Need-same-length Inv-loop μ-loop
 same-length c =
     let entry = c .before .before .before .before .before .before in
-    c .before .loop .inv .long ∙ head-length (entry .args .plan .now) (entry .args .m) (length (entry .args .arity .now)) (entry .args .shapes) (entry .args .total)
+    c .before .loop .inv .long ∙ head-length (entry .args .plan .now) (entry .args .m) (length (entry .args .symbols .now)) (entry .args .shapes) (entry .args .total)
 
 -- src/blocks.rt:28:1
 returns : tie.Need-returns Inv-loop μ-loop
 returns c =
     let entry = c .before .before .before .before .before .before in
-    planned-end (entry .args .arity .now) (entry .args .tab .now) (entry .args .shapes) (entry .args .scratch .now) (entry .args .m) (c .before .loop .inv) (c .loop-test .left) (entry .args .plan .now) (entry .args .total) (entry .pre .4) refl
+    planned-end (entry .args .symbols .now) (entry .args .tab .now) (entry .args .shapes) (entry .args .scratch .now) (entry .args .m) (c .before .loop .inv) (c .loop-test .left) (entry .args .plan .now) (entry .args .total) (entry .pre .4) refl
 
 cast-t25 : tie.Need-cast-t25 Inv-loop μ-loop
 cast-t25 c =
