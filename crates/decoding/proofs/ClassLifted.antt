@@ -23,8 +23,8 @@ use Rattle.automaton.proofs.Sound.{Sound, SoundState}
 use Rattle.automaton.proofs.Bounds.{root-label, ann-small, gcp-small}
 use Rattle.automaton.proofs.Reachable.{class-sound, class-announces, lift-sound}
 use Rattle.goals.specs.GoalWords.{GoalWords, labelCode}
-use Rattle.goals.specs.WordStages.{derivW, leastCode, underCode, liftW, classesW}
-use Rattle.decoding.specs.Decoding.{goalMeant, stateMeant}
+use Rattle.goals.specs.WordStages.{derivW, leastCode, underCode, liftW, classesW, displacementW}
+use Rattle.decoding.specs.Decoding.{goalMeant, stateMeant, codesEnd}
 use Rattle.decoding.specs.GoodStates.{Ready, settingOf}
 use Rattle.decoding.proofs.GcpDecoded.{Tops, none, more, TopIn, now, late, gcp-is}
 use Rattle.decoding.proofs.LiftDecoded.{under-is, lift-is}
@@ -68,7 +68,7 @@ module _ {ar tab : List ℕ} {n : ℕ} (r : Ready ar tab n) where
     pub displaced-small : Small (gcp s)
     displaced-small = gcp-small (settingOf r) s (part .sound) (part .top .goal) (part .top .inside)
 
-    pub part-displaced : leastCode 65535 c ≡ code (gcp s)
+    pub part-displaced : displacementW c ≡ code (gcp s)
     part-displaced =
         let l = small-code (gcp s) displaced-small in
         gcp-is (r .shapes) (gcp s) c (part .bounded .code) (tops-of (gcp s) s (λ g m. gcp-below s g m)) (top-in (gcp s) s (part .top .goal) (part .top .inside) (sym (part .top .at))) (omega arith)
@@ -80,29 +80,29 @@ module _ {ar tab : List ℕ} {n : ℕ} (r : Ready ar tab n) where
         let b = gcp-below s (goalMeant (r .shapes) g) i in
         small-rest (gcp s) (b .by) (subst Small (b .eq) (ann-small (settingOf r) s (part .sound) (goalMeant (r .shapes) g) i))
 
-    pub part-lifted : stateMeant (r .shapes) (map (liftW (leastCode 65535 c)) c) ≡ lift (bare (r .shapes)) s
+    pub part-lifted : stateMeant (r .shapes) (map (liftW (displacementW c)) c) ≡ lift (bare (r .shapes)) s
     part-lifted =
-        map-map (goalMeant (r .shapes)) (liftW (leastCode 65535 c)) c
-        ∙ map-same (λ g. goalMeant (r .shapes) (liftW (leastCode 65535 c) g)) (λ g. liftGoal (bare (r .shapes)) (gcp s) (goalMeant (r .shapes) g)) c one
+        map-map (goalMeant (r .shapes)) (liftW (displacementW c)) c
+        ∙ map-same (λ g. goalMeant (r .shapes) (liftW (displacementW c) g)) (λ g. liftGoal (bare (r .shapes)) (gcp s) (goalMeant (r .shapes) g)) c one
         ∙ sym (map-map (liftGoal (bare (r .shapes)) (gcp s)) (goalMeant (r .shapes)) c)
       where
-        one : (g : GoalWords) → g ∈ c → goalMeant (r .shapes) (liftW (leastCode 65535 c) g) ≡ liftGoal (bare (r .shapes)) (gcp s) (goalMeant (r .shapes) g)
+        one : (g : GoalWords) → g ∈ c → goalMeant (r .shapes) (liftW (displacementW c) g) ≡ liftGoal (bare (r .shapes)) (gcp s) (goalMeant (r .shapes) g)
         one g m =
             let b = gcp-below s (goalMeant (r .shapes) g) (map-in (goalMeant (r .shapes)) m) in
             let q = rest-small g m in
             let l = q .short in
             ap (λ x. goalMeant (r .shapes) (liftW x g)) part-displaced ∙ lift-is (r .shapes) (gcp s) (b .by) g (part .bounded .code g m) (b .eq) (q .digits) (omega arith)
 
-    pub lifted-good : length c ≤ 32 → GoodFor r (map (liftW (leastCode 65535 c)) c)
+    pub lifted-good : length c ≤ 32 → GoodFor r (map (liftW (displacementW c)) c)
     lifted-good few = record {
       sound = subst (SoundState (settingOf r)) (sym part-lifted)
           (root-label (settingOf r) (lift (bare (r .shapes)) s) (lift-sound (settingOf r) s (part .sound)) (liftGoal (bare (r .shapes)) (gcp s) (part .top .goal)) (map-in (liftGoal (bare (r .shapes)) (gcp s)) (part .top .inside))
           (ap (strip (gcp s)) (sym (part .top .at)) ∙ strip-self (gcp s)));
-      few = let e = length-map c (liftW (leastCode 65535 c)) in omega arith;
-      bounded = record { code = λ g m. on-map (liftW (leastCode 65535 c)) c m λ h i e. rw e (low h i); mask = λ g m. on-map (liftW (leastCode 65535 c)) c m λ h i e. rw e (part .bounded .mask h i) };
+      few = let e = length-map c (liftW (displacementW c)) in omega arith;
+      bounded = record { code = λ g m. on-map (liftW (displacementW c)) c m λ h i e. rw e (low h i); mask = λ g m. on-map (liftW (displacementW c)) c m λ h i e. rw e (part .bounded .mask h i) };
     }
       where
-        low : (h : GoalWords) → h ∈ c → underCode (leastCode 65535 c) (h .an) < 78125
+        low : (h : GoalWords) → h ∈ c → underCode (displacementW c) (h .an) < codesEnd
         low h i =
             let b = gcp-below s (goalMeant (r .shapes) h) (map-in (goalMeant (r .shapes)) i) in
             let q = rest-small h i in
@@ -110,5 +110,5 @@ module _ {ar tab : List ℕ} {n : ℕ} (r : Ready ar tab n) where
             let z = small-code (b .by) q in
             let a : h .an ≡ code (gcp s ++ b .by) = sym (code-decode (h .an) (part .bounded .code h i)) ∙ ap code (b .eq) in
             let u = under-is (gcp s) (b .by) (q .digits) (omega arith) in
-            let v : underCode (leastCode 65535 c) (h .an) ≡ code (b .by) = ap (λ x. underCode x (h .an)) part-displaced ∙ ap (underCode (code (gcp s))) a ∙ u in
+            let v : underCode (displacementW c) (h .an) ≡ code (b .by) = ap (λ x. underCode x (h .an)) part-displaced ∙ ap (underCode (code (gcp s))) a ∙ u in
             omega (arith, v, z)

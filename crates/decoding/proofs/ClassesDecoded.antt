@@ -21,7 +21,7 @@ use Rattle.automaton.specs.Goals.{Goal, allObs, first}
 use Rattle.automaton.specs.Classes.{Square, close, picked, rowsFrom, dep, closed, classBefore, classes}
 use Rattle.automaton.proofs.Classes.{Class, class-some, on-row, picked-in, picked-map}
 use Rattle.automaton.proofs.Derivative.{owes, first-in}
-use Rattle.goals.specs.GoalWords.{GoalWords, owedBy, pad, firstCode}
+use Rattle.goals.specs.GoalWords.{GoalWords, owedBy, pad, firstCode, noCode}
 use Rattle.goals.specs.WordStages.{depW, pickedW, closedW, classKey, classBeforeW, classesW}
 use Rattle.decoding.specs.Decoding.{shapeAt, goalMeant, stateMeant, TableOf}
 use Rattle.decoding.proofs.PaddedCodes.{code-before}
@@ -66,7 +66,7 @@ module _ (shapes : List Term) (tab : List ℕ) (tables : (s : ℕ) → s < lengt
   pub key-is : (gs : List GoalWords) → Owing gs → classKey tab gs ≡ pad (code (firstOf gs))
   unfolding classKey
   key-is gs w =
-      ap (λ cs. pad (firstCode 65535 cs)) (owed-all gs (w .fine))
+      ap (λ cs. pad (firstCode noCode cs)) (owed-all gs (w .fine))
       ∙ ap pad (first-from (allObs (stateMeant shapes gs)) (all-fit gs (w .fine)) (λ e. let i : w .some-ob ∈ [] = subst (λ os. w .some-ob ∈ os) e (w .owed) in in-none i))
 
   first-fit : (gs : List GoalWords) → Owing gs → Fit (firstOf gs ∷ [])

@@ -22,6 +22,7 @@ use Rattle.goals.specs.GoalWords.{GoalWords, owedBy, pad, firstCode, rootCodes,
 use Rattle.goals.specs.WordStages.{stays, moves, freshW, freshesW, bornW, derivW}
 use Rattle.term.specs.Places.{sub, dom}
 use Rattle.term.specs.Terms.{count, Term, blank, node, Terms, span}
+use Rattle.contents.specs.Tables.{blankWord}
 
 last : (b : Bool) (h : (Goal Pos)) (ys : List (Goal Pos)) → cond b (h ∷ []) [] ++ ys ≡ cond b (h ∷ ys) ys
 last true h ys = refl
@@ -55,7 +56,7 @@ module _ (shapes : List Term) (tab : List ℕ) (tables : (s : ℕ) → s < lengt
         go true = refl
         go false = refl
 
-    module _ (f k : ℕ) (symbol : f < 65535) (few : k ≤ 4) (arity : (s : ℕ) (p : Pos) (ts : Terms) → sub (shapeAt shapes s) p ≡ some (node f ts) → count ts ≡ k) (blanks : (s : ℕ) (p : Pos) (w : ℕ) → sub (shapeAt shapes s) p ≡ some (blank w) → 65535 ≤ w) where
+    module _ (f k : ℕ) (symbol : f < blankWord) (few : k ≤ 4) (arity : (s : ℕ) (p : Pos) (ts : Terms) → sub (shapeAt shapes s) p ≡ some (node f ts) → count ts ≡ k) (blanks : (s : ℕ) (p : Pos) (w : ℕ) → sub (shapeAt shapes s) p ≡ some (blank w) → blankWord ≤ w) where
       moving : (gs : List GoalWords) → ((g : GoalWords) → g ∈ gs → Fine shapes g)
           → map (goalMeant shapes) (gather (moves tab (code P) f) gs) ≡ filter (λ g. not (isNil (g .obs))) (map (reduced (bare shapes) P k) (filter (bare shapes .expects f P) (stateMeant shapes gs)))
       moving [] fine = refl

@@ -39,16 +39,17 @@ use Rattle.automaton.proofs.Reachable.{deriv-sound}
 use Rattle.automaton.proofs.Classes.{picked-in}
 use Rattle.goals.specs.GoalWords.{GoalWords, nodeAt, labelCode}
 use Rattle.goals.specs.WordStages.{stays, moves, reduct, goesOn, withMask, freshW, freshesW, bornW, derivW, pickedW, closedW, classBeforeW, classesW}
-use Rattle.decoding.specs.Decoding.{shapeAt, goalMeant, stateMeant}
+use Rattle.decoding.specs.Decoding.{shapeAt, goalMeant, stateMeant, codesEnd}
 use Rattle.decoding.specs.GoodStates.{Ready, settingOf, GoodState}
 use Rattle.decoding.proofs.GoalDecoded.{Fine}
 use Rattle.decoding.proofs.Goalwise.{goal-apart}
 use Rattle.decoding.proofs.LabelDecoded.{rootObs, label-is}
 use Rattle.decoding.proofs.DerivDecoded.{deriv-is}
 use Rattle.decoding.proofs.ReductDecoded.{Reduct, missed, cut, reduct-is}
+use Rattle.contents.specs.Tables.{blankWord}
 
 pub record Bounded (shapes : List Term) (gs : List GoalWords) : Type 0 where
-  pub code : (g : GoalWords) → g ∈ gs → g .an < 78125
+  pub code : (g : GoalWords) → g ∈ gs → g .an < codesEnd
   pub mask : (g : GoalWords) → g ∈ gs → g .mask < 2 ^ span (shapeAt shapes (g .sh))
 
 pub bounded-within : (shapes : List Term) (gs hs : List GoalWords) → hs ⊆ gs → Bounded shapes gs → Bounded shapes hs
@@ -66,7 +67,7 @@ pub for-good : {ar tab : List ℕ} {n : ℕ} (r : Ready ar tab n) (gs : List Goa
 for-good r gs w = record { ready = r; sound = w .sound; few = w .few; code = w .bounded .code; mask = w .bounded .mask }
 
 -- ---- past the shapes stands a blank, which fits
-shape-fits : (ar : List ℕ) (shapes : List Term) → ((i : ℕ) (t : Term) → getElem? shapes i ≡ some t → IsShape ar t) → (s : ℕ) → Fits ar 65535 (shapeAt shapes s)
+shape-fits : (ar : List ℕ) (shapes : List Term) → ((i : ℕ) (t : Term) → getElem? shapes i ≡ some t → IsShape ar t) → (s : ℕ) → Fits ar blankWord (shapeAt shapes s)
 shape-fits ar [] h s = omega arith
 shape-fits ar (t ∷ ts) h zero = h 0 t refl .fits
 shape-fits ar (t ∷ ts) h (suc s) = shape-fits ar ts (λ i u e. h (suc i) u e) s
@@ -77,7 +78,7 @@ module _ {ar tab : List ℕ} {n : ℕ} (r : Ready ar tab n) where
     shape = at-below (r .shapes) (g .sh) (real .is-shape);
     small = b .code g m;
     bits = b .mask g m;
-    low = rw (getD-at (r .shapes) (g .sh) (blank 65535) (real .is-shape)) (r .is-shape (g .sh) (real .shape) (real .is-shape) .small);
+    low = rw (getD-at (r .shapes) (g .sh) (blank blankWord) (real .is-shape)) (r .is-shape (g .sh) (real .shape) (real .is-shape) .small);
     fit = λ q i. let s = w .small (decode (g .an) ++ q) (owes inside (map-in (λ x. decode (g .an) ++ x) i)) in (s .digits, s .short);
     apart = goal-apart (r .shapes) g alone;
   }
@@ -124,14 +125,14 @@ module _ {ar tab : List ℕ} {n : ℕ} (r : Ready ar tab n) where
       abbrev D : List GoalWords
       D = derivW tab n (labelCode tab gs) f k gs
 
-      symbol : f < 65535
+      symbol : f < blankWord
       symbol = let h = at-below ar f a in let l = r .few-symbols in omega arith
 
       arity : (s : ℕ) (p : Pos) (ts : Terms) → sub (shapeAt (r .shapes) s) p ≡ some (node f ts) → count ts ≡ k
-      arity s p ts e = let h = fits-sub ar 65535 p (shapeAt (r .shapes) s) (shape-fits ar (r .shapes) (r .is-shape) s) e .1 in cc
+      arity s p ts e = let h = fits-sub ar blankWord p (shapeAt (r .shapes) s) (shape-fits ar (r .shapes) (r .is-shape) s) e .1 in cc
 
-      blanks : (s : ℕ) (p : Pos) (w : ℕ) → sub (shapeAt (r .shapes) s) p ≡ some (blank w) → 65535 ≤ w
-      blanks s p w e = fits-sub ar 65535 p (shapeAt (r .shapes) s) (shape-fits ar (r .shapes) (r .is-shape) s) e
+      blanks : (s : ℕ) (p : Pos) (w : ℕ) → sub (shapeAt (r .shapes) s) p ≡ some (blank w) → blankWord ≤ w
+      blanks s p w e = fits-sub ar blankWord p (shapeAt (r .shapes) s) (shape-fits ar (r .shapes) (r .is-shape) s) e
 
       pub deriv-decoded : stateMeant (r .shapes) D ≡ deriv (bare (r .shapes)) S f k
       deriv-decoded =
@@ -186,7 +187,7 @@ module _ {ar tab : List ℕ} {n : ℕ} (r : Ready ar tab n) where
       pub deriv-bounded : Bounded (r .shapes) D
       deriv-bounded = record { code = λ g m. code-of (deriv-from g m); mask = λ g m. mask-of (deriv-from g m) }
         where
-          code-of : {g : GoalWords} → FromWords g → g .an < 78125
+          code-of : {g : GoalWords} → FromWords g → g .an < codesEnd
           code-of {g} (stayed i) = good .bounded .code g i
           code-of (moved h x i l e) = rw e (good .bounded .code h i)
           code-of (born i j l u w e) = let c = label-low in let d = r .children f k a in rw e (omega arith)

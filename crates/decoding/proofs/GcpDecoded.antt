@@ -14,9 +14,9 @@ use Rattle.automaton.specs.Goals.{Goal, State}
 use Rattle.kinds.proofs.Codes.{code-of, code-le}
 use Rattle.kinds.proofs.Members.{_∈_, here, there}
 use Rattle.kinds.specs.Positions.{Pos, code, join, decode}
-use Rattle.decoding.specs.Decoding.{goalMeant, stateMeant}
-use Rattle.goals.specs.GoalWords.{GoalWords}
-use Rattle.goals.specs.WordStages.{leastCode}
+use Rattle.decoding.specs.Decoding.{goalMeant, stateMeant, codesEnd}
+use Rattle.goals.specs.GoalWords.{GoalWords, noCode}
+use Rattle.goals.specs.WordStages.{leastCode, displacementW}
 use Rattle.term.specs.Terms.{Term}
 
 -- a number that is met, and no number is less
@@ -77,7 +77,7 @@ top-is-gcp T (g ∷ s) (more q e m) (now z) = ap (λ p. gcpFrom p s) z ∙ from-
 top-is-gcp T (g ∷ s) (more q e m) (late i) = ap (λ p. gcpFrom p s) e ∙ from-any T q s m i
 
 module _ (shapes : List Term) (T : Pos) where
-  above : (gs : List GoalWords) → ((g : GoalWords) → g ∈ gs → g .an < 78125) → Tops T (stateMeant shapes gs) → (g : GoalWords) → g ∈ gs → code T ≤ g .an
+  above : (gs : List GoalWords) → ((g : GoalWords) → g ∈ gs → g .an < codesEnd) → Tops T (stateMeant shapes gs) → (g : GoalWords) → g ∈ gs → code T ≤ g .an
   above (h ∷ gs) s (more q e m) g (here z) =
       let c = code-of 7 (h .an) (s h (here refl)) in
       let d = ap code e in
@@ -85,12 +85,12 @@ module _ (shapes : List Term) (T : Pos) where
       rw z (omega (arith, c, d, l))
   above (h ∷ gs) s (more q e m) g (there i) = above gs (λ k j. s k (there j)) m g i
 
-  met : (gs : List GoalWords) → ((g : GoalWords) → g ∈ gs → g .an < 78125) → TopIn T (stateMeant shapes gs) → Met (code T) gs
+  met : (gs : List GoalWords) → ((g : GoalWords) → g ∈ gs → g .an < codesEnd) → TopIn T (stateMeant shapes gs) → Met (code T) gs
   met (h ∷ gs) s (now z) = record { who = h; at = here refl; is = sym (code-of 7 (h .an) (s h (here refl))) ∙ ap code z }
   met (h ∷ gs) s (late i) = let w = met gs (λ k j. s k (there j)) i in record { who = w .who; at = there (w .at); is = w .is }
 
   -- in words the greatest common prefix is the least code
-  pub gcp-is : (gs : List GoalWords) → ((g : GoalWords) → g ∈ gs → g .an < 78125) → Tops T (stateMeant shapes gs) → TopIn T (stateMeant shapes gs) → code T ≤ 65535
-      → leastCode 65535 gs ≡ code (gcp (stateMeant shapes gs))
+  pub gcp-is : (gs : List GoalWords) → ((g : GoalWords) → g ∈ gs → g .an < codesEnd) → Tops T (stateMeant shapes gs) → TopIn T (stateMeant shapes gs) → code T ≤ 65535
+      → displacementW gs ≡ code (gcp (stateMeant shapes gs))
   gcp-is gs s m i l =
-      least-is (code T) 65535 gs l (above gs s m) (inr (met gs s i)) ∙ ap code (sym (top-is-gcp T (stateMeant shapes gs) m i))
+      least-is (code T) noCode gs l (above gs s m) (inr (met gs s i)) ∙ ap code (sym (top-is-gcp T (stateMeant shapes gs) m i))

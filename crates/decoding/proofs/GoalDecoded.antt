@@ -26,17 +26,18 @@ use Rattle.kinds.specs.Positions.{Pos, code, decode}
 use Rattle.decoding.proofs.ShapeNodes.{Node, node-of, kidsIn, headWord}
 use Rattle.decoding.proofs.MaskReduced.{below, args-select, swap-mask, dom-below, span-below, roots-below, swapped}
 use Rattle.decoding.proofs.Selecting.{select-at, select-zero, select-none}
-use Rattle.decoding.specs.Decoding.{select, roots, shapeAt, goalMeant, TableOf}
+use Rattle.decoding.specs.Decoding.{select, roots, shapeAt, goalMeant, TableOf, codesEnd}
 use Rattle.goals.specs.GoalWords.{GoalWords, codeAt, sizeOf, symOf, kidsOf, owedFrom, owedBy, nodeFrom, nodeAt, maskAfter}
 use Rattle.goals.specs.WordStages.{stays, moves, reduct, goesOn, withMask}
 use Rattle.term.specs.Places.{sub, dom}
 use Rattle.term.specs.Terms.{count, Term, blank, node, Terms, tnil, tcons, span, flatten}
 use Rattle.term.proofs.Subterms.{length-dom}
+use Rattle.contents.specs.Tables.{blankWord}
 
 -- what the words of a goal have to keep
 pub record Fine (shapes : List Term) (g : GoalWords) : Type 0 where
   pub shape : g .sh < length shapes
-  pub small : g .an < 78125
+  pub small : g .an < codesEnd
   pub bits : g .mask < 2 ^ span (shapeAt shapes (g .sh))
   pub low : span (shapeAt shapes (g .sh)) ≤ 16
   -- its obligations' positions
@@ -165,7 +166,7 @@ module _ (shapes : List Term) (tab : List ℕ) (tables : (s : ℕ) → s < lengt
             let n : nodeAt tab (g .sh) (g .an) (g .mask) (code P) ≡ 16 → ⊥ = λ e. omega (arith, x, e, s, k) in
             rw (ne-eqb _ _ n, has-at i l b w) refl
 
-    module _ (f k : ℕ) (symbol : f < 65535) (arity : (p : Pos) (ts : Terms) → sub (shapeAt shapes (g .sh)) p ≡ some (node f ts) → count ts ≡ k) (blanks : (p : Pos) (w : ℕ) → sub (shapeAt shapes (g .sh)) p ≡ some (blank w) → 65535 ≤ w) where
+    module _ (f k : ℕ) (symbol : f < blankWord) (arity : (p : Pos) (ts : Terms) → sub (shapeAt shapes (g .sh)) p ≡ some (node f ts) → count ts ≡ k) (blanks : (p : Pos) (w : ℕ) → sub (shapeAt shapes (g .sh)) p ≡ some (blank w) → blankWord ≤ w) where
       -- what a goal puts in after reducing, on positions
       abbrev pub Moved : List (Goal Pos)
       Moved =

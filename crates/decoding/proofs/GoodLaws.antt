@@ -27,7 +27,7 @@ use Rattle.automaton.specs.Goals.{initial}
 use Rattle.automaton.proofs.Sound.{SoundState}
 use Rattle.automaton.proofs.Reachable.{initial-sound}
 use Rattle.goals.specs.GoalWords.{GoalWords, Low, labelCode}
-use Rattle.goals.specs.WordStages.{freshW, freshesW, derivW, leastCode, liftW, classesW, outputsW}
+use Rattle.goals.specs.WordStages.{freshW, freshesW, derivW, leastCode, liftW, classesW, outputsW, displacementW}
 use Rattle.decoding.specs.Decoding.{shapeAt, goalMeant, stateMeant}
 use Rattle.decoding.specs.GoodStates.{Ready, settingOf, GoodState}
 use Rattle.decoding.proofs.GoalDecoded.{Fine}
@@ -72,8 +72,8 @@ module _ {ar tab : List ℕ} {n : ℕ} {gs : List GoalWords} (w : GoodState ar t
   label-back = let l = good-label in code-decode (labelCode tab gs) (omega arith)
 
   module _ (f k : ℕ) (a : getElem? ar f ≡ some k) where
-    pub good-next : (c : List GoalWords) → c ∈ classesW tab (derivW tab n (labelCode tab gs) f k gs) → length c ≤ 32 → GoodState ar tab n (map (liftW (leastCode 65535 c)) c)
-    good-next c m few = for-good (w .ready) (map (liftW (leastCode 65535 c)) c) (lifted-good (w .ready) c (class-part (w .ready) gs (good-for w) f k a c m) few)
+    pub good-next : (c : List GoalWords) → c ∈ classesW tab (derivW tab n (labelCode tab gs) f k gs) → length c ≤ 32 → GoodState ar tab n (map (liftW (displacementW c)) c)
+    good-next c m few = for-good (w .ready) (map (liftW (displacementW c)) c) (lifted-good (w .ready) c (class-part (w .ready) gs (good-for w) f k a c m) few)
 
     pub deriv-low : Low (derivW tab n (labelCode tab gs) f k gs)
     deriv-low = low-of (w .ready) (derivW tab n (labelCode tab gs) f k gs) (deriv-fine (w .ready) gs (good-for w) f k a)
@@ -86,13 +86,13 @@ module _ {ar tab : List ℕ} {n : ℕ} {gs : List GoalWords} (w : GoodState ar t
         let p : k * n ≤ 4 * n = mul-le-mul-right n (w .ready .children f k a) in
         omega (arith, h, l, s, p)
 
-    pub least-small : (c : List GoalWords) → c ∈ classesW tab (derivW tab n (labelCode tab gs) f k gs) → leastCode 65535 c ≤ 15624
+    pub least-small : (c : List GoalWords) → c ∈ classesW tab (derivW tab n (labelCode tab gs) f k gs) → displacementW c ≤ 15624
     least-small c m =
         let p = class-part (w .ready) gs (good-for w) f k a c m in
         rw (part-displaced (w .ready) c p) (small-code _ (displaced-small (w .ready) c p))
 
-    pub least-back : (c : List GoalWords) → c ∈ classesW tab (derivW tab n (labelCode tab gs) f k gs) → code (decode (leastCode 65535 c)) ≡ leastCode 65535 c
-    least-back c m = let l = least-small c m in code-decode (leastCode 65535 c) (omega arith)
+    pub least-back : (c : List GoalWords) → c ∈ classesW tab (derivW tab n (labelCode tab gs) f k gs) → code (decode (displacementW c)) ≡ displacementW c
+    least-back c m = let l = least-small c m in code-decode (displacementW c) (omega arith)
 
   pub output-small : (f : ℕ) (g : GoalWords) → g ∈ outputsW tab (labelCode tab gs) f gs → g .an ≤ 15624
   output-small f g m =

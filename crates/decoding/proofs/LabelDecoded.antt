@@ -17,7 +17,7 @@ use Rattle.kinds.specs.Lists.{filter, gather}
 use Rattle.kinds.specs.Positions.{Pos, before, code, decodeTo, decode}
 use Rattle.decoding.proofs.GoalDecoded.{Fine, owed-is}
 use Rattle.decoding.specs.Decoding.{select, shapeAt, goalMeant, stateMeant, TableOf}
-use Rattle.goals.specs.GoalWords.{GoalWords, owedBy, pad, firstCode, rootCodes, labelCode}
+use Rattle.goals.specs.GoalWords.{GoalWords, owedBy, pad, firstCode, rootCodes, labelCode, noCode}
 use Rattle.term.specs.Places.{dom}
 use Rattle.term.specs.Terms.{Term}
 
@@ -43,14 +43,14 @@ first-is p (q ∷ ps) f =
     go false x y = y
 
 -- the first of all, from a number above all codes
-pub first-from : (ps : List Pos) → Fit ps → (ps ≡ [] → ⊥) → firstCode 65535 (map code ps) ≡ code (first (bare []) ps)
+pub first-from : (ps : List Pos) → Fit ps → (ps ≡ [] → ⊥) → firstCode noCode (map code ps) ≡ code (first (bare []) ps)
 unfolding firstCode
 first-from [] f n = absurd (n refl)
 first-from (p ∷ ps) f n =
     let a = f p (here refl) in
     let v = pad-lt 6 p (λ d m. a .0 d m .1) in
-    let l : pad (code p) < 65535 = rw (pad-six p (a .0) (a .1)) (omega (arith, v)) in
-    ap (λ t. firstCode (cond t (code p) 65535) (map code ps)) (lt-ltb (pad (code p)) 65535 l) ∙ first-is p ps f
+    let l : pad (code p) < noCode = rw (pad-six p (a .0) (a .1)) (omega (arith, v)) in
+    ap (λ t. firstCode (cond t (code p) noCode) (map code ps)) (lt-ltb (pad (code p)) noCode l) ∙ first-is p ps f
 
 -- a code is the root's exactly if it is 0
 root-is : (c : ℕ) → isRoot (decode c) ≡ eqb c 0
@@ -91,4 +91,4 @@ module _ (shapes : List Term) (tab : List ℕ) (tables : (s : ℕ) → s < lengt
 
   -- some goal that announces at the root has an obligation (S5): then the label's code is the label's
   pub label-is : (gs : List GoalWords) → ((g : GoalWords) → g ∈ gs → Fine shapes g) → (rootObs gs ≡ [] → ⊥) → labelCode tab gs ≡ code (label (bare shapes) (stateMeant shapes gs))
-  label-is gs fine some = ap (firstCode 65535) (roots-are gs fine) ∙ first-from (rootObs gs) (roots-fit gs fine) some
+  label-is gs fine some = ap (firstCode noCode) (roots-are gs fine) ∙ first-from (rootObs gs) (roots-fit gs fine) some

@@ -16,7 +16,7 @@ use Rattle.kinds.proofs.Codes.{Proper, codeFrom-append, code-join, decode-prope
 use Rattle.kinds.proofs.Prefixes.{strip-append}
 use Rattle.kinds.proofs.ListLaws.{map-map, map-same}
 use Rattle.kinds.specs.Positions.{Pos, code, codeFrom, strip, decode}
-use Rattle.decoding.specs.Decoding.{goalMeant, select, shapeAt}
+use Rattle.decoding.specs.Decoding.{goalMeant, select, shapeAt, codesEnd}
 use Rattle.goals.specs.GoalWords.{GoalWords}
 use Rattle.goals.specs.WordStages.{underFrom, underCode, liftW}
 use Rattle.term.specs.Places.{dom}
@@ -88,7 +88,7 @@ under-is G q h l =
     ∙ mul-add-mod-self-right (code G) (5 ^ length q) (code q) ∙ mod-eq-of-lt s
 
 -- a goal lifted in words is the goal lifted
-pub lift-is : (shapes : List Term) (G q : Pos) (g : GoalWords) → g .an < 78125 → decode (g .an) ≡ G ++ q → Proper q → length q ≤ 7 → goalMeant shapes (liftW (code G) g) ≡ liftGoal (bare shapes) G (goalMeant shapes g)
+pub lift-is : (shapes : List Term) (G q : Pos) (g : GoalWords) → g .an < codesEnd → decode (g .an) ≡ G ++ q → Proper q → length q ≤ 7 → goalMeant shapes (liftW (code G) g) ≡ liftGoal (bare shapes) G (goalMeant shapes g)
 lift-is shapes G q g small e h l =
     let a : g .an ≡ code (G ++ q) = sym (code-of 7 (g .an) small) ∙ ap code e in
     let p : decode (underCode (code G) (g .an)) ≡ q = ap (λ x. decode (underCode (code G) x)) a ∙ ap decode (under-is G q h l) ∙ decode-proper q h l in

@@ -33,7 +33,7 @@ use Rattle.automaton.proofs.Bounds.{ann-small}
 use Rattle.goals.specs.GoalWords.{GoalWords, pad, labelCode}
 use Rattle.goals.specs.WordStages.{reduct, withMask, announces, annKey, outputsW}
 use Rattle.decoding.specs.WordMachine.{announcementW}
-use Rattle.decoding.specs.Decoding.{select, shapeAt, goalMeant, stateMeant}
+use Rattle.decoding.specs.Decoding.{select, shapeAt, goalMeant, stateMeant, codesEnd}
 use Rattle.decoding.specs.GoodStates.{Ready, settingOf}
 use Rattle.decoding.proofs.PaddedCodes.{code-before}
 use Rattle.decoding.proofs.Selecting.{select-zero, select-none}
@@ -53,7 +53,7 @@ pad-same p q sp sq = go (same p q) refl
     go true e = eq-eqb _ _ (ap (λ x. pad (code x)) (same-is p q e))
     go false e = ne-eqb _ _ (λ z. let d : p ≡ q = not-both z (before-total p q) in false≢true (sym e ∙ rw d (same-refl q)))
 
-pub ann-before : (g h : GoalWords) → g .sh < 16 → h .sh < 16 → g .an < 78125 → h .an < 78125 → Small (decode (g .an)) → Small (decode (h .an))
+pub ann-before : (g h : GoalWords) → g .sh < 16 → h .sh < 16 → g .an < codesEnd → h .an < codesEnd → Small (decode (g .an)) → Small (decode (h .an))
     → ltb (annKey g) (annKey h) ≡ annBefore (announcementW g) (announcementW h)
 ann-before g h sg sh cg ch pg ph =
     let a : pad (g .an) ≡ pad (code (decode (g .an))) = ap pad (sym (code-decode (g .an) cg)) in

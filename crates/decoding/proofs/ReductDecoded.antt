@@ -33,6 +33,7 @@ use Rattle.decoding.proofs.ShapeNodes.{Node, node-of, kidsIn, headWord}
 use Rattle.decoding.proofs.MaskReduced.{below, args-select, swap-mask, span-below, roots-below, swapped}
 use Rattle.decoding.proofs.Selecting.{select-at}
 use Rattle.decoding.proofs.GoalDecoded.{Fine, Found, lacks, found, finds, node-pos}
+use Rattle.contents.specs.Tables.{blankWord}
 
 pub kids-fit : (t : Term) (r : ℕ) (o : Node t r) → roots (kidsIn (o .under)) * 2 ^ suc r < 2 ^ span t
 kids-fit t r o =
@@ -63,8 +64,8 @@ not-head f (node h ts) ne = ne-eqb h f ne
 
 module _ (shapes : List Term) (tab : List ℕ) (tables : (s : ℕ) → s < length shapes → TableOf tab s (shapeAt shapes s)) (g : GoalWords) (fine : Fine shapes g)
     (P : Pos) (proper : Proper P) (short : length P ≤ 7)
-    (f k : ℕ) (symbol : f < 65535) (arity : (p : Pos) (ts : Terms) → sub (shapeAt shapes (g .sh)) p ≡ some (node f ts) → count ts ≡ k)
-    (blanks : (p : Pos) (w : ℕ) → sub (shapeAt shapes (g .sh)) p ≡ some (blank w) → 65535 ≤ w) where
+    (f k : ℕ) (symbol : f < blankWord) (arity : (p : Pos) (ts : Terms) → sub (shapeAt shapes (g .sh)) p ≡ some (node f ts) → count ts ≡ k)
+    (blanks : (p : Pos) (w : ℕ) → sub (shapeAt shapes (g .sh)) p ≡ some (blank w) → blankWord ≤ w) where
   abbrev T : Term
   T = shapeAt shapes (g .sh)
 
@@ -77,7 +78,7 @@ module _ (shapes : List Term) (tab : List ℕ) (tables : (s : ℕ) → s < lengt
       ∙ any-of (λ q. same P (decode (g .an) ++ q)) (select-at (g .mask) i (dom T) [] l b) (ap (same P) w ∙ same-refl P)
 
   owed-at : (p : Pos) → decode (g .an) ++ p ≡ P → owed shapes (goalMeant shapes g) P ≡ sub T p
-  owed-at p w = rw (at-getD shapes (g .sh) (blank 65535) (fine .shape), ← w, strip-append (decode (g .an)) p) refl
+  owed-at p w = rw (at-getD shapes (g .sh) (blank blankWord) (fine .shape), ← w, strip-append (decode (g .an)) p) refl
 
   at-node : (i : ℕ) (o : Node T i) (u : Term) → o .under ≡ u → N ≡ i → (i ≡ 16 → ⊥) → any (same P) (goalMeant shapes g .obs) ≡ true → owed shapes (goalMeant shapes g) P ≡ some u
       → decode (g .an) ++ o .at ≡ P → g .mask / 2 ^ i % 2 ≡ 1 → symOf tab (g .sh) i ≡ headWord u → kidsOf tab (g .sh) i ≡ roots (kidsIn (o .under)) * 2 ^ suc i

@@ -18,6 +18,7 @@ use Rattle.tables.specs.ShapeTables.{wordAt, spanAt, kidsAt, nodeWord, entryW}
 use Rattle.tables.proofs.TableLaws.{entry-in, word-0, word-1, word-2, word-3, word-4}
 use Rattle.decoding.proofs.TableSeek.{Stands, Standss, span-is, val, val-code, seek-term}
 use Rattle.decoding.proofs.TableKids.{kids-node}
+use Rattle.contents.specs.Tables.{blankWord}
 
 module _ (ws : List ℕ) where
   mutual
@@ -54,8 +55,8 @@ val-pow (i ∷ p) v h =
     ring : (v P : ℕ) → v * (5 * P) ≡ 5 * v * P
     ring v P = omega arith
 
-module _ (ar ws ss tab : List ℕ) (few-symbols : length ar ≤ 65535) (filled : (k : ℕ) → k < 1280 → getD tab k 0 ≡ entryW ar ws ss k)
-    (s : ℕ) (t : Term) (low : s < 16) (is : s < length ss) (stands : Stands ws (getD ss s 0) t) (fits : Fits ar 65535 t) (few : span t ≤ 16) where
+module _ (ar ws ss tab : List ℕ) (few-symbols : length ar ≤ blankWord) (filled : (k : ℕ) → k < 1280 → getD tab k 0 ≡ entryW ar ws ss k)
+    (s : ℕ) (t : Term) (low : s < 16) (is : s < length ss) (stands : Stands ws (getD ss s 0) t) (fits : Fits ar blankWord t) (few : span t ≤ 16) where
   word-in : (x r : ℕ) → x < 5 → r < span t → getD tab (256 * x + (16 * s + r)) 0 ≡ nodeWord ar ws (getD ss s 0) x r
   word-in x r h l =
       let k = 256 * x + (16 * s + r) in

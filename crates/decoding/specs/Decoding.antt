@@ -1,4 +1,10 @@
--- The one decoding: codes to positions, words to goals; and what the tables say of the shapes.
+-- Inside: the one decoding, codes to positions and words to goals; and what the tables say of the shapes.
+--   codesEnd                past the codes of seven digits
+--   select                  the elements whose bits are set in a mask
+--   solid roots kidMasks    the masks of children that are no blanks
+--   shapeAt                 a shape by its number
+--   goalMeant stateMeant    the goal, and the state, that words mean
+--   TableOf                 the tables say a shape's nodes: positions, powers, words and children
 use mathlib.Core.List.{List, [], _∷_, _++_, map}
 use mathlib.Core.Bool.{Bool, true, false, cond}
 use mathlib.Core.Path.{_≡_}
@@ -10,6 +16,11 @@ use Rattle.term.specs.Places.{dom}
 use Rattle.kinds.specs.Positions.{Pos, code, decode}
 use Rattle.automaton.specs.Goals.{Goal, State}
 use Rattle.goals.specs.GoalWords.{GoalWords, codeOf, powOf, symOf, kidsOf, sizeOf}
+use Rattle.contents.specs.Tables.{blankWord}
+
+-- past the codes of seven digits
+abbrev pub codesEnd : ℕ
+codesEnd = 78125
 
 -- the elements whose bits are set, the first one's bit lowest
 unfoldable pub select {ℓ} : {A : Type ℓ} → ℕ → List A → List A
@@ -36,7 +47,7 @@ abbrev mutual
   kidMaskss r (tcons t ts) = kidMasks r t ++ kidMaskss (r + span t) ts
 
 abbrev pub shapeAt : List Term → ℕ → Term
-shapeAt shapes s = getD shapes s (blank 65535)
+shapeAt shapes s = getD shapes s (blank blankWord)
 
 abbrev pub goalMeant : List Term → GoalWords → Goal Pos
 goalMeant shapes g =

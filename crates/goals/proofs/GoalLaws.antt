@@ -1,5 +1,5 @@
 -- The word definitions along a loop's turn.
-use native.Mathlib.Nat.{mul-le-mul, sub-zero}
+use native.Mathlib.Nat.{mul-le-mul, sub-zero, zero-add}
 use Prim.Native.Nat.{ℕ, zero, suc, _+_, _-_, _*_, _/_, _%_, _^_, _<_, _≤_}
 use mathlib.Core.Path.{_≡_, refl, ap, sym, _∙_}
 use mathlib.Core.List.{List, [], _∷_, _++_, append-assoc}
@@ -11,7 +11,7 @@ use lib.Dec.{eqb, ltb}
 use lib.ListN.{length, getD, take, drop, set, drop-of-length-le}
 use lib.Seq.{sets, sets-eq, take-append-seam}
 use Rattle.kinds.proofs.ListLaws.{from}
-use Rattle.goals.specs.GoalWords.{owedFrom, owedCodes, nodeFrom, codeAt, firstCode, pad, goalAt, goalsFrom, Low, rootCodes}
+use Rattle.goals.specs.GoalWords.{GoalWords, owedFrom, owedCodes, nodeFrom, codeAt, firstCode, pad, goalAt, goalsFrom, Low, Stored, rootCodes}
 use Rattle.goals.specs.WordStages.{hasCode, sharing}
 use Rattle.goals.specs.Sharing.{firstShared, pick, isAt}
 use Rattle.goals.specs.declared.Shared.the-variants.{At, Nothing}
@@ -126,6 +126,31 @@ goals-end ws at (suc k) h = absurd (omega arith)
 
 pub low-next : (ws : List ℕ) (at k : ℕ) → 0 < k → Low (goalsFrom ws at k) → (getD ws at 0 < 16) × Low (goalsFrom ws (at + 3) (k - 1))
 low-next ws at k h l = rw (goals-next ws at k h) at l
+
+-- goal a of k
+pub goals-length : (ws : List ℕ) (at k : ℕ) → length (goalsFrom ws at k) ≡ k
+unfolding goalsFrom
+goals-length ws at zero = refl
+goals-length ws at (suc k) = ap suc (goals-length ws (at + 3) k)
+
+pub goals-at : (ws : List ℕ) (at k a : ℕ) (d : GoalWords) → a < k → getD (goalsFrom ws at k) a d ≡ goalAt ws (at + 3 * a)
+unfolding goalsFrom
+goals-at ws at zero a d h = absurd (omega arith)
+goals-at ws at (suc k) zero d h = let e : at + 3 * 0 ≡ at = omega arith in ap (goalAt ws) (sym e)
+goals-at ws at (suc k) (suc a) d h = let e : at + 3 + 3 * a ≡ at + 3 * suc a = omega arith in goals-at ws (at + 3) k a d (omega arith) ∙ ap (goalAt ws) e
+
+-- each goal's shape
+pub low-at : (ws : List ℕ) (at n j : ℕ) → Low (goalsFrom ws at n) → j < n → goalAt ws (at + 3 * j) .sh < 16
+unfolding goalsFrom
+low-at ws at zero j l h = absurd (omega arith)
+low-at ws at (suc n) zero l h = let e : at + 3 * 0 ≡ at = omega arith in rw e (l .0)
+low-at ws at (suc n) (suc j) l h = let e : at + 3 * suc j ≡ at + 3 + 3 * j = omega arith in rw e (low-at ws (at + 3) n j (l .1) (omega arith))
+
+pub stored-low : {tab ws : List ℕ} {at n : ℕ} → Stored tab ws at n → (j : ℕ) → j < n → goalAt ws (at + 3 * j) .sh < 16
+stored-low {ws = ws} {at} {n} s j h = low-at ws at n j (s .low) h
+
+pub stored-first : {tab ws : List ℕ} {n : ℕ} → Stored tab ws 0 n → (j : ℕ) → j < n → goalAt ws (3 * j) .sh < 16
+stored-first s j h = rw (zero-add (3 * j)) at (stored-low s j h)
 
 pub first-append : (b : ℕ) (xs ys : List ℕ) → firstCode b (xs ++ ys) ≡ firstCode (firstCode b xs) ys
 unfolding firstCode

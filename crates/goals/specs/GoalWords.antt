@@ -8,7 +8,9 @@
 --   maskAfter     the mask without a node, with its children that are no blanks
 --   pad           a code padded to six digits; firstCode: the first in document order
 --   goalsFrom     the goals that words hold; flat: the words of goals
---   labelCode     the label's code, 65,535 where no goal announces at the root
+--   noCode        65,535: past every code, for none
+--   labelCode     the label's code, noCode where no goal announces at the root
+--   Stored        what code asks of n goals in words
 use mathlib.Core.List.{List, [], _∷_, _++_}
 use mathlib.Core.Bool.{Bool, cond}
 use Prim.Native.Nat.{ℕ, zero, suc, _+_, _*_, _/_, _%_, _^_, _≤_, _<_}
@@ -100,13 +102,23 @@ abbrev pub Low : List GoalWords → Type 0
 Low [] = Unit {0}
 Low (g ∷ gs) = (g .sh < 16) × Low gs
 
+-- n goals in words from `at` on, of shapes that the tables have
+pub record Stored (tab ws : List ℕ) (at n : ℕ) : Type 0 where
+  pub tabled : Tabled tab
+  pub few : n ≤ 96
+  pub room : at + 3 * n ≤ length ws
+  pub low : Low (goalsFrom ws at n)
+
 unfoldable pub rootCodes : List ℕ → List GoalWords → List ℕ
 rootCodes tab [] = []
 rootCodes tab (g ∷ gs) = let rest = rootCodes tab gs in cond (eqb (g .an) 0) (owedBy tab g ++ rest) rest
 
--- the label's code; 65535 where no goal announces at the root
+-- past every code: no label, no announcement
+abbrev pub noCode : ℕ
+noCode = 65535
+
 abbrev pub labelCode : List ℕ → List GoalWords → ℕ
-labelCode tab gs = firstCode 65535 (rootCodes tab gs)
+labelCode tab gs = firstCode noCode (rootCodes tab gs)
 
 -- the words of goals
 unfoldable pub flat : List GoalWords → List ℕ

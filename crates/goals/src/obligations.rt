@@ -1,4 +1,5 @@
 use crate::Goal;
+use crate::NO_CODE;
 use crate::Shared;
 use crate::words::goal_at;
 use kinds::Position;
@@ -6,7 +7,7 @@ ghost use mathlib.Core.Path.{_≡_};
 ghost use Prim.Native.Nat.{ℕ, _+_, _*_, _<_, _≤_};
 ghost use lib.ListN.{length};
 ghost use lib.Seq.{sets};
-ghost use Rattle.goals.specs.GoalWords.{Tabled, codeAt, owedBy, nodeAt, maskAfter, pad, firstCode, goalsFrom, Low, labelCode};
+ghost use Rattle.goals.specs.GoalWords.{Tabled, codeAt, owedBy, nodeAt, maskAfter, pad, firstCode, goalsFrom, Stored, labelCode};
 ghost use Rattle.goals.specs.GoalKinds.{asWords};
 ghost use Rattle.goals.specs.Sharing.{firstShared};
 
@@ -150,12 +151,12 @@ pub fn first_owed(tab: &[u16], g: Goal, best: u32) -> u32
     first_of(&xs[0..k], best)
 }
 
-// The code of a state's label; 65535 where no goal announces at the root.
+// The code of a state's label; NO_CODE where no goal announces at the root.
 pub fn label(tab: &[u16], ws: &[u16], at: usize, n: usize) -> u32
-    requires { ⌜ Tabled (now tab) × (n ≤ 96) × (at + 3 * n ≤ length (now ws)) × Low (goalsFrom (now ws) at n) ⌝ }
+    requires { ⌜ Stored (now tab) (now ws) at n ⌝ }
     ensures { λ r. ⌜ r ≡ labelCode (now (tab .entry)) (goalsFrom (now (ws .entry)) at n) ⌝ }
 {
-    let mut best: u32 = 65535;
+    let mut best: u32 = NO_CODE;
     let mut here = at;
     let mut left = n;
     while 0 < left {

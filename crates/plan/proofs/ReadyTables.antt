@@ -48,13 +48,14 @@ use Rattle.decoding.proofs.TableFilled.{filled-is}
 use Rattle.decoding.proofs.ReductDecoded.{kids-fit}
 use Rattle.decoding.proofs.WordsSimulate.{plan-of-words}
 use Rattle.decoding.proofs.GoalDecoded.{node-pos}
+use Rattle.contents.specs.Tables.{blankWord}
 
 -- ---- where shapes stand
 mutual
   pub stands : (t : Term) (ws pre rest : List ℕ) (at : ℕ) → ws ≡ pre ++ (flatten t ++ rest) → length pre ≡ at → Stands ws at t
-  stands (blank w) ws pre rest at e l = ap (λ xs. wordAt xs at) e ∙ getD-at pre w rest 65535 at l
+  stands (blank w) ws pre rest at e l = ap (λ xs. wordAt xs at) e ∙ getD-at pre w rest blankWord at l
   stands (node f ts) ws pre rest at e l = (
-    ap (λ xs. wordAt xs at) e ∙ getD-at pre f (flattens ts ++ rest) 65535 at l,
+    ap (λ xs. wordAt xs at) e ∙ getD-at pre f (flattens ts ++ rest) blankWord at l,
     standss ts ws (pre ++ (f ∷ [])) rest (at + 1) (e ∙ sym (append-assoc pre (f ∷ []) (flattens ts ++ rest))) (length-append pre (f ∷ []) ∙ ap (λ x. x + 1) l),
   )
 
@@ -75,7 +76,7 @@ shapes-stand (x ∷ ts) ws pre at e l (suc i) t g =
 -- ---- what fits a word
 module _ (ar : List ℕ) (few : (f n : ℕ) → getElem? ar f ≡ some n → n ≤ 4) where
   pub place-small : (t : Term) → IsShape ar t → (p : Pos) {u : Term} → sub t p ≡ some u → Small p
-  place-small t s p {u} e = record { short = let l = sub-depth p t u e in let d = s .flat in omega arith; digits = fits-proper ar few 65535 p t (s .fits) e }
+  place-small t s p {u} e = record { short = let l = sub-depth p t u e in let d = s .flat in omega arith; digits = fits-proper ar few blankWord p t (s .fits) e }
 
 power-fits : (n : ℕ) → n ≤ 6 → 5 ^ n < 65536
 power-fits zero h = omega arith
@@ -131,7 +132,7 @@ ready-for ar ws st tab g s long filled = record {
     table : (i : ℕ) → i < length (s .trees) → TableOf tab i (shapeAt (s .trees) i)
     table i h =
         let t = shapeAt (s .trees) i in
-        let e = at-getD (s .trees) i (blank 65535) h in
+        let e = at-getD (s .trees) i (blank blankWord) h in
         let is = s .each t (at-in (s .trees) i e) in
         let few = s .few-shapes in
         let n = how-many in

@@ -30,7 +30,7 @@ use Rattle.automaton.specs.PlanWords.{blockWords}
 use Rattle.automaton.specs.FinalBlocks.{succOf}
 use Rattle.automaton.proofs.BlocksAgain.{meet-found, meets-found}
 use Rattle.goals.specs.GoalWords.{GoalWords, goalAt, goalsFrom, flat, labelCode}
-use Rattle.goals.specs.WordStages.{freshesW, freshW, derivW, leastCode, liftW, reduct, annKey, announces, outputsW}
+use Rattle.goals.specs.WordStages.{freshesW, freshW, derivW, leastCode, liftW, reduct, annKey, announces, outputsW, displacementW}
 use Rattle.decoding.specs.WordMachine.{words, stateIn, statesIn, Kept}
 use Rattle.decoding.specs.GoodStates.{Ready, GoodState}
 use Rattle.deriving.specs.Orders.{keyed, classAt, outItems, goalOn}
@@ -57,17 +57,17 @@ class-room d ws n r h = let a = class-few d ws n r h in let b = flat-length (cla
 
 pub record Lifting (K : List GoalWords) (lifted : List ℕ) (k top : ℕ) : Type 0 where
   pub count : k ≡ length K
-  pub top-is : top ≡ leastCode 65535 K
+  pub top-is : top ≡ displacementW K
   pub up : goalsFrom lifted 0 k ≡ liftedW K
 
 pub lifting : (K : List GoalWords) (z class y lifted : List ℕ) (pk top : ℕ) → pk ≡ length (flat K) → class ≡ sets z 0 (flat K) → 3 * length K ≤ length z
-    → top ≡ leastCode 65535 (goalsFrom class 0 (pk / 3)) → lifted ≡ sets y 0 (flat (map (liftW top) (goalsFrom class 0 (pk / 3)))) → 3 * length K ≤ length y → Lifting K lifted (pk / 3) top
+    → top ≡ displacementW (goalsFrom class 0 (pk / 3)) → lifted ≡ sets y 0 (flat (map (liftW top) (goalsFrom class 0 (pk / 3)))) → 3 * length K ≤ length y → Lifting K lifted (pk / 3) top
 lifting K z class y lifted pk top a b c d e f =
     let n : pk / 3 ≡ length K = flat-thirds K pk a in
     let g : goalsFrom class 0 (pk / 3) ≡ K = flat-back z class K (pk / 3) b n c in
-    let t : top ≡ leastCode 65535 K = d ∙ ap (leastCode 65535) g in
+    let t : top ≡ displacementW K = d ∙ ap (displacementW) g in
     let w : lifted ≡ sets y 0 (flat (liftedW K)) = e ∙ ap₂ (λ x l. sets y 0 (flat (map (liftW x) l))) t g in
-    let m : length (liftedW K) ≡ length K = length-map K (liftW (leastCode 65535 K)) in
+    let m : length (liftedW K) ≡ length K = length-map K (liftW (displacementW K)) in
     record { count = n; top-is = t; up = flat-back y lifted (liftedW K) (pk / 3) w (n ∙ sym m) (rw m f) }
 
 pub place-in : (tab : List ℕ) (n : ℕ) (ss : List (List GoalWords)) (K : List GoalWords) → placeOf ss (liftedW K) ≡ succOf (words tab n) ss K .to

@@ -1,6 +1,5 @@
 -- States met before: their numbers, and what the code that meets them answers.
 --   placeOf      the number of the first state that is equal to one, their count where none is
---   liftedW      a class lifted
 --   AllGood      each state is good
 --   blocksLength      how many words blocks take
 --   MetIs        what meeting classes answers: the states are in scratch, with two words counted for each successor; or why it stops
@@ -15,7 +14,7 @@ use Rattle.kinds.proofs.Members.{_∈_}
 use Rattle.automaton.specs.Exploring.{Succ, Block, Met, stopped, met, Made, refused, made}
 use Rattle.automaton.specs.PlanWords.{blockWords}
 use Rattle.goals.specs.GoalWords.{GoalWords}
-use Rattle.goals.specs.WordStages.{sameStateW, leastCode, liftW}
+use Rattle.goals.specs.WordStages.{sameStateW, leastCode, liftW, displacementW}
 use Rattle.decoding.specs.WordMachine.{statesIn, Kept}
 use Rattle.decoding.specs.GoodStates.{GoodState}
 use Rattle.states.specs.declared.Going.{Going}
@@ -25,10 +24,6 @@ use Rattle.states.specs.declared.Explored.the-variants as explored
 
 unfoldable pub placeOf : List (List GoalWords) → List GoalWords → ℕ
 placeOf ss k = orElse (find (sameStateW k) ss 0) (length ss)
-
--- a class lifted by its displacement
-abbrev pub liftedW : List GoalWords → List GoalWords
-liftedW k = map (liftW (leastCode 65535 k)) k
 
 abbrev pub AllGood : List ℕ → List ℕ → ℕ → List (List GoalWords) → Type 0
 AllGood ar tab n ss = (s : List GoalWords) → s ∈ ss → GoodState ar tab n s

@@ -25,12 +25,12 @@ use Rattle.automaton.specs.Exploring.{Succ, Block}
 use Rattle.automaton.specs.PlanWords.{blockWords, startsFrom, planWords}
 use Rattle.automaton.specs.FinalBlocks.{succOf, blockOf, blocksOf, allBlocks, SmallOn}
 use Rattle.goals.specs.GoalWords.{GoalWords, goalsFrom, labelCode}
-use Rattle.goals.specs.WordStages.{derivW, leastCode, classesW, outputsW, sameStateW}
+use Rattle.goals.specs.WordStages.{derivW, leastCode, classesW, outputsW, sameStateW, displacementW}
 use Rattle.decoding.specs.WordMachine.{words, announcementW, stateIn, statesIn, Kept}
 use Rattle.decoding.specs.GoodStates.{Ready, GoodState}
 use Rattle.deriving.specs.Orders.{classAt, outItems, goalOn}
 use Rattle.states.specs.Meeting.{placeOf, liftedW, AllGood}
-use Rattle.writing.specs.FinalBlocks.{rowWords, pairs}
+use Rattle.writing.specs.RowWords.{rowWords, pairs}
 use Rattle.states.proofs.StateLaws.{states-length, states-at}
 use Rattle.states.proofs.InOrder.{outputs-in-order}
 use Rattle.decoding.proofs.GoodLaws.{output-back, least-back, label-back}
@@ -88,7 +88,7 @@ abbrev pub outPairs : List ℕ → ℕ → List ℕ → List ℕ
 outPairs sc at items = length items ∷ pairs (λ x. goalOn sc at (x % 128) .sh) (λ x. goalOn sc at (x % 128) .an) items
 
 abbrev pub succPairs : List (List Bool) → List ℕ → ℕ → List (List GoalWords) → List ℕ → List ℕ
-succPairs d ws n ss order = length order ∷ pairs (λ x. placeOf ss (liftedW (classAt d ws n (x % 128)))) (λ x. leastCode 65535 (classAt d ws n (x % 128))) order
+succPairs d ws n ss order = length order ∷ pairs (λ x. placeOf ss (liftedW (classAt d ws n (x % 128)))) (λ x. displacementW (classAt d ws n (x % 128))) order
 
 module _ {ar tab : List ℕ} {n : ℕ} (sc : List ℕ) (i : ℕ) (good : GoodState ar tab n (stateIn sc i)) (f : ℕ) (h : f < length ar) (ss : List (List GoalWords)) (few : getD sc i 0 ≤ 96)
     (c : ℕ) (e : c ≡ labelCode tab (stateIn sc i)) (items : List ℕ) (a : items ≡ sort ltb (outItems tab sc (128 + 96 * i) c f (getD sc i 0)))
@@ -117,10 +117,10 @@ module _ {ar tab : List ℕ} {n : ℕ} (sc : List ℕ) (i : ℕ) (good : GoodSta
   succ-words = ap₂ (λ x l. x ∷ l)
       (length-map ks (succOf (words tab n) ss) ∙ ap length (sym b) ∙ length-map order (λ x. classAt d ws k (x % 128)))
       (gather-map (λ x. x .to ∷ code (x .by) ∷ []) (succOf (words tab n) ss) ks
-      ∙ gather-same (λ K. succOf (words tab n) ss K .to ∷ code (decode (leastCode 65535 K)) ∷ []) (λ K. placeOf ss (liftedW K) ∷ leastCode 65535 K ∷ []) ks
+      ∙ gather-same (λ K. succOf (words tab n) ss K .to ∷ code (decode (displacementW K)) ∷ []) (λ K. placeOf ss (liftedW K) ∷ displacementW K ∷ []) ks
       (λ K m. ap₂ (λ x y. x ∷ y ∷ []) (sym (place-in tab n ss K)) (least-back good f (getD ar f 0) (getElem-some ar f h) K m))
-      ∙ ap (gather (λ K. placeOf ss (liftedW K) ∷ leastCode 65535 K ∷ [])) (sym b)
-      ∙ gather-map (λ K. placeOf ss (liftedW K) ∷ leastCode 65535 K ∷ []) (λ x. classAt d ws k (x % 128)) order)
+      ∙ ap (gather (λ K. placeOf ss (liftedW K) ∷ displacementW K ∷ [])) (sym b)
+      ∙ gather-map (λ K. placeOf ss (liftedW K) ∷ displacementW K ∷ []) (λ x. classAt d ws k (x % 128)) order)
 
   pub block-is : blockWords block ≡ outPairs sc (128 + 96 * i) items ++ succPairs d ws k ss order
   block-is = ap₂ (λ x y. x ++ y) out-words succ-words
@@ -129,7 +129,7 @@ module _ {ar tab : List ℕ} {n : ℕ} (sc : List ℕ) (i : ℕ) (good : GoodSta
   block-size =
       ap length block-is ∙ length-append (outPairs sc (128 + 96 * i) items) (succPairs d ws k ss order)
       ∙ (let x = pairs-length (λ x. goalOn sc (128 + 96 * i) (x % 128) .sh) (λ x. goalOn sc (128 + 96 * i) (x % 128) .an) items in
-      let y = pairs-length (λ x. placeOf ss (liftedW (classAt d ws k (x % 128)))) (λ x. leastCode 65535 (classAt d ws k (x % 128))) order in
+      let y = pairs-length (λ x. placeOf ss (liftedW (classAt d ws k (x % 128)))) (λ x. displacementW (classAt d ws k (x % 128))) order in
       omega arith)
 
   pub class-small : SmallOn (words tab n) (stateIn sc i) 0 ar → (j : ℕ) → j < length order → length (classAt d ws k (getD order j 0 % 128)) ≤ 32

@@ -19,13 +19,13 @@ ghost use Rattle.kinds.specs.Lists.{concat};
 ghost use Rattle.kinds.proofs.Members.{_∈_};
 ghost use Rattle.automaton.specs.PlanWords.{blockWords, startsFrom, planWords};
 ghost use Rattle.goals.specs.GoalWords.{GoalWords, labelCode};
-ghost use Rattle.goals.specs.WordStages.{leastCode};
+ghost use Rattle.goals.specs.WordStages.{leastCode, displacementW};
 ghost use Rattle.decoding.specs.WordMachine.{words as machine, stateIn, statesIn, Kept};
 ghost use Rattle.decoding.specs.GoodStates.{Ready};
 ghost use Rattle.classes.specs.Squares.{Square};
 ghost use Rattle.deriving.specs.Orders.{classAt, goalOn};
 ghost use Rattle.states.specs.Meeting.{AllGood, placeOf, liftedW};
-ghost use Rattle.writing.specs.FinalBlocks.{blockOf, allBlocks, SmallOn, rowWords, pairs};
+ghost use Rattle.writing.specs.RowWords.{blockOf, allBlocks, SmallOn, rowWords, pairs};
 
 // The plan of the m states in scratch, of `total` words.
 pub fn write_plan(
@@ -168,7 +168,7 @@ fn write_successors(
 ) -> usize
     requires { ⌜ Kept (now scratch) m × (n ≤ 96) × (3 * n ≤ length (now goals)) × Square 96 (now dep) × (length (now order) ≤ 96) × ((j : ℕ) → j < length (now order) → getD (now order) j 0 % 128 < 96) × ((j : ℕ) → j < length (now order) → length (classAt (now dep) (now goals) n (getD (now order) j 0 % 128)) ≤ 32) × (at + (1 + 2 * length (now order)) ≤ length (now plan)) ⌝ }
     ensures next { λ r. ⌜ r ≡ at + (1 + 2 * length (now (order .entry))) ⌝ }
-    ensures wrote { λ r. ⌜ now (plan .exit) ≡ sets (now (plan .entry)) at (length (now (order .entry)) ∷ pairs (λ x. placeOf (statesIn (now (scratch .entry)) m) (liftedW (classAt (now (dep .entry)) (now (goals .entry)) n (x % 128)))) (λ x. leastCode 65535 (classAt (now (dep .entry)) (now (goals .entry)) n (x % 128))) (now (order .entry))) ⌝ }
+    ensures wrote { λ r. ⌜ now (plan .exit) ≡ sets (now (plan .entry)) at (length (now (order .entry)) ∷ pairs (λ x. placeOf (statesIn (now (scratch .entry)) m) (liftedW (classAt (now (dep .entry)) (now (goals .entry)) n (x % 128)))) (λ x. displacementW (classAt (now (dep .entry)) (now (goals .entry)) n (x % 128))) (now (order .entry))) ⌝ }
 {
     plan[at] = order.len() as u16;
     let mut here = at + 1;
@@ -202,7 +202,7 @@ fn write_successor(
     plan: &mut [u16],
 )
     requires { ⌜ Kept (now scratch) m × (n ≤ 96) × (3 * n ≤ length (now goals)) × Square 96 (now dep) × (r < 96) × (length (classAt (now dep) (now goals) n r) ≤ 32) × (at + 2 ≤ length (now plan)) ⌝ }
-    ensures { λ u. ⌜ now (plan .exit) ≡ sets (now (plan .entry)) at (placeOf (statesIn (now (scratch .entry)) m) (liftedW (classAt (now (dep .entry)) (now (goals .entry)) n r)) ∷ leastCode 65535 (classAt (now (dep .entry)) (now (goals .entry)) n r) ∷ []) ⌝ }
+    ensures { λ u. ⌜ now (plan .exit) ≡ sets (now (plan .entry)) at (placeOf (statesIn (now (scratch .entry)) m) (liftedW (classAt (now (dep .entry)) (now (goals .entry)) n r)) ∷ displacementW (classAt (now (dep .entry)) (now (goals .entry)) n r) ∷ []) ⌝ }
 {
     let mut class = [0u16; 288];
     let k = put_class(dep, r, goals, n, &mut class) / 3;

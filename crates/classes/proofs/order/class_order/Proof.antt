@@ -33,13 +33,13 @@ loop-holds c =
 leader-requires : tie.Need-leader-requires Inv-loop μ-loop
 leader-requires c κs =
     let entry = c .before .before .before .before .before in
-    (omega (arith, c .loop-test .taken, entry .pre .1), entry .pre .4)
+    (omega (arith, c .loop-test .taken, entry .pre .0 .few), entry .pre .1)
 
 -- src/order.rt:33:37
 first-in-row-requires : tie.Need-first-in-row-requires Inv-loop μ-loop
 first-in-row-requires c κs =
     let entry = c .before .before .before .before .before .before .before in
-    (entry .pre .0, entry .pre .1, entry .pre .2, entry .pre .3, entry .pre .4, omega (arith, c .before .before .loop-test .taken, entry .pre .1))
+    (entry .pre .0, entry .pre .1, omega (arith, c .before .before .loop-test .taken, entry .pre .0 .few))
 
 -- src/order.rt:33:30
 padded-requires : tie.Need-padded-requires Inv-loop μ-loop
@@ -69,19 +69,19 @@ add-items c =
 mul-items-2 : tie.Need-mul-items-2 Inv-loop μ-loop
 mul-items-2 c =
     let entry = c .before .before .before .before .before .before .before .before .before in
-    let s = c .before .before .before .before .before .loop .inv in omega (arith, s .few, s .long, entry .pre .5, entry .pre .1)
+    let s = c .before .before .before .before .before .loop .inv in omega (arith, s .few, s .long, entry .pre .2, entry .pre .0 .few)
 
 -- src/order.rt:33:13
 slice-write-items : tie.Need-slice-write-items Inv-loop μ-loop
 slice-write-items c =
     let entry = c .before .before .before .before .before .before .before .before .before in
-    let s = c .before .before .before .before .before .loop .inv in omega (arith, s .few, s .long, entry .pre .5, entry .pre .1)
+    let s = c .before .before .before .before .before .loop .inv in omega (arith, s .few, s .long, entry .pre .2, entry .pre .0 .few)
 
 -- src/order.rt:34:13
 add-k : tie.Need-add-k Inv-loop μ-loop
 add-k c =
     let entry = c .before .before .before .before .before .before .before .before .before in
-    let s = c .before .before .before .before .before .loop .inv in omega (arith, s .few, entry .pre .1)
+    let s = c .before .before .before .before .before .loop .inv in omega (arith, s .few, entry .pre .0 .few)
 
 -- src/order.rt:36:9
 add-i : tie.Need-add-i Inv-loop μ-loop
@@ -106,7 +106,7 @@ loop-again c =
 arrange-requires : tie.Need-arrange-requires Inv-loop μ-loop
 arrange-requires c κs =
     let entry = c .before .before .before .before .before .before in
-    let s = c .before .before .loop .inv in omega (arith, s .few, s .long, s .below, entry .pre .5)
+    let s = c .before .before .loop .inv in omega (arith, s .few, s .long, s .below, entry .pre .2)
 
 -- src/order.rt:18:1
 same-length : tie.Need-same-length Inv-loop μ-loop
@@ -116,7 +116,7 @@ same-length c = c .before .before .arrange .kept .0 ∙ c .before .before .befor
 returns : tie.Need-returns Inv-loop μ-loop
 returns c =
     let entry = c .before .before .before .before .before .before .before .before .before in
-    listed-end (c .before .before .before .before .before .loop .inv) (c .before .before .before .before .loop-test .left) (entry .pre .5) _ (c .before .before .arrange .ensures)
+    listed-end (c .before .before .before .before .before .loop .inv) (c .before .before .before .before .loop-test .left) (entry .pre .2) _ (c .before .before .arrange .ensures)
 
 pub class-order-spec : {M : Type 1} → statement M
 class-order-spec =

@@ -1,3 +1,4 @@
+use Rattle.goals.proofs.GoalLaws.{stored-low}
 use Rattle.goals.specs.GoalKinds.{asGoal, asWords}
 use Rattle.goals.specs.declared.Goal.{Goal}
 use Rattle.goals.specs.GoalWords.{pad}
@@ -46,7 +47,7 @@ goal-at-requires c κs = search needs
 reduce-requires : tie.Need-reduce-requires Inv-loop μ-loop
 reduce-requires c κs =
     let entry = c .before .before .before .before .before .before in
-    rw (c .goal-at .ensures) (entry .pre .0, entry .pre .3 (c .before .before .loop .j) (c .before .loop-test .taken))
+    rw (c .goal-at .ensures) (entry .pre .0 .tabled, stored-low (entry .pre .0) (c .before .before .loop .j) (c .before .loop-test .taken))
 
 cast-padded : tie.Need-cast-padded Inv-loop μ-loop
 cast-padded c = search needs
@@ -72,7 +73,7 @@ add-items c =
     let at-loop = c .before .before .before .before .before .before .before .loop in
     let at-loop-test = c .before .before .before .before .before .before .loop-test in
     let at-goal-at = c .before .before .before .before .before .goal-at in
-    omega (arith, ap (λ (x : Goal). x .shape .0) (at-goal-at .ensures), entry .pre .3 (at-loop .j) (at-loop-test .taken), c .before .padded .ensures, pad-word (at-goal-at .result .at .0) (omega (arith, ap (λ (x : Goal). x .at .0) (at-goal-at .ensures), at-shared-slice-known2 .given (entry .args .at + 3 * at-loop .j + 1))))
+    omega (arith, ap (λ (x : Goal). x .shape .0) (at-goal-at .ensures), stored-low (entry .pre .0) (at-loop .j) (at-loop-test .taken), c .before .padded .ensures, pad-word (at-goal-at .result .at .0) (omega (arith, ap (λ (x : Goal). x .at .0) (at-goal-at .ensures), at-shared-slice-known2 .given (entry .args .at + 3 * at-loop .j + 1))))
 
 mul-items-2 : tie.Need-mul-items-2 Inv-loop μ-loop
 mul-items-2 c =
@@ -81,7 +82,7 @@ mul-items-2 c =
     let at-loop = c .before .before .before .before .before .before .before .loop in
     let at-loop-test = c .before .before .before .before .before .before .loop-test in
     let at-goal-at = c .before .before .before .before .before .goal-at in
-    omega (arith, ap (λ (x : Goal). x .shape .0) (at-goal-at .ensures), entry .pre .3 (at-loop .j) (at-loop-test .taken), c .before .padded .ensures, pad-word (at-goal-at .result .at .0) (omega (arith, ap (λ (x : Goal). x .at .0) (at-goal-at .ensures), at-shared-slice-known2 .given (entry .args .at + 3 * at-loop .j + 1))))
+    omega (arith, ap (λ (x : Goal). x .shape .0) (at-goal-at .ensures), stored-low (entry .pre .0) (at-loop .j) (at-loop-test .taken), c .before .padded .ensures, pad-word (at-goal-at .result .at .0) (omega (arith, ap (λ (x : Goal). x .at .0) (at-goal-at .ensures), at-shared-slice-known2 .given (entry .args .at + 3 * at-loop .j + 1))))
 
 cast-items-2 : tie.Need-cast-items-2 Inv-loop μ-loop
 cast-items-2 c = search needs
@@ -93,25 +94,25 @@ add-items-2 c =
     let at-loop = c .before .before .before .before .before .before .before .loop in
     let at-loop-test = c .before .before .before .before .before .before .loop-test in
     let at-goal-at = c .before .before .before .before .before .goal-at in
-    omega (arith, ap (λ (x : Goal). x .shape .0) (at-goal-at .ensures), entry .pre .3 (at-loop .j) (at-loop-test .taken), c .before .padded .ensures, pad-word (at-goal-at .result .at .0) (omega (arith, ap (λ (x : Goal). x .at .0) (at-goal-at .ensures), at-shared-slice-known2 .given (entry .args .at + 3 * at-loop .j + 1))))
+    omega (arith, ap (λ (x : Goal). x .shape .0) (at-goal-at .ensures), stored-low (entry .pre .0) (at-loop .j) (at-loop-test .taken), c .before .padded .ensures, pad-word (at-goal-at .result .at .0) (omega (arith, ap (λ (x : Goal). x .at .0) (at-goal-at .ensures), at-shared-slice-known2 .given (entry .args .at + 3 * at-loop .j + 1))))
 
 mul-items-3 : tie.Need-mul-items-3 Inv-loop μ-loop
 mul-items-3 c =
     let entry = c .before .before .before .before .before .before .before .before .before .before .before in
     let at-loop = c .before .before .before .before .before .before .before .loop in
-    let s = at-loop .inv in omega (arith, s .few, s .long, entry .pre .4, entry .pre .1)
+    let s = at-loop .inv in omega (arith, s .few, s .long, entry .pre .1, entry .pre .0 .few)
 
 slice-write-items : tie.Need-slice-write-items Inv-loop μ-loop
 slice-write-items c =
     let entry = c .before .before .before .before .before .before .before .before .before .before .before in
     let at-loop = c .before .before .before .before .before .before .before .loop in
-    let s = at-loop .inv in omega (arith, s .few, s .long, entry .pre .4, entry .pre .1)
+    let s = at-loop .inv in omega (arith, s .few, s .long, entry .pre .1, entry .pre .0 .few)
 
 add-k : tie.Need-add-k Inv-loop μ-loop
 add-k c =
     let entry = c .before .before .before .before .before .before .before .before .before .before .before in
     let at-loop = c .before .before .before .before .before .before .before .loop in
-    let s = at-loop .inv in omega (arith, s .few, entry .pre .1)
+    let s = at-loop .inv in omega (arith, s .few, entry .pre .0 .few)
 
 add-j : tie.Need-add-j Inv-loop μ-loop
 add-j c = search needs
@@ -134,7 +135,7 @@ loop-again c =
 arrange-requires : tie.Need-arrange-requires Inv-loop μ-loop
 arrange-requires c κs =
     let entry = c .before .before .before .before .before .before in
-    let s = c .before .before .loop .inv in omega (arith, s .few, s .long, s .below, entry .pre .4)
+    let s = c .before .before .loop .inv in omega (arith, s .few, s .long, s .below, entry .pre .1)
 
 same-length : tie.Need-same-length Inv-loop μ-loop
 same-length c = c .before .before .arrange .kept .0 ∙ c .before .before .before .before .before .loop .inv .long
@@ -142,7 +143,7 @@ same-length c = c .before .before .arrange .kept .0 ∙ c .before .before .befor
 returns : tie.Need-returns Inv-loop μ-loop
 returns c =
     let entry = c .before .before .before .before .before .before .before .before .before in
-    listed-end (c .before .before .before .before .before .loop .inv) (c .before .before .before .before .loop-test .left) (entry .pre .4) _ (c .before .before .arrange .ensures)
+    listed-end (c .before .before .before .before .before .loop .inv) (c .before .before .before .before .loop-test .left) (entry .pre .1) _ (c .before .before .arrange .ensures)
 
 pub outputs-spec : {M : Type 1} → statement M
 outputs-spec =

@@ -24,7 +24,7 @@ put-staying-requires c κs =
     let entry = c .before .before .before .before in
     let a = entry .args in
     let z = deriv-size (a .tab .now) (a .n) (a .root .0) (a .symbol .0) (a .k) (goalsFrom (a .ws .now) (a .at) (a .goals)) in
-    (entry .pre .0, entry .pre .1, entry .pre .2, entry .pre .3, omega (arith, z))
+    (entry .pre .0, omega (arith, z))
 
 put-moving-requires : tie.Need-put-moving-requires
 put-moving-requires c κs =
@@ -32,7 +32,7 @@ put-moving-requires c κs =
     let at-put-staying = c .before .before .before .put-staying in
     let a = entry .args in
     let z = deriv-size (a .tab .now) (a .n) (a .root .0) (a .symbol .0) (a .k) (goalsFrom (a .ws .now) (a .at) (a .goals)) in
-    (entry .pre .0, entry .pre .1, entry .pre .2, entry .pre .3, omega (arith, z, at-put-staying .ensures .0, at-put-staying .kept .1 .1 .1 .1 .1 .0))
+    (entry .pre .0, omega (arith, z, at-put-staying .ensures .0, at-put-staying .kept .1 .1 .1 .1 .1 .0))
 
 put-born-requires : tie.Need-put-born-requires
 put-born-requires c κs =
@@ -41,7 +41,7 @@ put-born-requires c κs =
     let at-put-moving = c .before .before .before .put-moving in
     let a = entry .args in
     let z = deriv-size (a .tab .now) (a .n) (a .root .0) (a .symbol .0) (a .k) (goalsFrom (a .ws .now) (a .at) (a .goals)) in
-    (entry .pre .4, entry .pre .5, omega (arith, z, at-put-staying .ensures .0, at-put-staying .kept .1 .1 .1 .1 .1 .0, at-put-moving .ensures .0, at-put-moving .kept .1 .1 .1 .1 .1 .1 .0))
+    (entry .pre .1 .0, entry .pre .1 .1, omega (arith, z, at-put-staying .ensures .0, at-put-staying .kept .1 .1 .1 .1 .1 .0, at-put-moving .ensures .0, at-put-moving .kept .1 .1 .1 .1 .1 .1 .0))
 
 same-length : tie.Need-same-length
 same-length c = search needs

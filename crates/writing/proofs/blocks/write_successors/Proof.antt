@@ -1,5 +1,5 @@
 use Rattle.writing.proofs.WriteLaws.{Paired, paired-begin, paired-on, paired-end}
-use Rattle.goals.specs.WordStages.{leastCode}
+use Rattle.goals.specs.WordStages.{leastCode, displacementW}
 use Rattle.decoding.specs.WordMachine.{statesIn}
 use Rattle.deriving.specs.Orders.{classAt}
 use Rattle.states.specs.Meeting.{placeOf, liftedW}
@@ -15,7 +15,7 @@ use Rattle.writing.proofs.blocks.write_successors.Lts as lts
 use Rattle.writing.proofs.blocks.write_successor.Reads as write-successor-reads
 
 abbrev Inv-loop : tie.InvT-loop
-Inv-loop scratch m goals n dep order at plan₀ here₀ j₀ plan here j = Paired (λ x. placeOf (statesIn scratch m) (liftedW (classAt dep goals n (x % 128)))) (λ x. leastCode 65535 (classAt dep goals n (x % 128))) order plan₀ plan at here j
+Inv-loop scratch m goals n dep order at plan₀ here₀ j₀ plan here j = Paired (λ x. placeOf (statesIn scratch m) (liftedW (classAt dep goals n (x % 128)))) (λ x. displacementW (classAt dep goals n (x % 128))) order plan₀ plan at here j
 
 abbrev μ-loop : tie.MeasureT-loop
 μ-loop scratch m goals n dep order at plan₀ here₀ j₀ plan here j = length order - j
@@ -40,7 +40,7 @@ add-here c = search needs
 loop-holds : tie.Need-loop-holds Inv-loop μ-loop
 loop-holds c =
     let entry = c .before .before .before .before in
-    paired-begin (λ x. placeOf (statesIn (entry .args .scratch .now) (entry .args .m)) (liftedW (classAt (entry .args .dep .now) (entry .args .goals .now) (entry .args .n) (x % 128)))) (λ x. leastCode 65535 (classAt (entry .args .dep .now) (entry .args .goals .now) (entry .args .n) (x % 128))) (entry .args .order .now) (set (entry .args .plan .now) (entry .args .at) (length (entry .args .order .now))) (entry .args .at)
+    paired-begin (λ x. placeOf (statesIn (entry .args .scratch .now) (entry .args .m)) (liftedW (classAt (entry .args .dep .now) (entry .args .goals .now) (entry .args .n) (x % 128)))) (λ x. displacementW (classAt (entry .args .dep .now) (entry .args .goals .now) (entry .args .n) (x % 128))) (entry .args .order .now) (set (entry .args .plan .now) (entry .args .at) (length (entry .args .order .now))) (entry .args .at)
 
 -- src/blocks.rt:112:53
 mul-write-successor : tie.Need-mul-write-successor Inv-loop μ-loop
@@ -84,7 +84,7 @@ loop-again : tie.Need-loop-again Inv-loop μ-loop
 loop-again c =
     let entry = c .before .before .before .before .before .before .before .before .before .before .before in
     let at-loop = c .before .before .before .before .before .before .loop in
-    paired-on (λ x. placeOf (statesIn (entry .args .scratch .now) (entry .args .m)) (liftedW (classAt (entry .args .dep .now) (entry .args .goals .now) (entry .args .n) (x % 128)))) (λ x. leastCode 65535 (classAt (entry .args .dep .now) (entry .args .goals .now) (entry .args .n) (x % 128))) (entry .args .order .now) (set (entry .args .plan .now) (entry .args .at) (length (entry .args .order .now))) (entry .args .at) (at-loop .inv) (c .before .before .before .before .before .loop-test .taken) _ (c .before .before .write-successor .ensures)
+    paired-on (λ x. placeOf (statesIn (entry .args .scratch .now) (entry .args .m)) (liftedW (classAt (entry .args .dep .now) (entry .args .goals .now) (entry .args .n) (x % 128)))) (λ x. displacementW (classAt (entry .args .dep .now) (entry .args .goals .now) (entry .args .n) (x % 128))) (entry .args .order .now) (set (entry .args .plan .now) (entry .args .at) (length (entry .args .order .now))) (entry .args .at) (at-loop .inv) (c .before .before .before .before .before .loop-test .taken) _ (c .before .before .write-successor .ensures)
 
 -- src/blocks.rt:103:1
 same-length : tie.Need-same-length Inv-loop μ-loop
@@ -96,7 +96,7 @@ same-length c =
 returns : tie.Need-returns Inv-loop μ-loop
 returns c =
     let entry = c .before .before .before .before .before .before in
-    paired-end (λ x. placeOf (statesIn (entry .args .scratch .now) (entry .args .m)) (liftedW (classAt (entry .args .dep .now) (entry .args .goals .now) (entry .args .n) (x % 128)))) (λ x. leastCode 65535 (classAt (entry .args .dep .now) (entry .args .goals .now) (entry .args .n) (x % 128))) (entry .args .order .now) (set (entry .args .plan .now) (entry .args .at) (length (entry .args .order .now))) (entry .args .at) (c .before .loop .inv) (c .loop-test .left) (entry .args .plan .now) refl
+    paired-end (λ x. placeOf (statesIn (entry .args .scratch .now) (entry .args .m)) (liftedW (classAt (entry .args .dep .now) (entry .args .goals .now) (entry .args .n) (x % 128)))) (λ x. displacementW (classAt (entry .args .dep .now) (entry .args .goals .now) (entry .args .n) (x % 128))) (entry .args .order .now) (set (entry .args .plan .now) (entry .args .at) (length (entry .args .order .now))) (entry .args .at) (c .before .loop .inv) (c .loop-test .left) (entry .args .plan .now) refl
 
 pub write-successors-spec : {M : Type 1} → statement M
 write-successors-spec =
