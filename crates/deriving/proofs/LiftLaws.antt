@@ -8,8 +8,10 @@ use native.Mathlib.Nat.{pow-suc, mod-le}
 use borrow.Author.Tests.{lt-ltb, le-ltb}
 use lib.Dec.{ltb}
 use lib.ListN.{length, getD}
+use lib.Seq.{sets}
 use Rattle.goals.specs.GoalWords.{GoalWords, goalAt, goalsFrom, flat}
-use Rattle.goals.specs.WordStages.{leastCode, underFrom, underCode, liftW}
+use Rattle.goals.specs.WordStages.{leastCode, underFrom, underCode, liftW, displacementW}
+use Rattle.deriving.specs.Passes.{Lifts}
 use Rattle.goals.proofs.GoalLaws.{goals-next, goals-end, sub-one}
 
 module _ (ws : List ℕ) (at k best : ℕ) where
@@ -68,3 +70,6 @@ lifted-next c ws at k h = ap (λ gs. flat (map (liftW c) gs)) (goals-next ws at 
 pub lifted-end : (c : ℕ) (ws : List ℕ) (at k : ℕ) → k ≤ 0 → lifted c ws at k ≡ []
 unfolding flat
 lifted-end c ws at k h = ap (λ gs. flat (map (liftW c) gs)) (goals-end ws at k h)
+
+pub lifts : (gs : List GoalWords) (top : ℕ) (old new : List ℕ) → top ≡ displacementW gs → new ≡ sets old 0 (flat (map (liftW top) gs)) → Lifts gs top old new
+lifts gs top old new t e = (t, e ∙ ap (λ x. sets old 0 (flat (map (liftW x) gs))) t)

@@ -115,7 +115,7 @@ module _ (tab ws : List ℕ) (n : ℕ) (d : Square) (few : n ≤ 96) where
         sort-keyed (classAt d ws n) (classKey tab) (begins d) 0 n (omega arith)
         ∙ ap (sort (λ a b. ltb (classKey tab a) (classKey tab b))) (sym (
         rows-passing (λ r. pickedW r gs) (begins d) (classAt d ws n) 0 (closedW tab gs)
-        (λ a h. rw (zero-add a) (leads-same a (getD (closedW tab gs) a []) (getD d a []) (λ b g. same-cell a b h (omega arith))))
+        (λ a h. rw (zero-add a) (leads-same a (getD (closedW tab gs) a []) (getD d a []) (λ b g. same-cell a b h (let l : a < n = rw closed-rows at h in omega arith))))
         (λ a h. rw (zero-add a) (picked-same gs (getD (closedW tab gs) a []) (getD d a []) (λ b g. same-cell a b h (rw (goals-length ws 0 n) at g))))
         ∙ ap (λ k. passing (classAt d ws n) (classKey tab) (begins d) 0 k) closed-rows))
 

@@ -2,7 +2,6 @@
 --   flat-back         goals written at the start, read again
 --   flat-thirds       how many, from how many words
 --   picked-few        a row picks no more than there are
---   low-at            each goal's shape, one by one
 use mathlib.Core.Path.{_≡_, refl, ap, sym, _∙_}
 use mathlib.Core.List.{List, [], _∷_, _++_}
 use mathlib.Core.Bool.{Bool, true, false, cond}
@@ -11,9 +10,8 @@ use native.Mathlib.Omega.{arith}
 use native.Mathlib.Nat.{zero-add, add-zero}
 use lib.ListN.{length, getD}
 use lib.Seq.{sets}
-use Rattle.goals.specs.GoalWords.{GoalWords, goalAt, goalsFrom, flat, Low}
+use Rattle.goals.specs.GoalWords.{GoalWords, goalAt, goalsFrom, flat}
 use Rattle.goals.specs.WordStages.{pickedW}
-use Rattle.deriving.specs.Orders.{goalOn}
 use Rattle.decoding.proofs.Room.{flat-length}
 use Rattle.classes.proofs.SameLaws.{goals-same}
 use Rattle.states.proofs.StateLaws.{sets-in}
@@ -49,9 +47,3 @@ picked-few (b ∷ r) (g ∷ gs) = go b (pickedW r gs) (picked-few r gs)
     go : (b : Bool) (hs : List GoalWords) → length hs ≤ length gs → length (cond b (g ∷ hs) hs) ≤ suc (length gs)
     go true hs h = omega arith
     go false hs h = omega arith
-
-pub low-at : (ws : List ℕ) (at n j : ℕ) → Low (goalsFrom ws at n) → j < n → goalOn ws at j .sh < 16
-unfolding goalsFrom
-low-at ws at zero j l h = absurd (omega arith)
-low-at ws at (suc n) zero l h = let e : at + 3 * 0 ≡ at = omega arith in rw e (l .0)
-low-at ws at (suc n) (suc j) l h = let e : at + 3 * suc j ≡ at + 3 + 3 * j = omega arith in rw e (low-at ws (at + 3) n j (l .1) (omega arith))
