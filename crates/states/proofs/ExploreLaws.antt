@@ -1,5 +1,5 @@
 -- Exploring, turn by turn.
---   class-room Lifting lifting          a class and the lifted class in arrays
+--   class-… Lifting lifting             a class and the lifted class in arrays
 --   met-known met-full met-new          the ways to meet a class in scratch
 --   Meeting meeting-…                   classes in turn
 --   symbol-…                            a state on a symbol, from its parts
@@ -20,7 +20,7 @@ use lib.ListN.{length, getD, getElem?, take, drop, replicate, length-append, len
 use lib.Seq.{sets, length-sets}
 use Rattle.kinds.specs.Lists.{gather, concat, range, sort}
 use Rattle.kinds.specs.declared.Reason.{Reason}
-use Rattle.kinds.specs.declared.Reason.the-variants.{ManyStates}
+use Rattle.kinds.specs.declared.Reason.the-variants.{ManyGoals, ManyStates}
 use Rattle.kinds.specs.Positions.{code}
 use Rattle.kinds.proofs.Members.{_∈_, in-one, length-range, perm-length, sort-perm}
 use Rattle.kinds.proofs.ListLaws.{map-append, concat-append, from, from-end, run-whole}
@@ -37,7 +37,8 @@ use Rattle.deriving.specs.Orders.{classAt}
 use Rattle.deriving.specs.Passes.{PutsFirst, Lifts}
 use Rattle.automaton.specs.Classes.{Square}
 use Rattle.states.specs.Meeting.{placeOf, AllGood, Held, Behind, blocksLength, rowMost, ClassesMet, MetIs, SymbolIs, RowIs, ExploredIs}
-use Rattle.states.specs.Parting.{OnSymbol, firsts, classesBy, Parted}
+use Rattle.states.specs.Parting.{derivedWords, OnSymbol, firsts, classesBy, Parted}
+use Rattle.classes.specs.Squares.{Squared}
 use Rattle.states.specs.declared.Parts.{Parts}
 use Rattle.states.specs.declared.Going.{Going}
 use Rattle.states.specs.declared.Going.the-variants as going
@@ -47,15 +48,16 @@ use Rattle.goals.proofs.GoalLaws.{goals-length}
 use Rattle.states.proofs.WordArrays.{flat-back, flat-thirds, picked-few}
 use Rattle.states.proofs.PartLaws.{held-good, on-symbol}
 use Rattle.states.proofs.StateLaws.{states-length, states-at, added, states-added, kept-added, added-behind}
-use Rattle.states.proofs.MeetLaws.{meet-known, meet-full, meet-new, onto, meets-begin, meets-stop, meets-on, meets-end, row-stop, row-on, run-stop, run-on, run-end}
+use Rattle.states.proofs.MeetLaws.{meet-big, meet-known, meet-full, meet-new, onto, meets-begin, meets-stop, meets-on, meets-end, row-stop, row-on, run-stop, run-on, run-end}
 use Rattle.decoding.proofs.GoodLaws.{good-start, good-label, good-next, deriv-low, deriv-room}
 
 -- ---- one class
-pub class-few : (d : List (List Bool)) (ws : List ℕ) (n r : ℕ) → n ≤ 96 → length (classAt d ws n r) ≤ 96
-class-few d ws n r h = let a = picked-few (getD d r []) (goalsFrom ws 0 n) in let b = goals-length ws 0 n in omega arith
+module _ {goals : List ℕ} {n : ℕ} {dep : Square} (s : Squared goals n dep) (r : ℕ) where
+  class-few : length (classAt dep goals n r) ≤ 96
+  class-few = let a = picked-few (getD dep r []) (goalsFrom goals 0 n) in let b = goals-length goals 0 n in omega (arith, s .few)
 
-pub class-room : (d : List (List Bool)) (ws : List ℕ) (n r : ℕ) → n ≤ 96 → length (flat (classAt d ws n r)) ≤ 288
-class-room d ws n r h = let a = class-few d ws n r h in let b = flat-length (classAt d ws n r) in omega arith
+  pub class-room : length (flat (classAt dep goals n r)) ≤ derivedWords
+  class-room = let a = class-few in let b = flat-length (classAt dep goals n r) in omega arith
 
 pub record Lifting (K : List GoalWords) (lifted : List ℕ) (k top : ℕ) : Type 0 where
   pub count : k ≡ length K
@@ -71,11 +73,27 @@ lifting K z class y lifted pk top a c d f =
     let m : length (liftedW K) ≡ length K = length-map K (liftW (displacementW K)) in
     record { count = n; top-is = d .0 ∙ ap displacementW g; up = flat-back y lifted (liftedW K) (pk / 3) w (n ∙ sym m) (rw m f) }
 
+-- a class of the square, put in an array and lifted
+pub class-lifted : {goals : List ℕ} {n : ℕ} {dep : Square} → Squared goals n dep → (r : ℕ) (z class y lifted : List ℕ) (pk top : ℕ) → PutsFirst (flat (classAt dep goals n r)) pk z class → length z ≡ derivedWords
+    → pk / 3 ≤ 32 → Lifts (goalsFrom class 0 (pk / 3)) top y lifted → length y ≡ 96 → Lifting (classAt dep goals n r) lifted (pk / 3) top
+class-lifted {goals} {n} {dep} s r z class y lifted pk top puts long few lifts wide =
+    let K = classAt dep goals n r in
+    let many = flat-thirds K pk (puts .0) in
+    let room = class-few s r in
+    lifting K z class y lifted pk top puts (omega arith) lifts (omega arith)
+
+-- a class of too many goals
+pub class-big : {goals : List ℕ} {n : ℕ} {dep : Square} → Squared goals n dep → (r : ℕ) (z class : List ℕ) (pk : ℕ) → PutsFirst (flat (classAt dep goals n r)) pk z class → (sc : List ℕ) (m : ℕ)
+    → 32 < pk / 3 → MetIs (going.Stopped ManyGoals) sc 0 (meet (words [] 0) (statesIn sc m) (classAt dep goals n r))
+class-big {goals} {n} {dep} s r z class pk puts sc m h =
+    let many = flat-thirds (classAt dep goals n r) pk (puts .0) in
+    meet-big (words [] 0) (statesIn sc m) (classAt dep goals n r) (omega arith)
+
 pub place-in : (tab : List ℕ) (n : ℕ) (ss : List (List GoalWords)) (K : List GoalWords) → placeOf ss (liftedW K) ≡ succOf (words tab n) ss K .to
 unfolding placeOf
 place-in tab n ss K = refl
 
-module _ (sc : List ℕ) (m : ℕ) (kept : Kept sc m) (K : List GoalWords) (lifted : List ℕ) (k top r : ℕ) (l : Lifting K lifted k top) (few : k ≤ 32) (p : r ≡ placeOf (statesIn sc m) (goalsFrom lifted 0 k)) where
+module _ {sc : List ℕ} {m : ℕ} (kept : Kept sc m) {K : List GoalWords} {lifted : List ℕ} {k top r : ℕ} (l : Lifting K lifted k top) (few : k ≤ 32) (p : r ≡ placeOf (statesIn sc m) (goalsFrom lifted 0 k)) where
   small : length K ≤ 32
   small = let c = l .count in omega arith
 
@@ -113,7 +131,7 @@ meets-one-length : (ss : List (List GoalWords)) (K : List GoalWords) (ss′ : Li
 meets-one-length ss K ss′ ys e = meet-found (words [] 0) ss K ss′ ys e .count
 
 -- ---- classes in turn
-pub record Meeting (d : List (List Bool)) (ws : List ℕ) (n : ℕ) (order : List ℕ) (base : ℕ) (sc₀ : List ℕ) (m : ℕ) (sc : List ℕ) (states count j : ℕ) : Type 0 where
+pub record Meeting (d : Square) (ws : List ℕ) (n : ℕ) (order : List ℕ) (base : ℕ) (sc₀ : List ℕ) (m : ℕ) (sc : List ℕ) (states count j : ℕ) : Type 0 where
   pub below : j ≤ length order
   pub kept : Kept sc states
   pub long : length sc ≡ length sc₀
@@ -123,7 +141,7 @@ pub record Meeting (d : List (List Bool)) (ws : List ℕ) (n : ℕ) (order : Lis
   pub many : length xs ≡ j
   pub is : meets (words [] 0) (statesIn sc₀ m) (classesBy d ws n order) ≡ onto (words [] 0) xs (meets (words [] 0) (statesIn sc states) (classesBy d ws n (drop j order)))
 
-module _ (d : List (List Bool)) (ws : List ℕ) (n : ℕ) (order : List ℕ) (base : ℕ) (sc₀ : List ℕ) (m : ℕ) where
+module _ {d : Square} {ws : List ℕ} {n : ℕ} {order : List ℕ} {base : ℕ} {sc₀ : List ℕ} {m : ℕ} where
   pub meeting-begin : Kept sc₀ m → Meeting d ws n order base sc₀ m sc₀ m base 0
   meeting-begin kept = record {
     below = omega arith;
@@ -238,7 +256,7 @@ pub record Rowing (ar tab : List ℕ) (n : ℕ) (sc₀ : List ℕ) (m i : ℕ) (
   pub many : count ≡ blocksLength more
   pub is : (bs : List Block) → row (words tab n) i (stateIn sc₀ i) 0 ar (statesIn sc₀ m) bs ≡ row (words tab n) i (stateIn sc₀ i) f (drop f ar) (statesIn sc states) (bs ++ more)
 
-module _ (ar tab : List ℕ) (n : ℕ) (sc₀ : List ℕ) (m i : ℕ) where
+module _ {ar tab : List ℕ} {n : ℕ} {sc₀ : List ℕ} {m i : ℕ} where
   pub rowing-begin : Held ar tab n sc₀ m → i < m → Rowing ar tab n sc₀ m i sc₀ m 0 0
   rowing-begin held h = record {
     below = omega arith;
@@ -339,7 +357,7 @@ pub record Running (ar tab : List ℕ) (n : ℕ) (sc₀ sc : List ℕ) (m count 
   pub many : count ≡ blocksLength blocks
   pub is : explored (words tab n) ar ≡ run (words tab n) ar (128 - i) i (statesIn sc m) blocks
 
-module _ (ar tab : List ℕ) (n : ℕ) (sc₀ : List ℕ) where
+module _ {ar tab : List ℕ} {n : ℕ} (sc₀ : List ℕ) where
   pub running-begin : Ready ar tab n → statesWords ≤ length sc₀ → (first sc : List ℕ) → first ≡ sets (replicate 96 0) 0 (flat (freshesW n 0)) → sc ≡ added sc₀ 0 first n → Running ar tab n sc sc 1 0 0 × (Behind sc₀ sc)
   running-begin ready long first sc e d =
       let few = ready .few-shapes in
@@ -364,6 +382,7 @@ module _ (ar tab : List ℕ) (n : ℕ) (sc₀ : List ℕ) where
         ap (drop statesWords) d ∙ added-behind sc₀ 0 first n long (omega arith) (omega arith) (omega arith),
       )
 
+module _ {ar tab : List ℕ} {n : ℕ} {sc₀ : List ℕ} where
   module _ {sc : List ℕ} {m count i : ℕ} (s : Running ar tab n sc₀ sc m count i) where
     module _ (h : i < m) where
       abbrev Turn : Going → List ℕ → Type 0

@@ -25,13 +25,13 @@ use Rattle.deriving.specs.Orders.{keyed, classAt, begins, leadItems, goalOn, go
 use Rattle.deriving.specs.Passes.{PutsFirst, Derivable, Arranged}
 use Rattle.deriving.proofs.SortLaws.{sort-length}
 use Rattle.deriving.proofs.OrderLaws.{keyed-count}
-use Rattle.classes.specs.Squares.{IsSquare, shares, Closes}
+use Rattle.classes.specs.Squares.{IsSquare, Squared, shares, Closes}
 use Rattle.decoding.specs.WordMachine.{words, placeIn, statesWords, stateIn, statesIn, Kept}
 use Rattle.decoding.specs.GoodStates.{GoodState}
 use Rattle.decoding.proofs.Room.{flat-length}
 use Rattle.decoding.proofs.GoodLaws.{good-low, good-label, deriv-low, deriv-room}
 use Rattle.states.specs.Meeting.{AllGood, Held}
-use Rattle.states.specs.Parting.{derivedWords, OnSymbol, firsts, Named, goalsBy, Squared, classesBy, Lent, Parted}
+use Rattle.states.specs.Parting.{derivedWords, OnSymbol, firsts, Named, goalsBy, classesBy, Lent, Parted}
 use Rattle.states.specs.declared.Parts.{Parts}
 use Rattle.states.proofs.StateLaws.{states-length, states-at}
 use Rattle.states.proofs.WordArrays.{flat-back, flat-thirds}

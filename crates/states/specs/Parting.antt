@@ -4,7 +4,6 @@
 --   firsts         the first k of a list, as `&l[0..k]` lends them
 --   Named          at most 96 numbers, each naming a place below b by its last seven bits
 --   goalsBy        the goals so named, of the state at a place of the words
---   Squared        n goals in words, with the square of their dependency
 --   classesBy      the classes that the rows so named begin
 --   Lent           the arrays that code fills are long enough
 --   Parted         what they hold then
@@ -16,7 +15,7 @@ use Rattle.automaton.specs.Classes.{Square}
 use Rattle.goals.specs.GoalWords.{GoalWords, labelCode}
 use Rattle.goals.specs.WordStages.{outputsW}
 use Rattle.deriving.specs.Orders.{classAt, goalOn}
-use Rattle.classes.specs.Squares.{IsSquare}
+use Rattle.classes.specs.Squares.{IsSquare, Squared}
 use Rattle.decoding.specs.WordMachine.{words, placeIn, statesWords, stateIn}
 use Rattle.decoding.specs.GoodStates.{GoodState}
 use Rattle.states.specs.declared.Parts.{Parts}
@@ -42,11 +41,6 @@ pub record Named (b : ℕ) (xs : List ℕ) : Type 0 where
 
 abbrev pub goalsBy : List ℕ → ℕ → List ℕ → List GoalWords
 goalsBy ws at xs = map (λ x. goalOn ws at (x % 128)) xs
-
-pub record Squared (goals : List ℕ) (n : ℕ) (dep : Square) : Type 0 where
-  pub few : n ≤ 96
-  pub room : 3 * n ≤ length goals
-  pub square : IsSquare 96 dep
 
 abbrev pub classesBy : Square → List ℕ → ℕ → List ℕ → List (List GoalWords)
 classesBy d ws n xs = map (λ x. classAt d ws n (x % 128)) xs

@@ -45,7 +45,7 @@ put-goal-requires c κs =
     let entry = c .before .before .before .before .before .before .before .before in
     let at-loop-test = c .before .before .before .before .loop-test in
     let a = entry .args in let l = c .before .before .before .before .before .loop in
-    let p = pick-on (getD (a .dep .now) (a .i) []) (a .ws .now) (l .here) (a .n) (l .j) (at-loop-test .taken) (omega (arith, at-loop-test .taken, entry .pre .0, entry .pre .2 .cols (a .i) (entry .pre .1))) (c .before .before .if1 .taken) in
+    let p = pick-on (getD (a .dep .now) (a .i) []) (a .ws .now) (l .here) (a .n) (l .j) (at-loop-test .taken) (omega (arith, at-loop-test .taken, entry .pre .0 .few, entry .pre .0 .square .cols (a .i) (entry .pre .1))) (c .before .before .if1 .taken) in
     omega (arith, ap length p)
 
 add-next : tie.Need-add-next Inv-loop μ-loop
@@ -54,7 +54,7 @@ add-next c =
     let at-loop = c .before .before .before .before .before .before .before .before .loop in
     let at-loop-test = c .before .before .before .before .before .before .before .loop-test in
     let a = entry .args in let l = at-loop in
-    let p = pick-on (getD (a .dep .now) (a .i) []) (a .ws .now) (l .here) (a .n) (l .j) (at-loop-test .taken) (omega (arith, at-loop-test .taken, entry .pre .0, entry .pre .2 .cols (a .i) (entry .pre .1))) (c .before .before .before .before .before .if1 .taken) in
+    let p = pick-on (getD (a .dep .now) (a .i) []) (a .ws .now) (l .here) (a .n) (l .j) (at-loop-test .taken) (omega (arith, at-loop-test .taken, entry .pre .0 .few, entry .pre .0 .square .cols (a .i) (entry .pre .1))) (c .before .before .before .before .before .if1 .taken) in
     omega (arith, ap length p)
 
 add-here : tie.Need-add-here Inv-loop μ-loop
@@ -72,7 +72,7 @@ loop-again c =
     let at-loop-test = c .before .before .loop-test in
     let a = entry .args in let l = c .before .before .before .loop in
     let row = getD (a .dep .now) (a .i) [] in
-    let in-row : l .j < length row = omega (arith, at-loop-test .taken, entry .pre .0, entry .pre .2 .cols (a .i) (entry .pre .1)) in
+    let in-row : l .j < length row = omega (arith, at-loop-test .taken, entry .pre .0 .few, entry .pre .0 .square .cols (a .i) (entry .pre .1)) in
     let rest = Left row (a .ws .now) (l .here + 3) (a .n) (l .j + 1) in
     ⊎-elim
     (λ w. let p = pick-on row (a .ws .now) (l .here) (a .n) (l .j) (at-loop-test .taken) in-row (w .0 .taken) in (

@@ -20,7 +20,7 @@ abbrev μ-loop : tie.MeasureT-loop
 loop-holds : tie.Need-loop-holds Inv-loop μ-loop
 loop-holds c =
     let entry = c .before .before .before in
-    meeting-begin (entry .args .dep .now) (entry .args .goals .now) (entry .args .n) (entry .args .order .now) (entry .args .base) (entry .args .scratch .now) (entry .args .m) (entry .pre .0)
+    meeting-begin (entry .pre .0)
 
 -- src/meeting.rt:111:53
 mul-meet : tie.Need-mul-meet Inv-loop μ-loop
@@ -39,7 +39,7 @@ meet-requires : tie.Need-meet-requires Inv-loop μ-loop
 meet-requires c κs =
     let entry = c .before .before .before .before .before .before .before in
     let at-loop = c .before .before .before .loop in
-    (at-loop .inv .kept, entry .pre .1, entry .pre .2, entry .pre .3, entry .pre .5 (at-loop .j) (c .before .before .loop-test .taken))
+    (at-loop .inv .kept, entry .pre .1, entry .pre .2 .low (at-loop .j) (c .before .before .loop-test .taken))
 
 -- src/meeting.rt:112:21
 enum-known-all : tie.Need-enum-known-all Inv-loop μ-loop
@@ -52,7 +52,7 @@ add-words c =
     let at-loop = c .before .before .before .before .before .before .before .before .before .loop in
     let at-loop-test = c .before .before .before .before .before .before .before .before .loop-test in
     let at-meet = c .before .before .before .before .before .meet in
-    let s = meeting-on (entry .args .dep .now) (entry .args .goals .now) (entry .args .n) (entry .args .order .now) (entry .args .base) (entry .args .scratch .now) (entry .args .m) (at-loop .inv) (at-loop-test .taken) _ (at-meet .result) _ _ (c .before .all .given .1) (at-meet .ensures .0) (at-meet .ensures .1) (at-meet .kept .0) in omega (arith, s .sum, s .below, entry .pre .4, entry .pre .6)
+    let s = meeting-on (at-loop .inv) (at-loop-test .taken) _ (at-meet .result) _ _ (c .before .all .given .1) (at-meet .ensures .0) (at-meet .ensures .1) (at-meet .kept .0) in omega (arith, s .sum, s .below, entry .pre .2 .short, entry .pre .3)
 
 -- src/meeting.rt:116:26
 enum-known-reason : tie.Need-enum-known-reason Inv-loop μ-loop
@@ -71,7 +71,7 @@ returns c =
     let at-loop = c .before .before .before .before .before .before .before .before .before .loop in
     let at-loop-test = c .before .before .before .before .before .before .before .before .loop-test in
     let at-meet = c .before .before .before .before .before .meet in
-    (meeting-stop (entry .args .dep .now) (entry .args .goals .now) (entry .args .n) (entry .args .order .now) (entry .args .base) (entry .args .scratch .now) (entry .args .m) (at-loop .inv) (at-loop-test .taken) _ (at-meet .result) _ (c .before .reason .given .1) (at-meet .ensures .0), at-meet .ensures .1 ∙ at-loop .inv .behind)
+    (meeting-stop (at-loop .inv) (at-loop-test .taken) _ (at-meet .result) _ (c .before .reason .given .1) (at-meet .ensures .0), at-meet .ensures .1 ∙ at-loop .inv .behind)
 
 -- src/meeting.rt:120:9
 add-j : tie.Need-add-j Inv-loop μ-loop
@@ -88,7 +88,7 @@ loop-again c =
     let at-loop = c .before .before .before .before .before .before .before .before .before .loop in
     let at-loop-test = c .before .before .before .before .before .before .before .before .loop-test in
     let at-meet = c .before .before .before .before .before .meet in
-    meeting-on (entry .args .dep .now) (entry .args .goals .now) (entry .args .n) (entry .args .order .now) (entry .args .base) (entry .args .scratch .now) (entry .args .m) (at-loop .inv) (at-loop-test .taken) _ (at-meet .result) _ _ (c .before .all .given .1) (at-meet .ensures .0) (at-meet .ensures .1) (at-meet .kept .0)
+    meeting-on (at-loop .inv) (at-loop-test .taken) _ (at-meet .result) _ _ (c .before .all .given .1) (at-meet .ensures .0) (at-meet .ensures .1) (at-meet .kept .0)
 
 -- src/meeting.rt:102:1
 same-length-2 : tie.Need-same-length-2 Inv-loop μ-loop
@@ -98,7 +98,7 @@ same-length-2 c = c .before .loop .inv .long
 returns-2 : tie.Need-returns-2 Inv-loop μ-loop
 returns-2 c =
     let entry = c .before .before .before .before .before in
-    (meeting-end (entry .args .dep .now) (entry .args .goals .now) (entry .args .n) (entry .args .order .now) (entry .args .base) (entry .args .scratch .now) (entry .args .m) (c .before .loop .inv) (c .loop-test .left) (entry .pre .4), c .before .loop .inv .behind)
+    (meeting-end (c .before .loop .inv) (c .loop-test .left) (entry .pre .2 .short), c .before .loop .inv .behind)
 
 pub meet-all-spec : {M : Type 1} → statement M
 meet-all-spec =
