@@ -82,6 +82,9 @@ class-lifted {goals} {n} {dep} s r z class y lifted pk top puts long few lifts w
     let room = class-few s r in
     lifting K z class y lifted pk top puts (omega arith) lifts (omega arith)
 
+pub class-count : {goals : List ℕ} {n : ℕ} {dep : Square} → Squared goals n dep → (r : ℕ) (z class : List ℕ) (pk : ℕ) → PutsFirst (flat (classAt dep goals n r)) pk z class → pk / 3 ≡ length (classAt dep goals n r)
+class-count {goals} {n} {dep} s r z class pk puts = flat-thirds (classAt dep goals n r) pk (puts .0)
+
 -- a class of too many goals
 pub class-big : {goals : List ℕ} {n : ℕ} {dep : Square} → Squared goals n dep → (r : ℕ) (z class : List ℕ) (pk : ℕ) → PutsFirst (flat (classAt dep goals n r)) pk z class → (sc : List ℕ) (m : ℕ)
     → 32 < pk / 3 → MetIs (going.Stopped ManyGoals) sc 0 (meet (words [] 0) (statesIn sc m) (classAt dep goals n r))

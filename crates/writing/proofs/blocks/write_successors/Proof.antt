@@ -1,11 +1,11 @@
-use Rattle.writing.proofs.WriteLaws.{Paired, paired-begin, paired-on, paired-end}
-use Rattle.goals.specs.WordStages.{leastCode, displacementW}
+use Rattle.writing.proofs.WriteLaws.{Paired, paired-begin, paired-room, paired-on, paired-end}
+use Rattle.states.specs.Meeting.{placeOf}
+use Rattle.goals.specs.WordStages.{displacementW, liftedW}
 use Rattle.decoding.specs.WordMachine.{statesIn}
 use Rattle.deriving.specs.Orders.{classAt}
-use Rattle.states.specs.Meeting.{placeOf, liftedW}
-use lib.ListN.{length, getD, set, length-set}
-use Prim.Native.Nat.{ℕ, _≤_, _<_, _+_, _-_, _*_, _%_}
-use mathlib.Core.Path.{_≡_, refl, ap, ap₂, sym, _∙_}
+use lib.ListN.{length, length-set}
+use Prim.Native.Nat.{_-_, _%_}
+use mathlib.Core.Path.{refl, _∙_}
 use native.Mathlib.Omega.{arith}
 use borrow.Author.Needs.{needs}
 use Rattle.writing.proofs.blocks.write_successors.Statement.{statement}
@@ -38,9 +38,7 @@ add-here c = search needs
 
 -- src/blocks.rt:111:5
 loop-holds : tie.Need-loop-holds Inv-loop μ-loop
-loop-holds c =
-    let entry = c .before .before .before .before in
-    paired-begin (λ x. placeOf (statesIn (entry .args .scratch .now) (entry .args .m)) (liftedW (classAt (entry .args .dep .now) (entry .args .goals .now) (entry .args .n) (x % 128)))) (λ x. displacementW (classAt (entry .args .dep .now) (entry .args .goals .now) (entry .args .n) (x % 128))) (entry .args .order .now) (set (entry .args .plan .now) (entry .args .at) (length (entry .args .order .now))) (entry .args .at)
+loop-holds c = paired-begin
 
 -- src/blocks.rt:112:53
 mul-write-successor : tie.Need-mul-write-successor Inv-loop μ-loop
@@ -54,7 +52,7 @@ shared-slice-read-write-successor c = search needs
 cast-write-successor : tie.Need-cast-write-successor Inv-loop μ-loop
 cast-write-successor c =
     let entry = c .before .before .before .before .before .before .before in
-    omega (arith, entry .pre .5 (c .before .before .loop .j) (c .before .loop-test .taken))
+    omega (arith, entry .pre .2 .low (c .before .before .loop .j) (c .before .loop-test .taken))
 
 -- src/blocks.rt:112:9
 write-successor-requires : tie.Need-write-successor-requires Inv-loop μ-loop
@@ -62,14 +60,14 @@ write-successor-requires c κs =
     let entry = c .before .before .before .before .before .before .before .before in
     let at-loop = c .before .before .before .loop in
     let at-loop-test = c .before .before .loop-test in
-    let s = at-loop .inv in (entry .pre .0, entry .pre .1, entry .pre .2, entry .pre .3, entry .pre .5 (at-loop .j) (at-loop-test .taken), entry .pre .6 (at-loop .j) (at-loop-test .taken), omega (arith, s .stands, s .long, s .below, length-set (entry .args .plan .now) (entry .args .at) (length (entry .args .order .now)), at-loop-test .taken, entry .pre .4, entry .pre .7))
+    (entry .pre .0, entry .pre .1, entry .pre .2 .low (at-loop .j) (at-loop-test .taken), entry .pre .3 (at-loop .j) (at-loop-test .taken), paired-room (at-loop .inv) (at-loop-test .taken) (entry .args .plan .now) refl (entry .pre .4))
 
 -- src/blocks.rt:113:9
 add-here-2 : tie.Need-add-here-2 Inv-loop μ-loop
 add-here-2 c =
     let entry = c .before .before .before .before .before .before .before .before .before .before .before in
     let at-loop = c .before .before .before .before .before .before .loop in
-    let s = at-loop .inv in omega (arith, s .stands, s .long, s .below, length-set (entry .args .plan .now) (entry .args .at) (length (entry .args .order .now)), c .before .before .before .before .before .loop-test .taken, entry .pre .4, entry .pre .7)
+    omega (arith, paired-room (at-loop .inv) (c .before .before .before .before .before .loop-test .taken) (entry .args .plan .now) refl (entry .pre .4))
 
 -- src/blocks.rt:114:9
 add-j : tie.Need-add-j Inv-loop μ-loop
@@ -82,9 +80,8 @@ loop-less c = search needs
 -- src/blocks.rt:111:5
 loop-again : tie.Need-loop-again Inv-loop μ-loop
 loop-again c =
-    let entry = c .before .before .before .before .before .before .before .before .before .before .before in
     let at-loop = c .before .before .before .before .before .before .loop in
-    paired-on (λ x. placeOf (statesIn (entry .args .scratch .now) (entry .args .m)) (liftedW (classAt (entry .args .dep .now) (entry .args .goals .now) (entry .args .n) (x % 128)))) (λ x. displacementW (classAt (entry .args .dep .now) (entry .args .goals .now) (entry .args .n) (x % 128))) (entry .args .order .now) (set (entry .args .plan .now) (entry .args .at) (length (entry .args .order .now))) (entry .args .at) (at-loop .inv) (c .before .before .before .before .before .loop-test .taken) _ (c .before .before .write-successor .ensures)
+    paired-on (at-loop .inv) (c .before .before .before .before .before .loop-test .taken) _ (c .before .before .write-successor .ensures)
 
 -- src/blocks.rt:103:1
 same-length : tie.Need-same-length Inv-loop μ-loop
@@ -96,7 +93,7 @@ same-length c =
 returns : tie.Need-returns Inv-loop μ-loop
 returns c =
     let entry = c .before .before .before .before .before .before in
-    paired-end (λ x. placeOf (statesIn (entry .args .scratch .now) (entry .args .m)) (liftedW (classAt (entry .args .dep .now) (entry .args .goals .now) (entry .args .n) (x % 128)))) (λ x. displacementW (classAt (entry .args .dep .now) (entry .args .goals .now) (entry .args .n) (x % 128))) (entry .args .order .now) (set (entry .args .plan .now) (entry .args .at) (length (entry .args .order .now))) (entry .args .at) (c .before .loop .inv) (c .loop-test .left) (entry .args .plan .now) refl
+    paired-end (c .before .loop .inv) (c .loop-test .left) (entry .args .plan .now) refl
 
 pub write-successors-spec : {M : Type 1} → statement M
 write-successors-spec =
