@@ -16,7 +16,7 @@ use Rattle.term.specs.Places.{dom}
 use Rattle.kinds.specs.Positions.{Pos, code, decode}
 use Rattle.automaton.specs.Goals.{Goal, State}
 use Rattle.goals.specs.GoalWords.{GoalWords, codeOf, powOf, symOf, kidsOf, sizeOf}
-use Rattle.contents.specs.Tables.{blankWord}
+pub use Rattle.contents.specs.Tables.{blankWord}
 
 -- past the codes of seven digits
 abbrev pub codesEnd : ℕ

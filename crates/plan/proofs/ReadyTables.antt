@@ -48,7 +48,7 @@ use Rattle.decoding.proofs.TableFilled.{filled-is}
 use Rattle.decoding.proofs.ReductDecoded.{kids-fit}
 use Rattle.decoding.proofs.WordsSimulate.{plan-of-words}
 use Rattle.decoding.proofs.GoalDecoded.{node-pos}
-use Rattle.contents.specs.Tables.{blankWord}
+use Rattle.decoding.specs.Decoding.{blankWord}
 
 -- ---- where shapes stand
 mutual

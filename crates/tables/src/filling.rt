@@ -1,8 +1,9 @@
+use crate::TABLE_WORDS;
 ghost use mathlib.Core.Path.{_≡_};
 ghost use Prim.Native.Nat.{ℕ, _+_, _*_, _<_, _≤_};
 ghost use lib.ListN.{length, getD};
 ghost use lib.Seq.{sets};
-ghost use Rattle.tables.specs.ShapeTables.{wordAt, spanAt, seekFrom, kidsAt, nodeWord, entryW, entriesFrom};
+ghost use Rattle.tables.specs.ShapeTables.{wordAt, spanAt, seekFrom, kidsAt, nodeWord, entryW, tableWords, entriesFrom};
 
 fn word_at(words: &[u16], i: usize) -> u16
     ensures { λ r. ⌜ r ≡ wordAt (now (words .entry)) i ⌝ }
@@ -129,13 +130,13 @@ fn table_word(symbols: &[u8], words: &[u16], starts: &[u16], k: usize) -> u16
     0
 }
 
-// The five tables: words 0 to 1279 of `tab`.
+// The five tables, at the start of `tab`.
 pub fn fill_tables(symbols: &[u8], words: &[u16], starts: &[u16], tab: &mut [u16])
-    requires { ⌜ 1280 ≤ length (now tab) ⌝ }
-    ensures { λ r. ⌜ now (tab .exit) ≡ sets (now (tab .entry)) 0 (entriesFrom (now (symbols .entry)) (now (words .entry)) (now (starts .entry)) 0 1280) ⌝ }
+    requires { ⌜ tableWords ≤ length (now tab) ⌝ }
+    ensures { λ r. ⌜ now (tab .exit) ≡ sets (now (tab .entry)) 0 (entriesFrom (now (symbols .entry)) (now (words .entry)) (now (starts .entry)) 0 tableWords) ⌝ }
 {
     let mut k = 0;
-    while k < 1280 {
+    while k < TABLE_WORDS {
         tab[k] = table_word(symbols, words, starts, k);
         k += 1;
     }
