@@ -156,7 +156,8 @@ pub closed-none : (n : ℕ) (e : Square) → IsSquare 96 e → ClosedUpTo n e e 
 closed-none n e sq = record { within = omega arith; square = sq; grown = grown-refl n e; closed = λ a b ha hb way. chain-step way }
 
 pub closed-all : {n k : ℕ} {e x : Square} → ClosedUpTo n e x k → n ≤ k → ClosedUpTo n e x n
-closed-all r h = record { within = omega arith; square = r .square; grown = r .grown; closed = λ a b ha hb way. r .closed a b ha hb (chain-wider h way) }
+closed-all r h =
+    record { within = omega arith; square = r .square; grown = r .grown; closed = λ a b ha hb way. r .closed a b ha hb (chain-wider h way) }
 
 -- a square that was filled from a test and then closed
 pub filled-closes : {n : ℕ} {p : ℕ → ℕ → Bool} {e x : Square} → RowsFilled n p e n → ClosedUpTo n e x n → Closes n (Yes p) x

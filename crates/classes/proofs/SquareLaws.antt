@@ -37,13 +37,15 @@ module _ (d : Square) (i j : ℕ) (v : Bool) (hi : i < 96) (hj : j < 96) (sq : I
   }
     where
       go : (a : ℕ) → a < 96 → Dec (a ≡ i) → length (getD (store d i j v) a []) ≡ 96
-      go a h (yes e) = rw e (ap length (getD-set-same d i (set (getD d i []) j v) [] (rw (sq .rows) hi)) ∙ length-set (getD d i []) j v ∙ sq .cols i hi)
+      go a h (yes e) =
+          rw e (ap length (getD-set-same d i (set (getD d i []) j v) [] (rw (sq .rows) hi)) ∙ length-set (getD d i []) j v ∙ sq .cols i hi)
       go a h (no n) = ap length (getD-set-other d i a (set (getD d i []) j v) [] n) ∙ sq .cols a h
 
 pub row-none : (i : ℕ) (p : ℕ → Bool) (e : Square) → IsSquare 96 e → RowFilled i p e e 0
 row-none i p e sq = record { square = sq; row = λ b h. absurd (omega arith); others = λ a b n. refl }
 
-pub row-more : (i : ℕ) (p : ℕ → Bool) (e d : Square) (j : ℕ) (v : Bool) → i < 96 → j < 96 → RowFilled i p e d j → v ≡ p j → RowFilled i p e (store d i j v) (j + 1)
+pub row-more : (i : ℕ) (p : ℕ → Bool) (e d : Square) (j : ℕ) (v : Bool) → i < 96 → j < 96 → RowFilled i p e d j → v ≡ p j
+    → RowFilled i p e (store d i j v) (j + 1)
 row-more i p e d j v hi hj r w = record {
   square = store-square d i j v hi hj (r .square);
   row = λ b h. go b h (ℕ-discrete b j);

@@ -45,7 +45,8 @@ top-in T (x ∷ s) g (here e) a = now (ap (λ y. y .ann) (sym e) ∙ a)
 top-in T (x ∷ s) g (there m) a = late (top-in T s g m a)
 
 module _ {ar tab : List ℕ} {n : ℕ} (r : Ready ar tab n) where
-  pub class-part : (gs : List GoalWords) (good : GoodFor r gs) (f k : ℕ) (a : getElem? ar f ≡ some k) (c : List GoalWords) → c ∈ classesW tab (derivW tab n (labelCode tab gs) f k gs) → PartFor r c
+  pub class-part : (gs : List GoalWords) (good : GoodFor r gs) (f k : ℕ) (a : getElem? ar f ≡ some k) (c : List GoalWords)
+      → c ∈ classesW tab (derivW tab n (labelCode tab gs) f k gs) → PartFor r c
   class-part gs good f k a c m = record {
     sound = class-sound (settingOf r) (stateMeant (r .shapes) D) sound (stateMeant (r .shapes) c) inside;
     bounded = bounded-within (r .shapes) D c (class-within tab D c m) (deriv-bounded r gs good f k a);
@@ -59,7 +60,9 @@ module _ {ar tab : List ℕ} {n : ℕ} (r : Ready ar tab n) where
       sound = deriv-goals-sound r gs good f k a
 
       inside : stateMeant (r .shapes) c ∈ classes (bare (r .shapes)) (stateMeant (r .shapes) D)
-      inside = subst (λ ks. stateMeant (r .shapes) c ∈ ks) (classes-is (r .shapes) tab (r .tables) D (deriv-fine r gs good f k a) (sound .owing)) (map-in (stateMeant (r .shapes)) m)
+      inside =
+          subst (λ ks. stateMeant (r .shapes) c ∈ ks) (classes-is (r .shapes) tab (r .tables) D (deriv-fine r gs good f k a) (sound .owing))
+          (map-in (stateMeant (r .shapes)) m)
 
   module _ (c : List GoalWords) (part : PartFor r c) where
     abbrev s : State Pos
@@ -71,7 +74,8 @@ module _ {ar tab : List ℕ} {n : ℕ} (r : Ready ar tab n) where
     pub part-displaced : displacementW c ≡ code (gcp s)
     part-displaced =
         let l = small-code (gcp s) displaced-small in
-        gcp-is (r .shapes) (gcp s) c (part .bounded .code) (tops-of (gcp s) s (λ g m. gcp-below s g m)) (top-in (gcp s) s (part .top .goal) (part .top .inside) (sym (part .top .at))) (omega arith)
+        gcp-is (r .shapes) (gcp s) c (part .bounded .code) (tops-of (gcp s) s (λ g m. gcp-below s g m))
+        (top-in (gcp s) s (part .top .goal) (part .top .inside) (sym (part .top .at))) (omega arith)
 
     -- what is left of an announcement
     rest-small : (g : GoalWords) (m : g ∈ c) → Small (gcp-below s (goalMeant (r .shapes) g) (map-in (goalMeant (r .shapes)) m) .by)
@@ -83,15 +87,18 @@ module _ {ar tab : List ℕ} {n : ℕ} (r : Ready ar tab n) where
     pub part-lifted : stateMeant (r .shapes) (map (liftW (displacementW c)) c) ≡ lift (bare (r .shapes)) s
     part-lifted =
         map-map (goalMeant (r .shapes)) (liftW (displacementW c)) c
-        ∙ map-same (λ g. goalMeant (r .shapes) (liftW (displacementW c) g)) (λ g. liftGoal (bare (r .shapes)) (gcp s) (goalMeant (r .shapes) g)) c one
+        ∙ map-same (λ g. goalMeant (r .shapes) (liftW (displacementW c) g))
+        (λ g. liftGoal (bare (r .shapes)) (gcp s) (goalMeant (r .shapes) g)) c one
         ∙ sym (map-map (liftGoal (bare (r .shapes)) (gcp s)) (goalMeant (r .shapes)) c)
       where
-        one : (g : GoalWords) → g ∈ c → goalMeant (r .shapes) (liftW (displacementW c) g) ≡ liftGoal (bare (r .shapes)) (gcp s) (goalMeant (r .shapes) g)
+        one : (g : GoalWords) → g ∈ c
+            → goalMeant (r .shapes) (liftW (displacementW c) g) ≡ liftGoal (bare (r .shapes)) (gcp s) (goalMeant (r .shapes) g)
         one g m =
             let b = gcp-below s (goalMeant (r .shapes) g) (map-in (goalMeant (r .shapes)) m) in
             let q = rest-small g m in
             let l = q .short in
-            ap (λ x. goalMeant (r .shapes) (liftW x g)) part-displaced ∙ lift-is (r .shapes) (gcp s) (b .by) g (part .bounded .code g m) (b .eq) (q .digits) (omega arith)
+            ap (λ x. goalMeant (r .shapes) (liftW x g)) part-displaced
+            ∙ lift-is (r .shapes) (gcp s) (b .by) g (part .bounded .code g m) (b .eq) (q .digits) (omega arith)
 
     pub lifted-good : length c ≤ 32 → GoodFor r (map (liftW (displacementW c)) c)
     lifted-good few = record {
@@ -110,5 +117,6 @@ module _ {ar tab : List ℕ} {n : ℕ} (r : Ready ar tab n) where
             let z = small-code (b .by) q in
             let a : h .an ≡ code (gcp s ++ b .by) = sym (code-decode (h .an) (part .bounded .code h i)) ∙ ap code (b .eq) in
             let u = under-is (gcp s) (b .by) (q .digits) (omega arith) in
-            let v : underCode (displacementW c) (h .an) ≡ code (b .by) = ap (λ x. underCode x (h .an)) part-displaced ∙ ap (underCode (code (gcp s))) a ∙ u in
+            let v : underCode (displacementW c) (h .an) ≡ code (b .by) =
+            ap (λ x. underCode x (h .an)) part-displaced ∙ ap (underCode (code (gcp s))) a ∙ u in
             omega (arith, v, z)

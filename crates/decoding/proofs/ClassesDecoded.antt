@@ -29,12 +29,14 @@ use Rattle.decoding.proofs.GoalDecoded.{Fine, owed-is}
 use Rattle.decoding.proofs.LabelDecoded.{Fit, first-from}
 use Rattle.decoding.proofs.DepDecoded.{fit-obs, dep-is}
 
-pub picked-is : (shapes : List Term) (bs : List Bool) (gs : List GoalWords) → stateMeant shapes (pickedW bs gs) ≡ picked bs (stateMeant shapes gs)
+pub picked-is : (shapes : List Term) (bs : List Bool) (gs : List GoalWords)
+    → stateMeant shapes (pickedW bs gs) ≡ picked bs (stateMeant shapes gs)
 unfolding pickedW
 picked-is shapes bs gs = picked-map (goalMeant shapes) bs gs
 
 module _ (shapes : List Term) (tab : List ℕ) (tables : (s : ℕ) → s < length shapes → TableOf tab s (shapeAt shapes s)) where
-  pub closed-words : (gs : List GoalWords) → ((g : GoalWords) → g ∈ gs → Fine shapes g) → closedW tab gs ≡ closed (bare shapes) (stateMeant shapes gs)
+  pub closed-words : (gs : List GoalWords) → ((g : GoalWords) → g ∈ gs → Fine shapes g)
+      → closedW tab gs ≡ closed (bare shapes) (stateMeant shapes gs)
   unfolding closedW
   closed-words gs fine =
       ap₂ (λ k m. close (range 0 k) m) (sym (length-map gs (goalMeant shapes)))
@@ -43,7 +45,8 @@ module _ (shapes : List Term) (tab : List ℕ) (tables : (s : ℕ) → s < lengt
       ∙ sym (map-map (dep (bare shapes) (goalMeant shapes g)) (goalMeant shapes) gs))
       ∙ sym (map-map (λ g. map (dep (bare shapes) g) (stateMeant shapes gs)) (goalMeant shapes) gs))
 
-  pub owed-all : (gs : List GoalWords) → ((g : GoalWords) → g ∈ gs → Fine shapes g) → gather (owedBy tab) gs ≡ map code (allObs (stateMeant shapes gs))
+  pub owed-all : (gs : List GoalWords) → ((g : GoalWords) → g ∈ gs → Fine shapes g)
+      → gather (owedBy tab) gs ≡ map code (allObs (stateMeant shapes gs))
   owed-all gs fine =
       gather-same (owedBy tab) (λ g. map code (goalMeant shapes g .obs)) gs (λ g i. owed-is shapes tab tables g (fine g i))
       ∙ sym (map-gather code (λ g. goalMeant shapes g .obs) gs)
@@ -67,25 +70,29 @@ module _ (shapes : List Term) (tab : List ℕ) (tables : (s : ℕ) → s < lengt
   unfolding classKey
   key-is gs w =
       ap (λ cs. pad (firstCode noCode cs)) (owed-all gs (w .fine))
-      ∙ ap pad (first-from (allObs (stateMeant shapes gs)) (all-fit gs (w .fine)) (λ e. let i : w .some-ob ∈ [] = subst (λ os. w .some-ob ∈ os) e (w .owed) in in-none i))
+      ∙ ap pad
+      (first-from (allObs (stateMeant shapes gs)) (all-fit gs (w .fine)) (λ e. let i : w .some-ob ∈ [] = subst (λ os. w .some-ob ∈ os) e (w .owed) in in-none i))
 
   first-fit : (gs : List GoalWords) → Owing gs → Fit (firstOf gs ∷ [])
   first-fit gs w q (here e) =
       let x = first-in (bare shapes) (allObs (stateMeant shapes gs)) (w .owed) in
       all-fit gs (w .fine) q (rw (e, ← (x .2)) (x .1))
 
-  pub before-is : (gs hs : List GoalWords) → Owing gs → Owing hs → classBeforeW tab gs hs ≡ classBefore (bare shapes) (stateMeant shapes gs) (stateMeant shapes hs)
+  pub before-is : (gs hs : List GoalWords) → Owing gs → Owing hs
+      → classBeforeW tab gs hs ≡ classBefore (bare shapes) (stateMeant shapes gs) (stateMeant shapes hs)
   before-is gs hs v w =
       let a = first-fit gs v (firstOf gs) (here refl) in
       let b = first-fit hs w (firstOf hs) (here refl) in
       ap₂ ltb (key-is gs v) (key-is hs w) ∙ code-before (firstOf gs) (firstOf hs) (a .0) (b .0) (a .1) (b .1)
 
-  pub row-owing : (gs : List GoalWords) → ((g : GoalWords) → g ∈ gs → Fine shapes g) → ((g : Goal Pos) → g ∈ stateMeant shapes gs → (o : Pos) × (o ∈ g .obs))
+  pub row-owing : (gs : List GoalWords) → ((g : GoalWords) → g ∈ gs → Fine shapes g)
+      → ((g : Goal Pos) → g ∈ stateMeant shapes gs → (o : Pos) × (o ∈ g .obs))
       → (bs : List Bool) → bs ∈ rowsFrom 0 (closed (bare shapes) (stateMeant shapes gs)) → Owing (pickedW bs gs)
   unfolding pickedW
   row-owing gs fine owing bs m =
       on-row (closed (bare shapes) (stateMeant shapes gs)) 0 m λ k e l.
-      let c : Class (bare shapes) (stateMeant shapes gs) (picked bs (stateMeant shapes gs)) = record { lead = k; row = bs; is-row = e; begins = rw zero-add at l; is = refl } in
+      let c : Class (bare shapes) (stateMeant shapes gs) (picked bs (stateMeant shapes gs)) =
+      record { lead = k; row = bs; is-row = e; begins = rw zero-add at l; is = refl } in
       let g = class-some (bare shapes) (stateMeant shapes gs) (picked bs (stateMeant shapes gs)) c in
       let o = owing (g .0) (picked-in bs (stateMeant shapes gs) (g .0) (g .1)) in
       record {
@@ -95,18 +102,21 @@ module _ (shapes : List Term) (tab : List ℕ) (tables : (s : ℕ) → s < lengt
       }
 
   -- each goal owes something: then the classes are those of the construction
-  pub classes-is : (gs : List GoalWords) → ((g : GoalWords) → g ∈ gs → Fine shapes g) → ((g : Goal Pos) → g ∈ stateMeant shapes gs → (o : Pos) × (o ∈ g .obs))
+  pub classes-is : (gs : List GoalWords) → ((g : GoalWords) → g ∈ gs → Fine shapes g)
+      → ((g : Goal Pos) → g ∈ stateMeant shapes gs → (o : Pos) × (o ∈ g .obs))
       → map (stateMeant shapes) (classesW tab gs) ≡ classes (bare shapes) (stateMeant shapes gs)
   unfolding classesW
   classes-is gs fine owing =
       ap (λ m. map (stateMeant shapes) (sort (classBeforeW tab) (map (λ bs. pickedW bs gs) (rowsFrom 0 m)))) (closed-words gs fine)
       ∙ sort-map-in (stateMeant shapes) (classBeforeW tab) (classBefore (bare shapes)) (map (λ bs. pickedW bs gs) rows) ordered
-      ∙ ap (sort (classBefore (bare shapes))) (map-map (stateMeant shapes) (λ bs. pickedW bs gs) rows ∙ map-same (λ bs. stateMeant shapes (pickedW bs gs)) (λ bs. picked bs (stateMeant shapes gs)) rows (λ bs i. picked-is shapes bs gs))
+      ∙ ap (sort (classBefore (bare shapes)))
+      (map-map (stateMeant shapes) (λ bs. pickedW bs gs) rows ∙ map-same (λ bs. stateMeant shapes (pickedW bs gs)) (λ bs. picked bs (stateMeant shapes gs)) rows (λ bs i. picked-is shapes bs gs))
     where
       rows : Square
       rows = rowsFrom 0 (closed (bare shapes) (stateMeant shapes gs))
 
-      ordered : (x y : List GoalWords) → x ∈ map (λ bs. pickedW bs gs) rows → y ∈ map (λ bs. pickedW bs gs) rows → classBeforeW tab x y ≡ classBefore (bare shapes) (stateMeant shapes x) (stateMeant shapes y)
+      ordered : (x y : List GoalWords) → x ∈ map (λ bs. pickedW bs gs) rows → y ∈ map (λ bs. pickedW bs gs) rows
+          → classBeforeW tab x y ≡ classBefore (bare shapes) (stateMeant shapes x) (stateMeant shapes y)
       ordered x y i j =
           on-map (λ bs. pickedW bs gs) rows i λ b p d.
           on-map (λ bs. pickedW bs gs) rows j λ c q e.

@@ -52,9 +52,11 @@ sharing-is (p ∷ ps) qs fp fq = ap₂ (λ x y. x || y) (has-code p qs both) (sh
     both x (there m) = fq x m
 
 pub fit-obs : (shapes : List Term) (g : GoalWords) → Fine shapes g → Fit (goalMeant shapes g .obs)
-fit-obs shapes g fine q m = on-map (λ r. decode (g .an) ++ r) (select (g .mask) (dom (shapeAt shapes (g .sh)))) m λ r k d. rw d (fine .fit r k)
+fit-obs shapes g fine q m =
+    on-map (λ r. decode (g .an) ++ r) (select (g .mask) (dom (shapeAt shapes (g .sh)))) m λ r k d. rw d (fine .fit r k)
 
-pub dep-is : (shapes : List Term) (tab : List ℕ) → ((s : ℕ) → s < length shapes → TableOf tab s (shapeAt shapes s)) → (g h : GoalWords) → Fine shapes g → Fine shapes h → depW tab g h ≡ dep (bare shapes) (goalMeant shapes g) (goalMeant shapes h)
+pub dep-is : (shapes : List Term) (tab : List ℕ) → ((s : ℕ) → s < length shapes → TableOf tab s (shapeAt shapes s)) → (g h : GoalWords)
+    → Fine shapes g → Fine shapes h → depW tab g h ≡ dep (bare shapes) (goalMeant shapes g) (goalMeant shapes h)
 dep-is shapes tab tables g h fg fh =
     ap₂ sharing (owed-is shapes tab tables g fg) (owed-is shapes tab tables h fh)
     ∙ sharing-is (goalMeant shapes g .obs) (goalMeant shapes h .obs) (fit-obs shapes g fg) (fit-obs shapes h fh)

@@ -38,7 +38,7 @@ use Rattle.automaton.proofs.Apart.{label-owes}
 use Rattle.automaton.proofs.Reachable.{deriv-sound}
 use Rattle.automaton.proofs.Classes.{picked-in}
 use Rattle.goals.specs.GoalWords.{GoalWords, nodeAt, labelCode}
-use Rattle.goals.specs.WordStages.{stays, moves, reduct, goesOn, withMask, freshW, freshesW, bornW, derivW, pickedW, closedW, classBeforeW, classesW}
+use Rattle.goals.specs.WordStages.{stays, moves, reduct, goesOn, withMask, freshW, freshesW, bornW, derivW, pickedW, closedW, classBeforeW, classesW, unexpected}
 use Rattle.decoding.specs.Decoding.{shapeAt, goalMeant, stateMeant, codesEnd}
 use Rattle.decoding.specs.GoodStates.{Ready, settingOf, GoodState}
 use Rattle.decoding.proofs.GoalDecoded.{Fine}
@@ -67,13 +67,15 @@ pub for-good : {ar tab : List ℕ} {n : ℕ} (r : Ready ar tab n) (gs : List Goa
 for-good r gs w = record { ready = r; sound = w .sound; few = w .few; code = w .bounded .code; mask = w .bounded .mask }
 
 -- ---- past the shapes stands a blank, which fits
-shape-fits : (ar : List ℕ) (shapes : List Term) → ((i : ℕ) (t : Term) → getElem? shapes i ≡ some t → IsShape ar t) → (s : ℕ) → Fits ar blankWord (shapeAt shapes s)
+shape-fits : (ar : List ℕ) (shapes : List Term) → ((i : ℕ) (t : Term) → getElem? shapes i ≡ some t → IsShape ar t) → (s : ℕ)
+    → Fits ar blankWord (shapeAt shapes s)
 shape-fits ar [] h s = omega arith
 shape-fits ar (t ∷ ts) h zero = h 0 t refl .fits
 shape-fits ar (t ∷ ts) h (suc s) = shape-fits ar ts (λ i u e. h (suc i) u e) s
 
 module _ {ar tab : List ℕ} {n : ℕ} (r : Ready ar tab n) where
-  pub sound-fine : (gs : List GoalWords) → Sound (settingOf r) (stateMeant (r .shapes) gs) → Bounded (r .shapes) gs → (g : GoalWords) → g ∈ gs → Fine (r .shapes) g
+  pub sound-fine : (gs : List GoalWords) → Sound (settingOf r) (stateMeant (r .shapes) gs) → Bounded (r .shapes) gs → (g : GoalWords)
+      → g ∈ gs → Fine (r .shapes) g
   sound-fine gs w b g m = record {
     shape = at-below (r .shapes) (g .sh) (real .is-shape);
     small = b .code g m;
@@ -90,7 +92,8 @@ module _ {ar tab : List ℕ} {n : ℕ} (r : Ready ar tab n) where
       real = let o = w .owing (goalMeant (r .shapes) g) inside in w .real (goalMeant (r .shapes) g) inside (o .0) (o .1)
 
       alone : (p c : Pos) → p ∈ goalMeant (r .shapes) g .obs → (p ++ c) ∈ goalMeant (r .shapes) g .obs → c ≡ []
-      alone p c i j = append-same p c [] (w .apart (p ++ c) p (owes inside j) (owes inside i) (record { by = c; eq = refl }) ∙ sym (append-nil p))
+      alone p c i j =
+          append-same p c [] (w .apart (p ++ c) p (owes inside j) (owes inside i) (record { by = c; eq = refl }) ∙ sym (append-nil p))
 
   module _ (gs : List GoalWords) (good : GoodFor r gs) where
     abbrev S : State Pos
@@ -109,7 +112,9 @@ module _ {ar tab : List ℕ} {n : ℕ} (r : Ready ar tab n) where
     label-code = label-is (r .shapes) tab (r .tables) gs good-fine some-owed
       where
         inside : L ∈ rootObs (r .shapes) tab (r .tables) gs
-        inside = gather-in (λ g. g .obs) (filter-in (λ g. isRoot (g .ann)) (good .sound .root-in) (rw (good .sound .root-at))) (good .sound .label-owed)
+        inside =
+            gather-in (λ g. g .obs) (filter-in (λ g. isRoot (g .ann)) (good .sound .root-in) (rw (good .sound .root-at)))
+            (good .sound .label-owed)
 
         some-owed : rootObs (r .shapes) tab (r .tables) gs ≡ [] → ⊥
         some-owed e = let i : L ∈ [] = subst (λ os. L ∈ os) e inside in in-none i
@@ -137,12 +142,14 @@ module _ {ar tab : List ℕ} {n : ℕ} (r : Ready ar tab n) where
       pub deriv-decoded : stateMeant (r .shapes) D ≡ deriv (bare (r .shapes)) S f k
       deriv-decoded =
           ap₂ (λ m c. stateMeant (r .shapes) (derivW tab m c f k gs)) (sym (r .count)) label-code
-          ∙ deriv-is (r .shapes) tab (r .tables) L (label-small .digits) (label-small .short) f k symbol (r .children f k a) arity blanks gs good-fine refl
+          ∙ deriv-is (r .shapes) tab (r .tables) L (label-small .digits) (label-small .short) f k symbol (r .children f k a) arity blanks gs
+          good-fine refl
 
       pub reduct-for : (g : GoalWords) → g ∈ gs → Reduct (r .shapes) g L f k (reduct tab (labelCode tab gs) f g)
       reduct-for g m =
           let s = label-small .short in
-          rw label-code (reduct-is (r .shapes) tab (r .tables) g (good-fine g m) L (label-small .digits) (omega arith) f k symbol (arity (g .sh)) (blanks (g .sh)))
+          rw label-code
+          (reduct-is (r .shapes) tab (r .tables) g (good-fine g m) L (label-small .digits) (omega arith) f k symbol (arity (g .sh)) (blanks (g .sh)))
 
       -- where a goal of the derivative comes from
       pub data FromWords (g : GoalWords) : Type 0 where
@@ -152,7 +159,9 @@ module _ {ar tab : List ℕ} {n : ℕ} (r : Ready ar tab n) where
 
       pub deriv-from : (g : GoalWords) → g ∈ D → FromWords g
       unfolding derivW
-      deriv-from g m = ⊎-elim (λ i. old i) (λ i. ⊎-elim (λ j. on j) (λ j. fresh-one j) (∈-append (gather (moves tab c f) gs) i)) (∈-append (gather (stays tab c) gs) m)
+      deriv-from g m =
+          ⊎-elim (λ i. old i) (λ i. ⊎-elim (λ j. on j) (λ j. fresh-one j) (∈-append (gather (moves tab c f) gs) i))
+          (∈-append (gather (stays tab c) gs) m)
         where
           c : ℕ
           c = labelCode tab gs
@@ -167,14 +176,15 @@ module _ {ar tab : List ℕ} {n : ℕ} (r : Ready ar tab n) where
           on : g ∈ gather (moves tab c f) gs → FromWords g
           on i = on-gather (moves tab c f) gs i λ h j e. move h j (reduct tab c f h) (reduct-for h j) e
             where
-              some-left : (h : GoalWords) (x : ℕ) → h ∈ gs → x < 2 ^ span (shapeAt (r .shapes) (h .sh)) → (b d : Bool) → g ∈ cond b [] (cond d (withMask h x ∷ []) []) → FromWords g
+              some-left : (h : GoalWords) (x : ℕ) → h ∈ gs → x < 2 ^ span (shapeAt (r .shapes) (h .sh)) → (b d : Bool)
+                  → g ∈ cond b [] (cond d (withMask h x ∷ []) []) → FromWords g
               some-left h x j l true d e = in-none e
               some-left h x j l false true e = moved h x j l (in-one e)
               some-left h x j l false false e = in-none e
 
               move : (h : GoalWords) → h ∈ gs → (x : ℕ) → Reduct (r .shapes) h L f k x → g ∈ goesOn x h → FromWords g
-              move h j x (missed z ne) e = let e′ : g ∈ goesOn 65536 h = subst (λ y. g ∈ goesOn y h) z e in in-none e′
-              move h j x (cut l ex is) e = some-left h x j l (eqb x 0) (ltb x 65536) e
+              move h j x (missed z ne) e = let e′ : g ∈ goesOn unexpected h = subst (λ y. g ∈ goesOn y h) z e in in-none e′
+              move h j x (cut l ex is) e = some-left h x j l (eqb x 0) (ltb x unexpected) e
 
           fresh-one : g ∈ bornW n c k → FromWords g
           fresh-one i =

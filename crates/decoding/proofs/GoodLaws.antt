@@ -41,7 +41,8 @@ use Rattle.decoding.proofs.DerivDecoded.{fresh-is}
 pub start-decoded : (shapes : List Term) → stateMeant shapes (freshesW (length shapes) 0) ≡ initial (bare shapes)
 start-decoded shapes =
     map-map (goalMeant shapes) (freshW 0) (range 0 (length shapes))
-    ∙ map-same (λ j. goalMeant shapes (freshW 0 j)) (fresh []) (range 0 (length shapes)) (λ j m. fresh-is shapes 0 j ∙ ap (λ p. fresh p j) (decode-nil 7))
+    ∙ map-same (λ j. goalMeant shapes (freshW 0 j)) (fresh []) (range 0 (length shapes))
+    (λ j m. fresh-is shapes 0 j ∙ ap (λ p. fresh p j) (decode-nil 7))
 
 module _ {ar tab : List ℕ} {n : ℕ} (r : Ready ar tab n) where
   pub start-good : GoodFor r (freshesW n 0)
@@ -56,7 +57,8 @@ module _ {ar tab : List ℕ} {n : ℕ} (r : Ready ar tab n) where
 
   low-of : (gs : List GoalWords) → ((g : GoalWords) → g ∈ gs → Fine (r .shapes) g) → Low gs
   low-of [] h = tt
-  low-of (g ∷ gs) h = (let a = h g (here refl) .shape in let b = r .count in let c = r .few-shapes in omega arith, low-of gs (λ x m. h x (there m)))
+  low-of (g ∷ gs) h =
+      (let a = h g (here refl) .shape in let b = r .count in let c = r .few-shapes in omega arith, low-of gs (λ x m. h x (there m)))
 
 pub good-start : {ar tab : List ℕ} {n : ℕ} → Ready ar tab n → GoodState ar tab n (freshesW n 0)
 good-start {n = n} r = for-good r (freshesW n 0) (start-good r)
@@ -72,8 +74,11 @@ module _ {ar tab : List ℕ} {n : ℕ} {gs : List GoalWords} (w : GoodState ar t
   label-back = let l = good-label in code-decode (labelCode tab gs) (omega arith)
 
   module _ (f k : ℕ) (a : getElem? ar f ≡ some k) where
-    pub good-next : (c : List GoalWords) → c ∈ classesW tab (derivW tab n (labelCode tab gs) f k gs) → length c ≤ 32 → GoodState ar tab n (map (liftW (displacementW c)) c)
-    good-next c m few = for-good (w .ready) (map (liftW (displacementW c)) c) (lifted-good (w .ready) c (class-part (w .ready) gs (good-for w) f k a c m) few)
+    pub good-next : (c : List GoalWords) → c ∈ classesW tab (derivW tab n (labelCode tab gs) f k gs) → length c ≤ 32
+        → GoodState ar tab n (map (liftW (displacementW c)) c)
+    good-next c m few =
+        for-good (w .ready) (map (liftW (displacementW c)) c)
+        (lifted-good (w .ready) c (class-part (w .ready) gs (good-for w) f k a c m) few)
 
     pub deriv-low : Low (derivW tab n (labelCode tab gs) f k gs)
     deriv-low = low-of (w .ready) (derivW tab n (labelCode tab gs) f k gs) (deriv-fine (w .ready) gs (good-for w) f k a)
@@ -91,7 +96,8 @@ module _ {ar tab : List ℕ} {n : ℕ} {gs : List GoalWords} (w : GoodState ar t
         let p = class-part (w .ready) gs (good-for w) f k a c m in
         rw (part-displaced (w .ready) c p) (small-code _ (displaced-small (w .ready) c p))
 
-    pub least-back : (c : List GoalWords) → c ∈ classesW tab (derivW tab n (labelCode tab gs) f k gs) → code (decode (displacementW c)) ≡ displacementW c
+    pub least-back : (c : List GoalWords) → c ∈ classesW tab (derivW tab n (labelCode tab gs) f k gs)
+        → code (decode (displacementW c)) ≡ displacementW c
     least-back c m = let l = least-small c m in code-decode (displacementW c) (omega arith)
 
   pub output-small : (f : ℕ) (g : GoalWords) → g ∈ outputsW tab (labelCode tab gs) f gs → g .an ≤ 15624

@@ -38,7 +38,9 @@ first-is p (q ∷ ps) f =
     skip g x (here e) = g x (here e)
     skip g x (there m) = g x (there (there m))
 
-    go : (t : Bool) → firstCode (code q) (map code ps) ≡ code (firstFrom (bare []) q ps) → firstCode (code p) (map code ps) ≡ code (firstFrom (bare []) p ps) → firstCode (cond t (code q) (code p)) (map code ps) ≡ code (firstFrom (bare []) (cond t q p) ps)
+    go : (t : Bool) → firstCode (code q) (map code ps) ≡ code (firstFrom (bare []) q ps)
+        → firstCode (code p) (map code ps) ≡ code (firstFrom (bare []) p ps)
+        → firstCode (cond t (code q) (code p)) (map code ps) ≡ code (firstFrom (bare []) (cond t q p) ps)
     go true x y = x
     go false x y = y
 
@@ -90,5 +92,6 @@ module _ (shapes : List Term) (tab : List ℕ) (tables : (s : ℕ) → s < lengt
       rw d (fine g j .fit r k)
 
   -- some goal that announces at the root has an obligation (S5): then the label's code is the label's
-  pub label-is : (gs : List GoalWords) → ((g : GoalWords) → g ∈ gs → Fine shapes g) → (rootObs gs ≡ [] → ⊥) → labelCode tab gs ≡ code (label (bare shapes) (stateMeant shapes gs))
+  pub label-is : (gs : List GoalWords) → ((g : GoalWords) → g ∈ gs → Fine shapes g) → (rootObs gs ≡ [] → ⊥)
+      → labelCode tab gs ≡ code (label (bare shapes) (stateMeant shapes gs))
   label-is gs fine some = ap (firstCode noCode) (roots-are gs fine) ∙ first-from (rootObs gs) (roots-fit gs fine) some

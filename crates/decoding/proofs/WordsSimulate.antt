@@ -1,6 +1,5 @@
 -- The construction on words makes the plan that is promised.
 --   words-simulate   under the decoding the construction on words is that of bare positions, for tables that are ready
---   words-explored   so exploring on words meets good states only, and makes the blocks of the construction
 --   plan-of-words    and its plan is the plan of the paper's construction
 use mathlib.Core.Path.{_≡_, ap, sym, _∙_}
 use mathlib.Core.List.{List, map}
@@ -12,9 +11,9 @@ use Rattle.kinds.proofs.Codes.{decode-code}
 use Rattle.automaton.specs.Bare.{bare}
 use Rattle.automaton.specs.Paper.{paper}
 use Rattle.automaton.specs.Classes.{classes, gcp}
-use Rattle.automaton.specs.Exploring.{construction, explored}
+use Rattle.automaton.specs.Exploring.{construction}
 use Rattle.automaton.specs.PlanWords.{planned}
-use Rattle.automaton.proofs.Simulation.{Simulates, SameMade, explored-simulated, plan-simulated}
+use Rattle.automaton.proofs.Simulation.{Simulates, plan-simulated}
 use Rattle.automaton.proofs.SamePlan.{same-plan}
 use Rattle.goals.specs.GoalWords.{GoalWords, labelCode}
 use Rattle.goals.specs.WordStages.{freshesW, derivW, classesW}
@@ -32,7 +31,8 @@ module _ {ar tab : List ℕ} {n : ℕ} (r : Ready ar tab n) where
   classes-for : (gs : List GoalWords) (w : GoodFor r gs) (f k : ℕ) (a : getElem? ar f ≡ some k)
       → map (stateMeant (r .shapes)) (classesW tab (derivW tab n (labelCode tab gs) f k gs)) ≡ construction (bare (r .shapes)) .classes (stateMeant (r .shapes) gs) f k
   classes-for gs w f k a =
-      classes-is (r .shapes) tab (r .tables) (derivW tab n (labelCode tab gs) f k gs) (deriv-fine r gs w f k a) (deriv-goals-sound r gs w f k a .owing)
+      classes-is (r .shapes) tab (r .tables) (derivW tab n (labelCode tab gs) f k gs) (deriv-fine r gs w f k a)
+      (deriv-goals-sound r gs w f k a .owing)
       ∙ ap (classes (bare (r .shapes))) (deriv-decoded r gs w f k a)
 
   pub words-simulate : Simulates (words tab n) (construction (bare (r .shapes))) (stateMeant (r .shapes)) (GoodFor r) (PartFor r) ar
@@ -50,10 +50,8 @@ module _ {ar tab : List ℕ} {n : ℕ} (r : Ready ar tab n) where
     same = λ gs hs v w. same-state-is (r .shapes) gs hs (good-fine r gs v) (good-fine r hs w);
   }
 
-  pub words-explored : SameMade (words tab n) (construction (bare (r .shapes))) (stateMeant (r .shapes)) (GoodFor r) (PartFor r) ar words-simulate (explored (words tab n) ar) (explored (construction (bare (r .shapes))) ar)
-  words-explored = explored-simulated (words tab n) (construction (bare (r .shapes))) (stateMeant (r .shapes)) (GoodFor r) (PartFor r) ar words-simulate
-
   pub plan-of-words : (room : ℕ) → planned (words tab n) ar n room ≡ planned (construction (paper (r .shapes))) ar n room
   plan-of-words room =
-      plan-simulated (words tab n) (construction (bare (r .shapes))) (stateMeant (r .shapes)) (GoodFor r) (PartFor r) ar words-simulate n room
+      plan-simulated (words tab n) (construction (bare (r .shapes))) (stateMeant (r .shapes)) (GoodFor r) (PartFor r) ar words-simulate n
+      room
       ∙ sym (same-plan ar (r .shapes) n room)

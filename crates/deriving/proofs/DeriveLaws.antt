@@ -26,7 +26,8 @@ use Rattle.goals.proofs.GoalLaws.{goals-next, goals-end, low-next}
 use Rattle.deriving.specs.Passes.{passed, Puts}
 
 -- a goal as the code hands it on, and as words
-pub node-is : (tab : List ℕ) (c k : ℕ) (g : GoalWords) (r : Goal) → r ≡ asGoal g → k ≡ nodeAt tab (r .shape .0) (r .at .0) (r .mask) c → k ≡ nodeAt tab (g .sh) (g .an) (g .mask) c
+pub node-is : (tab : List ℕ) (c k : ℕ) (g : GoalWords) (r : Goal) → r ≡ asGoal g → k ≡ nodeAt tab (r .shape .0) (r .at .0) (r .mask) c
+    → k ≡ nodeAt tab (g .sh) (g .an) (g .mask) c
 node-is tab c k g r e n = n ∙ ap (λ (x : Goal). nodeAt tab (x .shape .0) (x .at .0) (x .mask) c) e
 
 pub flat-append : (gs hs : List GoalWords) → flat (gs ++ hs) ≡ flat gs ++ flat hs
@@ -37,7 +38,8 @@ flat-append (g ∷ gs) hs = ap (λ ws. g .sh ∷ g .an ∷ g .mask ∷ ws) (flat
 -- what is left to write when k goals from at on are to be passed
 module _ (e : GoalWords → List GoalWords) (ws : List ℕ) (at k : ℕ) where
   pass-next : 0 < k → passed e ws at k ≡ flat (e (goalAt ws at)) ++ passed e ws (at + 3) (k - 1)
-  pass-next h = ap (λ gs. flat (gather e gs)) (goals-next ws at k h) ∙ flat-append (e (goalAt ws at)) (gather e (goalsFrom ws (at + 3) (k - 1)))
+  pass-next h =
+      ap (λ gs. flat (gather e gs)) (goals-next ws at k h) ∙ flat-append (e (goalAt ws at)) (gather e (goalsFrom ws (at + 3) (k - 1)))
 
   pass-end : k ≤ 0 → passed e ws at k ≡ []
   unfolding flat
@@ -64,7 +66,8 @@ module _ {e : GoalWords → List GoalWords} {ws : List ℕ} {at n to : ℕ} {out
         let q = length-append (flat (e (goalAt ws here))) (passed e ws (here + 3) (left - 1)) in
         omega (arith, s .count, s .long)
 
-    pub passing-on : 0 < left → (out′ : List ℕ) (next′ : ℕ) → Puts (flat (e (goalAt ws here))) next next′ out out′ → Passing e ws at n to out₀ out′ next′ (here + 3) (left - 1)
+    pub passing-on : 0 < left → (out′ : List ℕ) (next′ : ℕ) → Puts (flat (e (goalAt ws here))) next next′ out out′
+        → Passing e ws at n to out₀ out′ next′ (here + 3) (left - 1)
     passing-on h out′ next′ w =
         let xs = flat (e (goalAt ws here)) in
         let rest = passed e ws (here + 3) (left - 1) in
@@ -123,7 +126,8 @@ unfolding flat
 flat-one gs g e = ap flat e
 
 -- one turn of the pass over the goals that stay: what the code has of the goal, and of its open node
-module _ (tab : List ℕ) (c : ℕ) {ws : List ℕ} {at n to : ℕ} {out₀ out : List ℕ} {next here left : ℕ} (s : Passing (stays tab c) ws at n to out₀ out next here left) (h : 0 < left)
+module _ (tab : List ℕ) (c : ℕ) {ws : List ℕ} {at n to : ℕ} {out₀ out : List ℕ} {next here left : ℕ}
+    (s : Passing (stays tab c) ws at n to out₀ out next here left) (h : 0 < left)
     (r : Goal) (k : ℕ) (e : r ≡ asGoal (goalAt ws here)) (d : k ≡ nodeAt tab (r .shape .0) (r .at .0) (r .mask) c) where
   abbrev g : GoalWords
   g = goalAt ws here
@@ -137,19 +141,22 @@ module _ (tab : List ℕ) (c : ℕ) {ws : List ℕ} {at n to : ℕ} {out₀ out 
   pub stay-room : k ≡ 16 → to + length (passed (stays tab c) ws at n) ≤ length out₀ → next + 3 ≤ length out
   stay-room f room = let p = passing-fits s h room in omega (arith, ap length (words f))
 
-  pub stay-on : k ≡ 16 → (out′ : List ℕ) (next′ : ℕ) → out′ ≡ sets out next (r .shape .0 ∷ r .at .0 ∷ r .mask ∷ []) → next′ ≡ next + 3 → Passing (stays tab c) ws at n to out₀ out′ next′ (here + 3) (left - 1)
+  pub stay-on : k ≡ 16 → (out′ : List ℕ) (next′ : ℕ) → out′ ≡ sets out next (r .shape .0 ∷ r .at .0 ∷ r .mask ∷ []) → next′ ≡ next + 3
+      → Passing (stays tab c) ws at n to out₀ out′ next′ (here + 3) (left - 1)
   stay-on f out′ next′ o i = passing-on s h out′ next′ (
     omega (arith, ap length (words f)),
     o ∙ ap (λ (x : Goal). sets out next (x .shape .0 ∷ x .at .0 ∷ x .mask ∷ [])) e ∙ ap (sets out next) (sym (words f)),
   )
 
-  pub stay-off : (k ≡ 16 → ⊥) → (out′ : List ℕ) (next′ : ℕ) → out′ ≡ out → next′ ≡ next → Passing (stays tab c) ws at n to out₀ out′ next′ (here + 3) (left - 1)
+  pub stay-off : (k ≡ 16 → ⊥) → (out′ : List ℕ) (next′ : ℕ) → out′ ≡ out → next′ ≡ next
+      → Passing (stays tab c) ws at n to out₀ out′ next′ (here + 3) (left - 1)
   stay-off f out′ next′ o i =
       let none = flat-none (stays tab c g) (leave tab c 0 g (λ z. f (node ∙ z))) in
       passing-on s h out′ next′ (omega (arith, ap length none), o ∙ ap (sets out next) (sym none))
 
 -- one turn of the pass over the goals that move
-module _ (tab : List ℕ) (c f : ℕ) {ws : List ℕ} {at n to : ℕ} {out₀ out : List ℕ} {next here left : ℕ} (s : Passing (moves tab c f) ws at n to out₀ out next here left) (h : 0 < left)
+module _ (tab : List ℕ) (c f : ℕ) {ws : List ℕ} {at n to : ℕ} {out₀ out : List ℕ} {next here left : ℕ}
+    (s : Passing (moves tab c f) ws at n to out₀ out next here left) (h : 0 < left)
     (r : Goal) (x : ℕ) (e : r ≡ asGoal (goalAt ws here)) (d : x ≡ reduct tab c f (asWords r)) where
   moved : flat (goesOn x (asWords r)) ≡ flat (moves tab c f (goalAt ws here))
   moved = ap (λ y. flat (goesOn y (asWords r))) d ∙ ap (λ (y : Goal). flat (moves tab c f (asWords y))) e
@@ -157,7 +164,8 @@ module _ (tab : List ℕ) (c f : ℕ) {ws : List ℕ} {at n to : ℕ} {out₀ ou
   pub move-room : to + length (passed (moves tab c f) ws at n) ≤ length out₀ → next + length (flat (goesOn x (asWords r))) ≤ length out
   move-room room = let p = passing-fits s h room in omega (arith, ap length moved)
 
-  pub move-on : (out′ : List ℕ) (next′ : ℕ) → Puts (flat (goesOn x (asWords r))) next next′ out out′ → Passing (moves tab c f) ws at n to out₀ out′ next′ (here + 3) (left - 1)
+  pub move-on : (out′ : List ℕ) (next′ : ℕ) → Puts (flat (goesOn x (asWords r))) next next′ out out′
+      → Passing (moves tab c f) ws at n to out₀ out′ next′ (here + 3) (left - 1)
   move-on out′ next′ w = passing-on s h out′ next′ (w .0 ∙ ap (λ xs. next + length xs) moved, w .1 ∙ ap (sets out next) moved)
 
 -- numbers one after another
@@ -205,14 +213,20 @@ pub born-all : (n c k : ℕ) → flat (bornW n c k) ≡ bornFrom n c k 0
 born-all n c k = rw (sub-zero k)
 
 -- the derivative's words, pass by pass
-pub deriv-words : (tab : List ℕ) (n c f k : ℕ) (gs : List GoalWords) → flat (derivW tab n c f k gs) ≡ flat (gather (stays tab c) gs) ++ (flat (gather (moves tab c f) gs) ++ flat (bornW n c k))
+pub deriv-words : (tab : List ℕ) (n c f k : ℕ) (gs : List GoalWords)
+    → flat (derivW tab n c f k gs) ≡ flat (gather (stays tab c) gs) ++ (flat (gather (moves tab c f) gs) ++ flat (bornW n c k))
 unfolding derivW
 deriv-words tab n c f k gs =
     flat-append (gather (stays tab c) gs) (gather (moves tab c f) gs ++ bornW n c k)
     ∙ ap (λ ws. flat (gather (stays tab c) gs) ++ ws) (flat-append (gather (moves tab c f) gs) (bornW n c k))
 
-pub deriv-size : (tab : List ℕ) (n c f k : ℕ) (gs : List GoalWords) → length (flat (derivW tab n c f k gs)) ≡ length (flat (gather (stays tab c) gs)) + (length (flat (gather (moves tab c f) gs)) + length (flat (bornW n c k)))
-deriv-size tab n c f k gs = ap length (deriv-words tab n c f k gs) ∙ length-append (flat (gather (stays tab c) gs)) _ ∙ ap (λ m. length (flat (gather (stays tab c) gs)) + m) (length-append (flat (gather (moves tab c f) gs)) (flat (bornW n c k)))
+pub deriv-size : (tab : List ℕ) (n c f k : ℕ) (gs : List GoalWords)
+    → length (flat (derivW tab n c f k gs)) ≡ length (flat (gather (stays tab c) gs)) + (length (flat (gather (moves tab c f) gs)) + length (flat (bornW n c k)))
+deriv-size tab n c f k gs =
+    ap length (deriv-words tab n c f k gs)
+    ∙ length-append (flat (gather (stays tab c) gs)) _
+    ∙ ap (λ m. length (flat (gather (stays tab c) gs)) + m) (length-append (flat (gather (moves tab c f) gs)) (flat (bornW n c k)))
 
-pub three-runs : (l S M B : List ℕ) (one two : ℕ) → one ≡ 0 + length S → two ≡ one + length M → sets (sets (sets l 0 S) one M) two B ≡ sets l 0 (S ++ (M ++ B))
+pub three-runs : (l S M B : List ℕ) (one two : ℕ) → one ≡ 0 + length S → two ≡ one + length M
+    → sets (sets (sets l 0 S) one M) two B ≡ sets l 0 (S ++ (M ++ B))
 three-runs l S M B one two e d = sym (sets-append l 0 S (M ++ B) ∙ sets-append (sets l 0 S) (0 + length S) M B ∙ rw (d, e) refl)

@@ -1,4 +1,6 @@
--- A goal as the code hands it on, and as three words.
+-- Inside: a goal as the code hands it on, and as three words.
+--   asGoal    the one from the other
+--   asWords   and back
 use Rattle.goals.specs.GoalWords.{GoalWords}
 use Rattle.goals.specs.declared.Goal.{Goal}
 

@@ -1,4 +1,4 @@
--- Goals as three words, and the tables of the shapes that they lean on.
+-- Inside: goals as three words, and the tables of the shapes that they lean on.
 --   GoalWords     shape number, code of the announcement position, mask of the open nodes of the shape
 --   codeOf …      the five tables, 16 shapes by 16 nodes each: code of a node's position, five to the power of its depth, span, word, mask of the children that are no blanks
 --   Tabled        what code asks of the tables
@@ -79,7 +79,8 @@ maskAfter m r k = bitOr (bitXor m (2 ^ r)) k
 -- a code of at most six digits, padded to six
 abbrev pub pad : ℕ → ℕ
 pad c =
-    cond (ltb c 5) (c * 3125) (cond (ltb c 25) (c * 625) (cond (ltb c 125) (c * 125) (cond (ltb c 625) (c * 25) (cond (ltb c 3125) (c * 5) c))))
+    cond (ltb c 5) (c * 3125)
+    (cond (ltb c 25) (c * 625) (cond (ltb c 125) (c * 125) (cond (ltb c 625) (c * 25) (cond (ltb c 3125) (c * 5) c))))
 
 -- the first in document order
 unfoldable pub firstCode : ℕ → List ℕ → ℕ

@@ -1,4 +1,4 @@
--- The stages of the construction on goals of three words. Each is the construction's own under the decoding of Decoding.
+-- Inside: the stages of the construction on goals of three words. Each is the construction's own under the decoding of Decoding.
 --   derivW       the derivative: what stays, what moves on, what is born
 --   sameStateW   equality of states
 --   depW         direct dependency: a shared code; closedW: the square of it, closed

@@ -4,7 +4,7 @@
 --   same-self                      a state is the same as itself
 --   Ended ended-is ended-counts    what exploring to the end tells: the plan's words, their number
 --   made-stopped made-long made-plan   the plan that there is, or why there is none
---   built-bad built-short built-made   19; 23; and on
+--   built-bad built-short built-on built-made   19; 23; and on
 use mathlib.Core.Path.{_≡_, refl, ap, ap₂, sym, _∙_}
 use mathlib.Core.List.{List, [], _∷_, _++_, map}
 use mathlib.Core.Bool.{Bool, true, false, cond, _&&_, _||_}
@@ -70,15 +70,21 @@ unfolding cleared
 clearing-done l₀ l e = e
 
 onto-again : (k : ℕ) (xs ys : List ℕ) → drop k xs ≡ drop k ys → onto (replicate k 0) xs ≡ onto (replicate k 0) ys
-onto-again k xs ys e = ap (λ n. replicate k 0 ++ drop n xs) (length-replicate {A = ℕ} k 0) ∙ ap (λ l. replicate k 0 ++ l) e ∙ ap (λ n. replicate k 0 ++ drop n ys) (sym (length-replicate {A = ℕ} k 0))
+onto-again k xs ys e =
+    ap (λ n. replicate k 0 ++ drop n xs) (length-replicate {A = ℕ} k 0)
+    ∙ ap (λ l. replicate k 0 ++ l) e
+    ∙ ap (λ n. replicate k 0 ++ drop n ys) (sym (length-replicate {A = ℕ} k 0))
 
 pub cleared-again : (xs ys : List ℕ) → Behind ys xs → cleared xs ≡ cleared ys
 unfolding cleared
-cleared-again xs ys e = onto-again scratchWords xs ys (sym (drop-drop 20352 statesWords xs) ∙ ap (drop 20352) e ∙ drop-drop 20352 statesWords ys)
+cleared-again xs ys e =
+    onto-again scratchWords xs ys (sym (drop-drop 20352 statesWords xs) ∙ ap (drop 20352) e ∙ drop-drop 20352 statesWords ys)
 
 -- ---- a state is the same as itself
 same-goal : (g : GoalWords) → sameW g g ≡ true
-same-goal g = both {a = eqb (g .sh) (g .sh)} (is-eqb (g .sh) (g .sh) refl) (both {a = eqb (g .an) (g .an)} (is-eqb (g .an) (g .an) refl) (is-eqb (g .mask) (g .mask) refl))
+same-goal g =
+    both {a = eqb (g .sh) (g .sh)} (is-eqb (g .sh) (g .sh) refl)
+    (both {a = eqb (g .an) (g .an)} (is-eqb (g .an) (g .an) refl) (is-eqb (g .mask) (g .mask) refl))
 
 among-in : (g : GoalWords) (hs : List GoalWords) → g ∈ hs → amongW g hs ≡ true
 unfolding amongW
@@ -106,7 +112,8 @@ module _ (ar tab : List ℕ) (n : ℕ) where
     pub is : (buffer : ℕ) → planned (words tab n) ar n buffer
         ≡ cond (ltb buffer (length (planIn ar tab n sc m)) || ltb 65535 (length (planIn ar tab n sc m))) too-long (plan-of m (planIn ar tab n sc m))
 
-  pub ended-is : (r : Explored) (m w : ℕ) (sc : List ℕ) → r ≡ result.Made m w → ExploredIs r ar tab n sc (explored (words tab n) ar) → Ended sc m w
+  pub ended-is : (r : Explored) (m w : ℕ) (sc : List ℕ) → r ≡ result.Made m w → ExploredIs r ar tab n sc (explored (words tab n) ar)
+      → Ended sc m w
   ended-is r m w sc e x = go (rw e at x)
     where
       go : AllMade m w ar tab n sc (explored (words tab n) ar) → Ended sc m w
@@ -129,10 +136,12 @@ module _ (ar tab : List ℕ) (n : ℕ) where
     abbrev pub wanted : Out
     wanted = written (planned (words tab n) ar n (length plan)) plan scratch
 
-    pub made-stopped : (r : Explored) (why : Reason) (at : State) (sc : List ℕ) → r ≡ result.Stopped why at → ExploredIs r ar tab n sc (explored (words tab n) ar) → Behind scratch sc
+    pub made-stopped : (r : Explored) (why : Reason) (at : State) (sc : List ℕ) → r ≡ result.Stopped why at
+        → ExploredIs r ar tab n sc (explored (words tab n) ar) → Behind scratch sc
         → out (built.Stopped why at) plan (cleared sc) ≡ wanted
     made-stopped r why at sc e x b =
-        let is : planned (words tab n) ar n (length plan) ≡ halted why (at .0) = ap (toPlan (words tab n) (length plan) (length ar) n) (rw e at x) in
+        let is : planned (words tab n) ar n (length plan) ≡ halted why (at .0) =
+        ap (toPlan (words tab n) (length plan) (length ar) n) (rw e at x) in
         ap (out (built.Stopped why at) plan) (cleared-again sc scratch b) ∙ sym (ap (λ p. written p plan scratch) is)
 
     module _ {sc : List ℕ} {m w : ℕ} (e : Ended sc m w) (b : Behind scratch sc) where
@@ -147,14 +156,17 @@ module _ (ar tab : List ℕ) (n : ℕ) where
           let over : (ltb (length plan) (length P) || ltb 65535 (length P)) ≡ true =
           ⊎-elim (λ l. or-l (ltb 65535 (length P)) (lt-ltb (length plan) (length P) (rw (e .total) at l)))
           (λ l. or-r (ltb (length plan) (length P)) (lt-ltb 65535 (length P) (rw (e .total) at l))) h in
-          let is : planned (words tab n) ar n (length plan) ≡ too-long = e .is (length plan) ∙ ap (λ t. cond t too-long (plan-of m P)) over in
+          let is : planned (words tab n) ar n (length plan) ≡ too-long =
+          e .is (length plan) ∙ ap (λ t. cond t too-long (plan-of m P)) over in
           ap (out (built.Refused LongPlan) plan) (cleared-again sc scratch b) ∙ sym (ap (λ p. written p plan scratch) is)
 
-      pub made-plan : total ≤ length plan → total ≤ 65535 → (plan′ : List ℕ) → plan′ ≡ sets plan 0 P → out (built.Plan (size m total)) plan′ (cleared sc) ≡ wanted
+      pub made-plan : total ≤ length plan → total ≤ 65535 → (plan′ : List ℕ) → plan′ ≡ sets plan 0 P
+          → out (built.Plan (size m total)) plan′ (cleared sc) ≡ wanted
       made-plan h g plan′ d =
           let within : (ltb (length plan) (length P) || ltb 65535 (length P)) ≡ false =
           ap₂ (λ x y. x || y) (le-ltb (length plan) (length P) (rw (e .total) at h)) (le-ltb 65535 (length P) (rw (e .total) at g)) in
-          let is : planned (words tab n) ar n (length plan) ≡ plan-of m P = e .is (length plan) ∙ ap (λ t. cond t too-long (plan-of m P)) within in
+          let is : planned (words tab n) ar n (length plan) ≡ plan-of m P =
+          e .is (length plan) ∙ ap (λ t. cond t too-long (plan-of m P)) within in
           ap (λ k. out (built.Plan (size m k)) plan′ (cleared sc)) (e .total)
           ∙ ap₂ (out (built.Plan (size m (length P)))) d (cleared-again sc scratch b)
           ∙ sym (ap (λ p. written p plan scratch) is)
@@ -169,7 +181,8 @@ module _ (ar tab : List ℕ) (n : ℕ) where
     pub blocks : w ≤ allMost
 
   pub ended-counts : {sc : List ℕ} {m w : ℕ} → Ended sc m w → length ar ≤ 32 → Counts m w
-  ended-counts {sc} {m} {w} e few = record { states = e .held .kept .few; starts = few-starts m (length ar) (e .held .kept .few) few; blocks = e .room }
+  ended-counts {sc} {m} {w} e few =
+      record { states = e .held .kept .few; starts = few-starts m (length ar) (e .held .kept .few) few; blocks = e .room }
 
 -- ---- the whole
 passed : (a b : Bool) (x y z : Out) → a ≡ true → b ≡ true → unless a x (unless b y z) ≡ z
@@ -180,16 +193,20 @@ module _ (ar ws st plan scratch : List ℕ) where
   unfolding buildOf
   built-bad e = rw e refl
 
-  pub built-short : shapesGood ar ws st ≡ true → length scratch < scratchWords → buildOf ar ws st plan scratch ≡ refuse ShortScratch plan scratch
+  pub built-short : shapesGood ar ws st ≡ true → length scratch < scratchWords
+      → buildOf ar ws st plan scratch ≡ refuse ShortScratch plan scratch
   unfolding buildOf
   built-short e h = rw (e, lt-leb scratchWords (length scratch) h) refl
 
-  built-on : shapesGood ar ws st ≡ true → scratchWords ≤ length scratch → (p : Plan) → p ≡ planOf ar (shapeTerms ar ws) (length plan) → buildOf ar ws st plan scratch ≡ written p plan scratch
+  pub built-on : shapesGood ar ws st ≡ true → scratchWords ≤ length scratch → (p : Plan) → p ≡ planOf ar (shapeTerms ar ws) (length plan)
+      → buildOf ar ws st plan scratch ≡ written p plan scratch
   unfolding buildOf
   built-on e h p d =
-      passed (shapesGood ar ws st) (leb scratchWords (length scratch)) (refuse BadShapes plan scratch) (refuse ShortScratch plan scratch) (written (planOf ar (shapeTerms ar ws) (length plan)) plan scratch) e (le-leb scratchWords (length scratch) h)
+      passed (shapesGood ar ws st) (leb scratchWords (length scratch)) (refuse BadShapes plan scratch) (refuse ShortScratch plan scratch)
+      (written (planOf ar (shapeTerms ar ws) (length plan)) plan scratch) e (le-leb scratchWords (length scratch) h)
       ∙ ap (λ q. written q plan scratch) (sym d)
 
-  pub built-made : shapesGood ar ws st ≡ true → scratchWords ≤ length scratch → (p : Plan) → p ≡ planOf ar (shapeTerms ar ws) (length plan) → (a : Built) (plan′ sc sc′ : List ℕ)
+  pub built-made : shapesGood ar ws st ≡ true → scratchWords ≤ length scratch → (p : Plan) → p ≡ planOf ar (shapeTerms ar ws) (length plan)
+      → (a : Built) (plan′ sc sc′ : List ℕ)
       → out a plan′ (cleared sc) ≡ written p plan scratch → sc′ ≡ cleared sc → out a plan′ sc′ ≡ buildOf ar ws st plan scratch
   built-made e h p d a plan′ sc sc′ w clear = ap (out a plan′) clear ∙ w ∙ sym (built-on e h p d)

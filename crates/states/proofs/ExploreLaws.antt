@@ -74,7 +74,8 @@ lifting K z class y lifted pk top a c d f =
     record { count = n; top-is = d .0 ∙ ap displacementW g; up = flat-back y lifted (liftedW K) (pk / 3) w (n ∙ sym m) (rw m f) }
 
 -- a class of the square, put in an array and lifted
-pub class-lifted : {goals : List ℕ} {n : ℕ} {dep : Square} → Squared goals n dep → (r : ℕ) (z class y lifted : List ℕ) (pk top : ℕ) → PutsFirst (flat (classAt dep goals n r)) pk z class → length z ≡ derivedWords
+pub class-lifted : {goals : List ℕ} {n : ℕ} {dep : Square} → Squared goals n dep → (r : ℕ) (z class y lifted : List ℕ) (pk top : ℕ)
+    → PutsFirst (flat (classAt dep goals n r)) pk z class → length z ≡ derivedWords
     → pk / 3 ≤ 32 → Lifts (goalsFrom class 0 (pk / 3)) top y lifted → length y ≡ 96 → Lifting (classAt dep goals n r) lifted (pk / 3) top
 class-lifted {goals} {n} {dep} s r z class y lifted pk top puts long few lifts wide =
     let K = classAt dep goals n r in
@@ -82,21 +83,25 @@ class-lifted {goals} {n} {dep} s r z class y lifted pk top puts long few lifts w
     let room = class-few s r in
     lifting K z class y lifted pk top puts (omega arith) lifts (omega arith)
 
-pub class-count : {goals : List ℕ} {n : ℕ} {dep : Square} → Squared goals n dep → (r : ℕ) (z class : List ℕ) (pk : ℕ) → PutsFirst (flat (classAt dep goals n r)) pk z class → pk / 3 ≡ length (classAt dep goals n r)
+pub class-count : {goals : List ℕ} {n : ℕ} {dep : Square} → Squared goals n dep → (r : ℕ) (z class : List ℕ) (pk : ℕ)
+    → PutsFirst (flat (classAt dep goals n r)) pk z class → pk / 3 ≡ length (classAt dep goals n r)
 class-count {goals} {n} {dep} s r z class pk puts = flat-thirds (classAt dep goals n r) pk (puts .0)
 
 -- a class of too many goals
-pub class-big : {goals : List ℕ} {n : ℕ} {dep : Square} → Squared goals n dep → (r : ℕ) (z class : List ℕ) (pk : ℕ) → PutsFirst (flat (classAt dep goals n r)) pk z class → (sc : List ℕ) (m : ℕ)
+pub class-big : {goals : List ℕ} {n : ℕ} {dep : Square} → Squared goals n dep → (r : ℕ) (z class : List ℕ) (pk : ℕ)
+    → PutsFirst (flat (classAt dep goals n r)) pk z class → (sc : List ℕ) (m : ℕ)
     → 32 < pk / 3 → MetIs (going.Stopped ManyGoals) sc 0 (meet (words [] 0) (statesIn sc m) (classAt dep goals n r))
 class-big {goals} {n} {dep} s r z class pk puts sc m h =
     let many = flat-thirds (classAt dep goals n r) pk (puts .0) in
     meet-big (words [] 0) (statesIn sc m) (classAt dep goals n r) (omega arith)
 
-pub place-in : (tab : List ℕ) (n : ℕ) (ss : List (List GoalWords)) (K : List GoalWords) → placeOf ss (liftedW K) ≡ succOf (words tab n) ss K .to
+pub place-in : (tab : List ℕ) (n : ℕ) (ss : List (List GoalWords)) (K : List GoalWords)
+    → placeOf ss (liftedW K) ≡ succOf (words tab n) ss K .to
 unfolding placeOf
 place-in tab n ss K = refl
 
-module _ {sc : List ℕ} {m : ℕ} (kept : Kept sc m) {K : List GoalWords} {lifted : List ℕ} {k top r : ℕ} (l : Lifting K lifted k top) (few : k ≤ 32) (p : r ≡ placeOf (statesIn sc m) (goalsFrom lifted 0 k)) where
+module _ {sc : List ℕ} {m : ℕ} (kept : Kept sc m) {K : List GoalWords} {lifted : List ℕ} {k top r : ℕ} (l : Lifting K lifted k top)
+    (few : k ≤ 32) (p : r ≡ placeOf (statesIn sc m) (goalsFrom lifted 0 k)) where
   small : length K ≤ 32
   small = let c = l .count in omega arith
 
@@ -117,12 +122,16 @@ module _ {sc : List ℕ} {m : ℕ} (kept : Kept sc m) {K : List GoalWords} {lift
   pub met-full : m ≤ r → m ≡ 128 → MetIs (going.Stopped ManyStates) sc 0 (meet (words [] 0) (statesIn sc m) K)
   met-full h e = let z = states-length sc m in meet-full (words [] 0) (statesIn sc m) K small (omega (arith, place)) (omega arith)
 
-  pub met-new : m ≤ r → (m ≡ 128 → ⊥) → (sc′ : List ℕ) → sc′ ≡ added sc m lifted k → 3 * k ≤ length lifted → MetIs (going.On (m + 1) 2) sc′ 0 (meet (words [] 0) (statesIn sc m) K) × (Behind sc sc′)
+  pub met-new : m ≤ r → (m ≡ 128 → ⊥) → (sc′ : List ℕ) → sc′ ≡ added sc m lifted k → 3 * k ≤ length lifted
+      → MetIs (going.On (m + 1) 2) sc′ 0 (meet (words [] 0) (statesIn sc m) K) × (Behind sc sc′)
   met-new h ne sc′ e have =
       let z = states-length sc m in
       let b = kept .few in
       let lt : m < 128 = omega (arith, ne) in
-      let grown : statesIn sc′ (m + 1) ≡ statesIn sc m ++ (liftedW K ∷ []) = ap (λ s. statesIn s (m + 1)) e ∙ states-added sc m lifted k (kept .long) lt few have kept ∙ ap (λ g. statesIn sc m ++ (g ∷ [])) (l .up) in
+      let grown : statesIn sc′ (m + 1) ≡ statesIn sc m ++ (liftedW K ∷ []) =
+      ap (λ s. statesIn s (m + 1)) e
+      ∙ states-added sc m lifted k (kept .long) lt few have kept
+      ∙ ap (λ g. statesIn sc m ++ (g ∷ [])) (l .up) in
       let is = meet-new (words [] 0) (statesIn sc m) K small (omega (arith, place)) (omega arith) in
       let one : List Succ = record { to = length (statesIn sc m); by = words [] 0 .gcp K } ∷ [] in (
         record { kept = rw e (kept-added sc m lifted k (kept .long) lt few have kept); succs = one; is = is ∙ ap (λ ss. met ss one) (sym grown); sum = refl; few = omega arith },
@@ -130,7 +139,8 @@ module _ {sc : List ℕ} {m : ℕ} (kept : Kept sc m) {K : List GoalWords} {lift
       )
 
 -- one class has one successor
-meets-one-length : (ss : List (List GoalWords)) (K : List GoalWords) (ss′ : List (List GoalWords)) (ys : List Succ) → meet (words [] 0) ss K ≡ met ss′ ys → length ys ≡ 1
+meets-one-length : (ss : List (List GoalWords)) (K : List GoalWords) (ss′ : List (List GoalWords)) (ys : List Succ)
+    → meet (words [] 0) ss K ≡ met ss′ ys → length ys ≡ 1
 meets-one-length ss K ss′ ys e = meet-found (words [] 0) ss K ss′ ys e .count
 
 -- ---- classes in turn
@@ -158,18 +168,22 @@ module _ {d : Square} {ws : List ℕ} {n : ℕ} {order : List ℕ} {base : ℕ} 
   }
 
   module _ {sc : List ℕ} {states count j : ℕ} (s : Meeting d ws n order base sc₀ m sc states count j) where
-    ahead : j < length order → classesBy d ws n (drop j order) ≡ classAt d ws n (getD order j 0 % 128) ∷ classesBy d ws n (drop (j + 1) order)
+    ahead : j < length order
+        → classesBy d ws n (drop j order) ≡ classAt d ws n (getD order j 0 % 128) ∷ classesBy d ws n (drop (j + 1) order)
     ahead h = ap (classesBy d ws n) (from order j h)
 
-    pub meeting-on : j < length order → (sc′ : List ℕ) (g : Going) (all more : ℕ) → g ≡ going.On all more → MetIs g sc′ 0 (meet (words [] 0) (statesIn sc states) (classAt d ws n (getD order j 0 % 128)))
+    pub meeting-on : j < length order → (sc′ : List ℕ) (g : Going) (all more : ℕ) → g ≡ going.On all more
+        → MetIs g sc′ 0 (meet (words [] 0) (statesIn sc states) (classAt d ws n (getD order j 0 % 128)))
         → Behind sc sc′ → length sc′ ≡ length sc → Meeting d ws n order base sc₀ m sc′ all (count + more) (j + 1)
     meeting-on h sc′ g all more e w b l = go (rw e at w)
       where
-        go : MetIs (going.On all more) sc′ 0 (meet (words [] 0) (statesIn sc states) (classAt d ws n (getD order j 0 % 128))) → Meeting d ws n order base sc₀ m sc′ all (count + more) (j + 1)
+        go : MetIs (going.On all more) sc′ 0 (meet (words [] 0) (statesIn sc states) (classAt d ws n (getD order j 0 % 128)))
+            → Meeting d ws n order base sc₀ m sc′ all (count + more) (j + 1)
         go r =
             let ys = r .succs in
             let two = r .sum in
-            let one : length ys ≡ 1 = meets-one-length (statesIn sc states) (classAt d ws n (getD order j 0 % 128)) (statesIn sc′ all) ys (r .is) in
+            let one : length ys ≡ 1 =
+            meets-one-length (statesIn sc states) (classAt d ws n (getD order j 0 % 128)) (statesIn sc′ all) ys (r .is) in
             let c = s .sum in
             let y = s .many in
             record {
@@ -184,13 +198,16 @@ module _ {d : Square} {ws : List ℕ} {n : ℕ} {order : List ℕ} {base : ℕ} 
                   ∙ meets-on (words [] 0) (s .xs) (statesIn sc states) (classAt d ws n (getD order j 0 % 128)) (classesBy d ws n (drop (j + 1) order)) (statesIn sc′ all) ys (r .is);
             }
 
-    pub meeting-stop : j < length order → (sc′ : List ℕ) (g : Going) (r : Reason) → g ≡ going.Stopped r → MetIs g sc′ 0 (meet (words [] 0) (statesIn sc states) (classAt d ws n (getD order j 0 % 128)))
+    pub meeting-stop : j < length order → (sc′ : List ℕ) (g : Going) (r : Reason) → g ≡ going.Stopped r
+        → MetIs g sc′ 0 (meet (words [] 0) (statesIn sc states) (classAt d ws n (getD order j 0 % 128)))
         → MetIs (going.Stopped r) sc′ base (meets (words [] 0) (statesIn sc₀ m) (classesBy d ws n order))
     meeting-stop h sc′ g r e w =
         s .is ∙ ap (λ ks. onto (words [] 0) (s .xs) (meets (words [] 0) (statesIn sc states) ks)) (ahead h)
-        ∙ meets-stop (words [] 0) (s .xs) (statesIn sc states) (classAt d ws n (getD order j 0 % 128)) (classesBy d ws n (drop (j + 1) order)) r (rw e at w)
+        ∙ meets-stop (words [] 0) (s .xs) (statesIn sc states) (classAt d ws n (getD order j 0 % 128))
+        (classesBy d ws n (drop (j + 1) order)) r (rw e at w)
 
-    pub meeting-end : length order ≤ j → length order ≤ 96 → MetIs (going.On states count) sc base (meets (words [] 0) (statesIn sc₀ m) (classesBy d ws n order))
+    pub meeting-end : length order ≤ j → length order ≤ 96
+        → MetIs (going.On states count) sc base (meets (words [] 0) (statesIn sc₀ m) (classesBy d ws n order))
     meeting-end h few =
         let y = s .many in
         let c = s .sum in
@@ -207,13 +224,17 @@ pub met-same : (g : Going) (sc : List ℕ) (a b : ℕ) (x y : Met (List GoalWord
 met-same g sc a b x y e d w = rw (← e, ← d) w
 
 -- ---- a state on a symbol
-module _ (ar : List ℕ) {tab : List ℕ} {n : ℕ} {sc : List ℕ} {i f : ℕ} {r : Parts} {out goals order : List ℕ} {dep : Square} (p : Parted tab n sc i f (getD ar f 0) r out goals dep order) where
+module _ (ar : List ℕ) {tab : List ℕ} {n : ℕ} {sc : List ℕ} {i f : ℕ} {r : Parts} {out goals order : List ℕ} {dep : Square}
+    (p : Parted tab n sc i f (getD ar f 0) r out goals dep order) where
   pub symbol-base : 2 + 2 * r .announced ≤ 1000
   symbol-base = omega (arith, p .few-outs)
 
-  pub symbol-met : (m : ℕ) (g : Going) (new : List ℕ) → MetIs g new (2 + 2 * r .announced) (meets (words [] 0) (statesIn sc m) (classesBy dep goals (r .goals) (firsts (r .classes) order))) → SymbolIs g ar tab n sc m i f new
+  pub symbol-met : (m : ℕ) (g : Going) (new : List ℕ)
+      → MetIs g new (2 + 2 * r .announced) (meets (words [] 0) (statesIn sc m) (classesBy dep goals (r .goals) (firsts (r .classes) order)))
+      → SymbolIs g ar tab n sc m i f new
   symbol-met m g new w =
-      let many : r .announced ≡ length (words tab n .outputs (stateIn sc i) f (getD ar f 0)) = p .outs ∙ sym (length-map (outputsW tab (labelCode tab (stateIn sc i)) f (stateIn sc i)) announcementW) in
+      let many : r .announced ≡ length (words tab n .outputs (stateIn sc i) f (getD ar f 0)) =
+      p .outs ∙ sym (length-map (outputsW tab (labelCode tab (stateIn sc i)) f (stateIn sc i)) announcementW) in
       met-same g new _ _ _ _ (ap (λ x. 2 + 2 * x) many) (ap (meets (words tab n) (statesIn sc m)) (p .classes)) w
 
 -- ---- how many words blocks take
@@ -222,13 +243,17 @@ pairs-length F G [] = refl
 pairs-length F G (x ∷ xs) = let e = pairs-length F G xs in omega arith
 
 pub block-length : (b : Block) → length (blockWords b) ≡ 2 + 2 * length (b .out) + 2 * length (b .succs)
-block-length b = let x = length-append (gather (λ a. a .shape ∷ code (a .at) ∷ []) (b .out)) (length (b .succs) ∷ gather (λ s. s .to ∷ code (s .by) ∷ []) (b .succs)) in
+block-length b =
+    let x = length-append (gather (λ a. a .shape ∷ code (a .at) ∷ []) (b .out)) (length (b .succs) ∷ gather (λ s. s .to ∷ code (s .by) ∷ []) (b .succs)) in
     let y = pairs-length (λ a. a .shape) (λ a. code (a .at)) (b .out) in
     let z = pairs-length (λ s. s .to) (λ s. code (s .by)) (b .succs) in
     omega arith
 
 pub words-more : (bs cs : List Block) → blocksLength (bs ++ cs) ≡ blocksLength bs + blocksLength cs
-words-more bs cs = ap (λ l. length (concat l)) (map-append blockWords bs cs) ∙ ap length (concat-append (map blockWords bs) (map blockWords cs)) ∙ length-append (concat (map blockWords bs)) (concat (map blockWords cs))
+words-more bs cs =
+    ap (λ l. length (concat l)) (map-append blockWords bs cs)
+    ∙ ap length (concat-append (map blockWords bs) (map blockWords cs))
+    ∙ length-append (concat (map blockWords bs)) (concat (map blockWords cs))
 
 words-one : (b : Block) → blocksLength (b ∷ []) ≡ length (blockWords b)
 words-one b = ap length (append-nil (blockWords b))
@@ -238,13 +263,16 @@ announces-few : (tab : List ℕ) (c f : ℕ) (gs : List GoalWords) → length (g
 announces-few tab c f [] = omega arith
 announces-few tab c f (g ∷ gs) = go (eqb (reduct tab c f g) 0) (announces-few tab c f gs)
   where
-    go : (b : Bool) → length (gather (announces tab c f) gs) ≤ length gs → length (cond b (g ∷ []) [] ++ gather (announces tab c f) gs) ≤ suc (length gs)
+    go : (b : Bool) → length (gather (announces tab c f) gs) ≤ length gs
+        → length (cond b (g ∷ []) [] ++ gather (announces tab c f) gs) ≤ suc (length gs)
     go true h = omega arith
     go false h = omega arith
 
 pub outputs-few : (tab : List ℕ) (c f : ℕ) (gs : List GoalWords) → length gs ≤ 32 → length (outputsW tab c f gs) ≤ 32
 unfolding outputsW
-outputs-few tab c f gs h = let e = perm-length (sort-perm (λ a b. ltb (annKey a) (annKey b)) (gather (announces tab c f) gs)) in let a = announces-few tab c f gs in omega arith
+outputs-few tab c f gs h =
+    let e = perm-length (sort-perm (λ a b. ltb (annKey a) (annKey b)) (gather (announces tab c f) gs)) in
+    let a = announces-few tab c f gs in omega arith
 
 -- ---- symbols in turn
 pub record Rowing (ar tab : List ℕ) (n : ℕ) (sc₀ : List ℕ) (m i : ℕ) (sc : List ℕ) (states count f : ℕ) : Type 0 where
@@ -257,7 +285,8 @@ pub record Rowing (ar tab : List ℕ) (n : ℕ) (sc₀ : List ℕ) (m i : ℕ) (
   pub sum : count ≤ 300 * f
   pub more : List Block
   pub many : count ≡ blocksLength more
-  pub is : (bs : List Block) → row (words tab n) i (stateIn sc₀ i) 0 ar (statesIn sc₀ m) bs ≡ row (words tab n) i (stateIn sc₀ i) f (drop f ar) (statesIn sc states) (bs ++ more)
+  pub is : (bs : List Block)
+      → row (words tab n) i (stateIn sc₀ i) 0 ar (statesIn sc₀ m) bs ≡ row (words tab n) i (stateIn sc₀ i) f (drop f ar) (statesIn sc states) (bs ++ more)
 
 module _ {ar tab : List ℕ} {n : ℕ} {sc₀ : List ℕ} {m i : ℕ} where
   pub rowing-begin : Held ar tab n sc₀ m → i < m → Rowing ar tab n sc₀ m i sc₀ m 0 0
@@ -281,7 +310,8 @@ module _ {ar tab : List ℕ} {n : ℕ} {sc₀ : List ℕ} {m i : ℕ} where
     pub rowing-symbol : (c : ℕ) → c ≡ labelCode tab (stateIn sc₀ i) → OnSymbol ar tab n sc i c f
     rowing-symbol c e = on-symbol (s .held) (s .inside) c f (e ∙ ap (labelCode tab) (sym (s .still))) h
 
-    pub rowing-on : (sc′ : List ℕ) (g : Going) (all more : ℕ) → g ≡ going.On all more → SymbolIs g ar tab n sc states i f sc′ → Behind sc sc′ → length sc′ ≡ length sc → Rowing ar tab n sc₀ m i sc′ all (count + more) (f + 1)
+    pub rowing-on : (sc′ : List ℕ) (g : Going) (all more : ℕ) → g ≡ going.On all more → SymbolIs g ar tab n sc states i f sc′
+        → Behind sc sc′ → length sc′ ≡ length sc → Rowing ar tab n sc₀ m i sc′ all (count + more) (f + 1)
     rowing-on sc′ g all more e w b l = go (rw (e, s .still) at w)
       where
         outs-few : length (outputsW tab (labelCode tab (stateIn sc₀ i)) f (stateIn sc₀ i)) ≤ 32
@@ -292,8 +322,11 @@ module _ {ar tab : List ℕ} {n : ℕ} {sc₀ : List ℕ} {m i : ℕ} where
         go r =
             let xs = r .succs in
             let block : Block = record { out = words tab n .outputs (stateIn sc₀ i) f (getD ar f 0); succs = xs } in
-            let found = meets-found (words tab n) (words tab n .classes (stateIn sc₀ i) f (getD ar f 0)) (statesIn sc states) (statesIn sc′ all) xs (r .is) in
-            let outs : length (block .out) ≡ length (outputsW tab (labelCode tab (stateIn sc₀ i)) f (stateIn sc₀ i)) = length-map (outputsW tab (labelCode tab (stateIn sc₀ i)) f (stateIn sc₀ i)) announcementW in
+            let found =
+            meets-found (words tab n) (words tab n .classes (stateIn sc₀ i) f (getD ar f 0)) (statesIn sc states) (statesIn sc′ all) xs
+            (r .is) in
+            let outs : length (block .out) ≡ length (outputsW tab (labelCode tab (stateIn sc₀ i)) f (stateIn sc₀ i)) =
+            length-map (outputsW tab (labelCode tab (stateIn sc₀ i)) f (stateIn sc₀ i)) announcementW in
             let w2 = r .sum in
             let w3 = r .few in
             let few = outs-few in
@@ -319,14 +352,17 @@ module _ {ar tab : List ℕ} {n : ℕ} {sc₀ : List ℕ} {m i : ℕ} where
               more = s .more ++ (block ∷ []);
               many = sym (words-more (s .more) (block ∷ []) ∙ omega (arith, words-one block, outs));
               is = λ bs. s .is bs ∙ ap (λ ns. row (words tab n) i (stateIn sc₀ i) f ns (statesIn sc states) (bs ++ s .more)) (from ar f h)
-                  ∙ row-on (words tab n) i (stateIn sc₀ i) f (getD ar f 0) (drop (f + 1) ar) (statesIn sc states) (bs ++ s .more) (statesIn sc′ all) xs (r .is)
+                  ∙ row-on (words tab n) i (stateIn sc₀ i) f (getD ar f 0) (drop (f + 1) ar) (statesIn sc states) (bs ++ s .more)
+                  (statesIn sc′ all) xs (r .is)
                   ∙ ap₂ (λ g bs₁. row (words tab n) i (stateIn sc₀ i) g (drop (f + 1) ar) (statesIn sc′ all) bs₁) (sym (add-one f)) (append-assoc bs (s .more) (block ∷ []));
             }
 
-    pub rowing-stop : (sc′ : List ℕ) (g : Going) (r : Reason) → g ≡ going.Stopped r → SymbolIs g ar tab n sc states i f sc′ → (bs : List Block) → RowIs (going.Stopped r) ar tab n sc′ i bs (row (words tab n) i (stateIn sc₀ i) 0 ar (statesIn sc₀ m) bs)
+    pub rowing-stop : (sc′ : List ℕ) (g : Going) (r : Reason) → g ≡ going.Stopped r → SymbolIs g ar tab n sc states i f sc′
+        → (bs : List Block) → RowIs (going.Stopped r) ar tab n sc′ i bs (row (words tab n) i (stateIn sc₀ i) 0 ar (statesIn sc₀ m) bs)
     rowing-stop sc′ g r e w bs =
         s .is bs ∙ ap (λ ns. row (words tab n) i (stateIn sc₀ i) f ns (statesIn sc states) (bs ++ s .more)) (from ar f h)
-        ∙ row-stop (words tab n) i (stateIn sc₀ i) f (getD ar f 0) (drop (f + 1) ar) (statesIn sc states) (bs ++ s .more) r (rw (e, s .still) at w)
+        ∙ row-stop (words tab n) i (stateIn sc₀ i) f (getD ar f 0) (drop (f + 1) ar) (statesIn sc states) (bs ++ s .more) r
+        (rw (e, s .still) at w)
 
   pub rowing-end : {sc : List ℕ} {states count f : ℕ} → Rowing ar tab n sc₀ m i sc states count f → length ar ≤ f → length ar ≤ 32
       → (bs : List Block) → RowIs (going.On states count) ar tab n sc i bs (row (words tab n) i (stateIn sc₀ i) 0 ar (statesIn sc₀ m) bs)
@@ -361,14 +397,20 @@ pub record Running (ar tab : List ℕ) (n : ℕ) (sc₀ sc : List ℕ) (m count 
   pub is : explored (words tab n) ar ≡ run (words tab n) ar (128 - i) i (statesIn sc m) blocks
 
 module _ {ar tab : List ℕ} {n : ℕ} (sc₀ : List ℕ) where
-  pub running-begin : Ready ar tab n → statesWords ≤ length sc₀ → (first sc : List ℕ) → first ≡ sets (replicate 96 0) 0 (flat (freshesW n 0)) → sc ≡ added sc₀ 0 first n → Running ar tab n sc sc 1 0 0 × (Behind sc₀ sc)
+  pub running-begin : Ready ar tab n → statesWords ≤ length sc₀ → (first sc : List ℕ)
+      → first ≡ sets (replicate 96 0) 0 (flat (freshesW n 0)) → sc ≡ added sc₀ 0 first n → Running ar tab n sc sc 1 0 0 × (Behind sc₀ sc)
   running-begin ready long first sc e d =
       let few = ready .few-shapes in
       let many : length (freshesW n 0) ≡ n = length-map (range 0 n) (freshW 0) ∙ length-range 0 n in
       let wide : length first ≡ 96 = ap length e ∙ length-sets (replicate 96 0) 0 (flat (freshesW n 0)) in
-      let is : goalsFrom first 0 n ≡ freshesW n 0 = flat-back (replicate 96 0) first (freshesW n 0) n e (sym many) (rw many (omega arith)) in
+      let is : goalsFrom first 0 n ≡ freshesW n 0 =
+      flat-back (replicate 96 0) first (freshesW n 0) n e (sym many) (rw many (omega arith)) in
       let none : Kept sc₀ 0 = record { long = long; few = omega arith; counts = λ j l. absurd (omega arith) } in
-      let states : statesIn sc 1 ≡ freshesW n 0 ∷ [] = ap (λ s. statesIn s 1) d ∙ states-added sc₀ 0 first n long (omega arith) (omega arith) (omega arith) none ∙ ap (λ g. statesIn sc₀ 0 ++ (g ∷ [])) is ∙ ap (λ ss. ss ++ (freshesW n 0 ∷ [])) (no-state sc₀) in (
+      let states : statesIn sc 1 ≡ freshesW n 0 ∷ [] =
+      ap (λ s. statesIn s 1) d
+      ∙ states-added sc₀ 0 first n long (omega arith) (omega arith) (omega arith) none
+      ∙ ap (λ g. statesIn sc₀ 0 ++ (g ∷ [])) is
+      ∙ ap (λ ss. ss ++ (freshesW n 0 ∷ [])) (no-state sc₀) in (
         record {
           below = omega arith;
           held = record {
@@ -400,10 +442,12 @@ module _ {ar tab : List ℕ} {n : ℕ} {sc₀ : List ℕ} where
       few : i < 128
       few = let k = s .held .kept .few in omega arith
 
-      pub running-on : (sc′ : List ℕ) (g : Going) (all more : ℕ) → g ≡ going.On all more → Turn g sc′ → Behind sc sc′ → length sc′ ≡ length sc → Running ar tab n sc₀ sc′ all (count + more) (i + 1)
+      pub running-on : (sc′ : List ℕ) (g : Going) (all more : ℕ) → g ≡ going.On all more → Turn g sc′ → Behind sc sc′
+          → length sc′ ≡ length sc → Running ar tab n sc₀ sc′ all (count + more) (i + 1)
       running-on sc′ g all more e w b l = go (rw e at (w (s .blocks)))
         where
-          go : RowIs (going.On all more) ar tab n sc′ i (s .blocks) (row (words tab n) i (stateIn sc i) 0 ar (statesIn sc m) (s .blocks)) → Running ar tab n sc₀ sc′ all (count + more) (i + 1)
+          go : RowIs (going.On all more) ar tab n sc′ i (s .blocks) (row (words tab n) i (stateIn sc i) 0 ar (statesIn sc m) (s .blocks))
+              → Running ar tab n sc₀ sc′ all (count + more) (i + 1)
           go r =
               let bs = r .more in
               let c0 = s .many in
@@ -423,7 +467,8 @@ module _ {ar tab : List ℕ} {n : ℕ} {sc₀ : List ℕ} where
                     (ap (λ t. row (words tab n) i t 0 ar (statesIn sc m) (s .blocks)) the-state ∙ r .is);
               }
 
-      pub running-stop : (sc′ : List ℕ) (g : Going) (r : Reason) → g ≡ going.Stopped r → Turn g sc′ → explored (words tab n) ar ≡ refused r i
+      pub running-stop : (sc′ : List ℕ) (g : Going) (r : Reason) → g ≡ going.Stopped r → Turn g sc′
+          → explored (words tab n) ar ≡ refused r i
       running-stop sc′ g r e w =
           s .is ∙ run-stop (words tab n) ar i (statesIn sc m) (s .blocks) inside few r
           (ap (λ t. row (words tab n) i t 0 ar (statesIn sc m) (s .blocks)) the-state ∙ (rw e at (w (s .blocks))))

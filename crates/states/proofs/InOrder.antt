@@ -36,7 +36,8 @@ leads-same (suc i) (c ∷ r) [] h = rw (h 0 (omega arith)) (leads-same i r [] (�
 leads-same zero (c ∷ r) (d ∷ s) h = h 0 (omega arith)
 leads-same (suc i) (c ∷ r) (d ∷ s) h = rw (h 0 (omega arith), leads-same i r s (λ b l. h (suc b) (omega arith))) refl
 
-picked-same : (gs : List GoalWords) (r s : List Bool) → ((b : ℕ) → b < length gs → getD r b false ≡ getD s b false) → pickedW r gs ≡ pickedW s gs
+picked-same : (gs : List GoalWords) (r s : List Bool) → ((b : ℕ) → b < length gs → getD r b false ≡ getD s b false)
+    → pickedW r gs ≡ pickedW s gs
 unfolding pickedW
 picked-same [] [] [] h = refl
 picked-same [] [] (c ∷ s) h = refl
@@ -52,7 +53,8 @@ close-length [] m = refl
 close-length (k ∷ ks) m = close-length ks (through k m) ∙ length-map m _
 
 module _ {A : Type 0} (f : List Bool → A) (p : ℕ → Bool) (at : ℕ → A) where
-  rows-passing : (i : ℕ) (m : Square) → ((a : ℕ) → a < length m → leads (i + a) (getD m a []) ≡ p (i + a)) → ((a : ℕ) → a < length m → f (getD m a []) ≡ at (i + a))
+  rows-passing : (i : ℕ) (m : Square) → ((a : ℕ) → a < length m → leads (i + a) (getD m a []) ≡ p (i + a))
+      → ((a : ℕ) → a < length m → f (getD m a []) ≡ at (i + a))
       → map f (rowsFrom i m) ≡ gather (λ j. cond (p j) (at j ∷ []) []) (range i (length m))
   rows-passing i [] h g = refl
   rows-passing i (r ∷ m) h g =
@@ -61,12 +63,14 @@ module _ {A : Type 0} (f : List Bool → A) (p : ℕ → Bool) (at : ℕ → A) 
       (λ a l. let e : suc i + a ≡ i + suc a = omega arith in rw e (h (suc a) (omega arith)))
       (λ a l. let e : suc i + a ≡ i + suc a = omega arith in rw e (g (suc a) (omega arith))))
     where
-      go : (b : Bool) → leads i r ≡ b → f r ≡ at i → map f (rowsFrom (suc i) m) ≡ gather (λ j. cond (p j) (at j ∷ []) []) (range (suc i) (length m))
+      go : (b : Bool) → leads i r ≡ b → f r ≡ at i
+          → map f (rowsFrom (suc i) m) ≡ gather (λ j. cond (p j) (at j ∷ []) []) (range (suc i) (length m))
           → map f (cond (leads i r) (r ∷ rowsFrom (suc i) m) (rowsFrom (suc i) m)) ≡ cond b (at i ∷ []) [] ++ gather (λ j. cond (p j) (at j ∷ []) []) (range (suc i) (length m))
       go true e d ih = rw (e, d, ih) refl
       go false e d ih = rw e ih
 
-map-at {ℓ κ} : {A : Type ℓ} {B : Type κ} (f : A → B) (xs : List A) (i : ℕ) (d : B) (e : A) → i < length xs → getD (map f xs) i d ≡ f (getD xs i e)
+map-at {ℓ κ} : {A : Type ℓ} {B : Type κ} (f : A → B) (xs : List A) (i : ℕ) (d : B) (e : A) → i < length xs
+    → getD (map f xs) i d ≡ f (getD xs i e)
 map-at f [] i d e h = absurd (omega arith)
 map-at f (x ∷ xs) zero d e h = refl
 map-at f (x ∷ xs) (suc i) d e h = map-at f xs i d e (omega arith)
@@ -123,9 +127,12 @@ module _ (tab ws : List ℕ) (n : ℕ) (d : Square) (few : n ≤ 96) where
 goals-map : (ws : List ℕ) (at i k : ℕ) → map (goalOn ws at) (range i k) ≡ goalsFrom ws (at + 3 * i) k
 unfolding goalsFrom
 goals-map ws at i zero = refl
-goals-map ws at i (suc k) = let e : at + 3 * suc i ≡ at + 3 * i + 3 = omega arith in ap (λ l. goalAt ws (at + 3 * i) ∷ l) (goals-map ws at (suc i) k ∙ ap (λ a. goalsFrom ws a k) e)
+goals-map ws at i (suc k) =
+    let e : at + 3 * suc i ≡ at + 3 * i + 3 = omega arith in
+    ap (λ l. goalAt ws (at + 3 * i) ∷ l) (goals-map ws at (suc i) k ∙ ap (λ a. goalsFrom ws a k) e)
 
-pub outputs-in-order : (tab ws : List ℕ) (at c f n : ℕ) → n ≤ 96 → map (λ x. goalOn ws at (x % 128)) (sort ltb (outItems tab ws at c f n)) ≡ outputsW tab c f (goalsFrom ws at n)
+pub outputs-in-order : (tab ws : List ℕ) (at c f n : ℕ) → n ≤ 96
+    → map (λ x. goalOn ws at (x % 128)) (sort ltb (outItems tab ws at c f n)) ≡ outputsW tab c f (goalsFrom ws at n)
 unfolding outputsW
 outputs-in-order tab ws at c f n few =
     sort-keyed (goalOn ws at) annKey (goesOut tab ws at c f) 0 n (omega arith)

@@ -61,7 +61,8 @@ module _ {ar tab : List ℕ} {n : ℕ} {sc : List ℕ} {m i : ℕ} (held : Held 
       record { tabled = held-good .ready .tabled; few = omega arith; room = omega arith; low = good-low held-good }
 
 -- ---- ordered places in an array, read again
-module _ (p : ℕ → Bool) (key : ℕ → ℕ) (n : ℕ) (few : n ≤ 96) (k : ℕ) (old new : List ℕ) (room : n ≤ length old) (a : Arranged (keyed p key 0 n) k old new) where
+module _ (p : ℕ → Bool) (key : ℕ → ℕ) (n : ℕ) (few : n ≤ 96) (k : ℕ) (old new : List ℕ) (room : n ≤ length old)
+    (a : Arranged (keyed p key 0 n) k old new) where
   ordered-count : k ≤ n
   ordered-count = let c = keyed-count p key 0 n in omega (arith, a .0)
 
@@ -136,8 +137,10 @@ module _ {ar tab : List ℕ} {n : ℕ} {sc : List ℕ} {i c f : ℕ} (o : OnSymb
   abbrev outKey : ℕ → ℕ
   outKey x = annKey (goalOn sc (placeIn i) x)
 
-  pub parted : {out₀ goals₀ order₀ : List ℕ} {dep₀ : Square} → Lent out₀ goals₀ dep₀ order₀ → (out goals order : List ℕ) (dep : Square) (outs r classes : ℕ)
-      → Arranged (outItems tab sc (placeIn i) c f (getD sc i 0)) outs out₀ out → PutsFirst (flat D) r goals₀ goals → Closes (r / 3) (Yes (shares tab goals)) dep
+  pub parted : {out₀ goals₀ order₀ : List ℕ} {dep₀ : Square} → Lent out₀ goals₀ dep₀ order₀
+      → (out goals order : List ℕ) (dep : Square) (outs r classes : ℕ)
+      → Arranged (outItems tab sc (placeIn i) c f (getD sc i 0)) outs out₀ out → PutsFirst (flat D) r goals₀ goals
+      → Closes (r / 3) (Yes (shares tab goals)) dep
       → Arranged (leadItems tab dep goals (r / 3)) classes order₀ order
       → Parted tab n sc i f k (record { announced = outs; goals = r / 3; classes = classes }) out goals dep order
   parted {out₀} {goals₀} {order₀} lent out goals order dep outs r classes announced puts closes ordered =
@@ -152,9 +155,15 @@ module _ {ar tab : List ℕ} {n : ℕ} {sc : List ℕ} {i c f : ℕ} (o : OnSymb
       let room₂ : r / 3 ≤ length order₀ = omega (arith, lent .rows) in
       let outs-are = ordered-are p outKey (getD sc i 0) few96 outs out₀ out room announced in
       let these : goalsBy sc (placeIn i) (firsts outs out) ≡ outputsW tab (labelCode tab gs) f gs =
-      ap (goalsBy sc (placeIn i)) outs-are ∙ outputs-in-order tab sc (placeIn i) c f (getD sc i 0) few96 ∙ ap (λ t. outputsW tab t f gs) (o .label) in
+      ap (goalsBy sc (placeIn i)) outs-are
+      ∙ outputs-in-order tab sc (placeIn i) c f (getD sc i 0) few96
+      ∙ ap (λ t. outputsW tab t f gs) (o .label) in
       let many : outs ≡ length (outputsW tab (labelCode tab gs) f gs) =
-      announced .0 ∙ sym (sort-length (outItems tab sc (placeIn i) c f (getD sc i 0))) ∙ ap length (sym outs-are) ∙ sym (length-map (firsts outs out) (λ x. goalOn sc (placeIn i) (x % 128))) ∙ ap length these in
+      announced .0
+      ∙ sym (sort-length (outItems tab sc (placeIn i) c f (getD sc i 0)))
+      ∙ ap length (sym outs-are)
+      ∙ sym (length-map (firsts outs out) (λ x. goalOn sc (placeIn i) (x % 128)))
+      ∙ ap length these in
       record {
         outs = many;
         few-outs = let w = ordered-count p outKey (getD sc i 0) few96 outs out₀ out room announced in omega arith;

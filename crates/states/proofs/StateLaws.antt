@@ -33,7 +33,9 @@ placeFrom k sc m i = orElse (find (sameStateW k) (map (stateIn sc) (range i (m -
 module _ (k : List GoalWords) (sc : List ℕ) (m : ℕ) where
   pub place-all : placeOf (statesIn sc m) k ≡ placeFrom k sc m 0
   unfolding placeOf statesIn
-  place-all = ap (orElse (find (sameStateW k) (map (stateIn sc) (range 0 m)) 0)) (length-map (range 0 m) (stateIn sc) ∙ length-range 0 m) ∙ rw (sub-zero m) refl
+  place-all =
+      ap (orElse (find (sameStateW k) (map (stateIn sc) (range 0 m)) 0)) (length-map (range 0 m) (stateIn sc) ∙ length-range 0 m)
+      ∙ rw (sub-zero m) refl
 
   module _ (i : ℕ) where
     pub place-here : i < m → sameStateW k (stateIn sc i) ≡ true → placeFrom k sc m i ≡ i
@@ -46,7 +48,8 @@ module _ (k : List GoalWords) (sc : List ℕ) (m : ℕ) where
     place-end h = let d : m - i ≡ 0 = omega arith in rw d refl
 
 -- ---- a state's words stored one by one
-pub store-next : (sc ws : List ℕ) (b k i : ℕ) → i < k → k ≤ length ws → sets sc (b + i) (take (k - i) (drop i ws)) ≡ sets (set sc (b + i) (getD ws i 0)) (b + (i + 1)) (take (k - (i + 1)) (drop (i + 1) ws))
+pub store-next : (sc ws : List ℕ) (b k i : ℕ) → i < k → k ≤ length ws
+    → sets sc (b + i) (take (k - i) (drop i ws)) ≡ sets (set sc (b + i) (getD ws i 0)) (b + (i + 1)) (take (k - (i + 1)) (drop (i + 1) ws))
 store-next sc ws b k i h l =
     let e : k - i ≡ suc (k - (i + 1)) = omega arith in
     let d : b + (i + 1) ≡ suc (b + i) = omega arith in
@@ -59,16 +62,20 @@ pub sets-in : (vs l : List ℕ) (i x : ℕ) → i + length vs ≤ length l → x
 sets-in [] l i x h g = absurd (omega arith)
 sets-in (v ∷ vs) l i zero h g =
     let e : i + 0 ≡ i = omega arith in
-    ap (λ n. getD (sets (set l i v) (suc i) vs) n 0) e ∙ sets-at vs (set l i v) (suc i) i (omega arith) ∙ getD-set-same l i v 0 (omega arith)
+    ap (λ n. getD (sets (set l i v) (suc i) vs) n 0) e
+    ∙ sets-at vs (set l i v) (suc i) i (omega arith)
+    ∙ getD-set-same l i v 0 (omega arith)
 sets-in (v ∷ vs) l i (suc x) h g =
     let e : i + suc x ≡ suc i + x = omega arith in
-    ap (λ n. getD (sets (set l i v) (suc i) vs) n 0) e ∙ sets-in vs (set l i v) (suc i) x (rw (length-set l i v) (omega arith)) (omega arith)
+    ap (λ n. getD (sets (set l i v) (suc i) vs) n 0) e
+    ∙ sets-in vs (set l i v) (suc i) x (rw (length-set l i v) (omega arith)) (omega arith)
 
 -- ---- one more state
 abbrev pub added : List ℕ → ℕ → List ℕ → ℕ → List ℕ
 added sc m ws n = sets (set sc m n) (placeIn m) (take (3 * n) ws)
 
-module _ (sc : List ℕ) (m : ℕ) (ws : List ℕ) (n : ℕ) (long : statesWords ≤ length sc) (room : m < 128) (few : n ≤ 32) (have : 3 * n ≤ length ws) where
+module _ (sc : List ℕ) (m : ℕ) (ws : List ℕ) (n : ℕ) (long : statesWords ≤ length sc) (room : m < 128) (few : n ≤ 32)
+    (have : 3 * n ≤ length ws) where
   run-length : length (take (3 * n) ws) ≡ 3 * n
   run-length = length-take-le (3 * n) ws have
 
@@ -88,7 +95,8 @@ module _ (sc : List ℕ) (m : ℕ) (ws : List ℕ) (n : ℕ) (long : statesWords
   pub added-before : (i : ℕ) → i < m → getD sc i 0 ≤ 32 → stateIn (added sc m ws n) i ≡ stateIn sc i
   added-before i h l =
       ap (goalsFrom (added sc m ws n) (placeIn i)) (early i (omega arith) (λ e. omega arith))
-      ∙ goals-same (added sc m ws n) sc (placeIn i) (placeIn i) (getD sc i 0) (λ x g. early (placeIn i + x) (omega arith) (λ e. omega arith))
+      ∙ goals-same (added sc m ws n) sc (placeIn i) (placeIn i) (getD sc i 0)
+      (λ x g. early (placeIn i + x) (omega arith) (λ e. omega arith))
 
   pub states-added : Kept sc m → statesIn (added sc m ws n) (m + 1) ≡ statesIn sc m ++ (goalsFrom ws 0 n ∷ [])
   unfolding statesIn
@@ -113,7 +121,9 @@ module _ (sc : List ℕ) (m : ℕ) (ws : List ℕ) (n : ℕ) (long : statesWords
 
   -- what lies behind the states stays
   pub added-behind : Behind sc (added sc m ws n)
-  added-behind = sets-behind (take (3 * n) ws) (set sc m n) (placeIn m) statesWords (rw run-length (omega arith)) ∙ drop-set-lt statesWords sc m n (omega arith)
+  added-behind =
+      sets-behind (take (3 * n) ws) (set sc m n) (placeIn m) statesWords (rw run-length (omega arith))
+      ∙ drop-set-lt statesWords sc m n (omega arith)
 
 pub states-at : (sc : List ℕ) (m i : ℕ) (d : List GoalWords) → i < m → getD (statesIn sc m) i d ≡ stateIn sc i
 unfolding statesIn

@@ -17,7 +17,8 @@ use Rattle.classes.proofs.SameLaws.{goals-same}
 use Rattle.states.proofs.StateLaws.{sets-in}
 
 goals-shift : (x : ℕ) (ws : List ℕ) (at k : ℕ) → goalsFrom (x ∷ ws) (suc at) k ≡ goalsFrom ws at k
-goals-shift x ws at k = goals-same (x ∷ ws) ws (suc at) at k (λ i h. let e : suc at + i ≡ suc (at + i) = omega arith in ap (λ n. getD (x ∷ ws) n 0) e)
+goals-shift x ws at k =
+    goals-same (x ∷ ws) ws (suc at) at k (λ i h. let e : suc at + i ≡ suc (at + i) = omega arith in ap (λ n. getD (x ∷ ws) n 0) e)
 
 flat-goals : (gs : List GoalWords) → goalsFrom (flat gs) 0 (length gs) ≡ gs
 unfolding flat goalsFrom
@@ -29,10 +30,12 @@ flat-goals (g ∷ gs) =
     ∙ goals-shift (g .mask) (flat gs) 0 (length gs)
     ∙ flat-goals gs)
 
-pub flat-back : (l ws : List ℕ) (gs : List GoalWords) (k : ℕ) → ws ≡ sets l 0 (flat gs) → k ≡ length gs → 3 * length gs ≤ length l → goalsFrom ws 0 k ≡ gs
+pub flat-back : (l ws : List ℕ) (gs : List GoalWords) (k : ℕ) → ws ≡ sets l 0 (flat gs) → k ≡ length gs → 3 * length gs ≤ length l
+    → goalsFrom ws 0 k ≡ gs
 flat-back l ws gs k e d h =
     ap (λ v. goalsFrom v 0 k) e ∙ ap (goalsFrom (sets l 0 (flat gs)) 0) d
-    ∙ goals-same (sets l 0 (flat gs)) (flat gs) 0 0 (length gs) (λ i g. let z = flat-length gs in ap (λ n. getD (sets l 0 (flat gs)) n 0) refl ∙ sets-in (flat gs) l 0 i (omega arith) (omega arith) ∙ ap (λ n. getD (flat gs) n 0) (sym (zero-add i)))
+    ∙ goals-same (sets l 0 (flat gs)) (flat gs) 0 0 (length gs)
+    (λ i g. let z = flat-length gs in ap (λ n. getD (sets l 0 (flat gs)) n 0) refl ∙ sets-in (flat gs) l 0 i (omega arith) (omega arith) ∙ ap (λ n. getD (flat gs) n 0) (sym (zero-add i)))
     ∙ flat-goals gs
 
 pub flat-thirds : (gs : List GoalWords) (k : ℕ) → k ≡ length (flat gs) → k / 3 ≡ length gs

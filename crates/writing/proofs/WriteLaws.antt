@@ -57,10 +57,12 @@ module _ {F G : ℕ → ℕ} {xs l₀ : List ℕ} {at : ℕ} where
 
   module _ {l : List ℕ} {here j : ℕ} (s : Paired F G xs l₀ l at here j) where
     -- where the count stands in l₁ already
-    pub paired-room : j < length xs → (l₁ : List ℕ) → l₀ ≡ set l₁ at (length xs) → at + (1 + 2 * length xs) ≤ length l₁ → here + 2 ≤ length l
+    pub paired-room : j < length xs → (l₁ : List ℕ) → l₀ ≡ set l₁ at (length xs) → at + (1 + 2 * length xs) ≤ length l₁
+        → here + 2 ≤ length l
     paired-room h l₁ e room = let p = s .stands in omega (arith, s .long, ap length e, length-set l₁ at (length xs))
 
-    pub paired-on : j < length xs → (l′ : List ℕ) → l′ ≡ sets l here (F (getD xs j 0) ∷ G (getD xs j 0) ∷ []) → Paired F G xs l₀ l′ at (here + 2) (j + 1)
+    pub paired-on : j < length xs → (l′ : List ℕ) → l′ ≡ sets l here (F (getD xs j 0) ∷ G (getD xs j 0) ∷ [])
+        → Paired F G xs l₀ l′ at (here + 2) (j + 1)
     paired-on h l′ e =
         let x = getD xs j 0 in
         let p = s .stands in
@@ -76,13 +78,16 @@ module _ {F G : ℕ → ℕ} {xs l₀ : List ℕ} {at : ℕ} where
     paired-end h l₁ e =
         let p = s .stands in
         let b = s .below in
-        let q = pairs-length F G xs in
-        (omega arith, sym (ap₂ (λ m k. sets m k (pairs F G xs)) (sym e) (sym (add-one at)) ∙ s .is ∙ ap (λ ys. sets l here (pairs F G ys)) (from-end xs j h)))
+        let q = pairs-length F G xs in (
+          omega arith,
+          sym (ap₂ (λ m k. sets m k (pairs F G xs)) (sym e) (sym (add-one at)) ∙ s .is ∙ ap (λ ys. sets l here (pairs F G ys)) (from-end xs j h)),
+        )
 
 -- ---- two runs that lie apart
 pub sets-swap : (xs l : List ℕ) (i j : ℕ) (ys : List ℕ) → i + length xs ≤ j → sets (sets l i xs) j ys ≡ sets (sets l j ys) i xs
 sets-swap [] l i j ys h = refl
-sets-swap (x ∷ xs) l i j ys h = sets-swap xs (set l i x) (suc i) j ys (omega arith) ∙ ap (λ m. sets m (suc i) xs) (sym (set-before l i j x ys (omega arith)))
+sets-swap (x ∷ xs) l i j ys h =
+    sets-swap xs (set l i x) (suc i) j ys (omega arith) ∙ ap (λ m. sets m (suc i) xs) (sym (set-before l i j x ys (omega arith)))
 
 -- ---- numbers of states
 pub place-le : (ss : List (List GoalWords)) (k : List GoalWords) → placeOf ss k ≤ length ss
@@ -97,8 +102,10 @@ pub place-small : {sc : List ℕ} {m : ℕ} → Kept sc m → (k : List GoalWord
 place-small {sc} {m} kept k x e = let a = place-le (statesIn sc m) k in let b = states-length sc m in omega (arith, kept .few)
 
 -- the class of a row, put in an array and lifted, is found among the states
-pub successor-is : {goals : List ℕ} {n : ℕ} {dep : Square} → Squared goals n dep → (r : ℕ) (z class y lifted : List ℕ) (pk top : ℕ) → PutsFirst (flat (classAt dep goals n r)) pk z class → length z ≡ derivedWords
-    → length (classAt dep goals n r) ≤ 32 → Lifts (goalsFrom class 0 (pk / 3)) top y lifted → length y ≡ 96 → (sc : List ℕ) (m x : ℕ) → x ≡ placeOf (statesIn sc m) (goalsFrom lifted 0 (pk / 3))
+pub successor-is : {goals : List ℕ} {n : ℕ} {dep : Square} → Squared goals n dep → (r : ℕ) (z class y lifted : List ℕ) (pk top : ℕ)
+    → PutsFirst (flat (classAt dep goals n r)) pk z class → length z ≡ derivedWords
+    → length (classAt dep goals n r) ≤ 32 → Lifts (goalsFrom class 0 (pk / 3)) top y lifted → length y ≡ 96 → (sc : List ℕ) (m x : ℕ)
+    → x ≡ placeOf (statesIn sc m) (goalsFrom lifted 0 (pk / 3))
     → (x ≡ placeOf (statesIn sc m) (liftedW (classAt dep goals n r))) × (top ≡ displacementW (classAt dep goals n r))
 successor-is s r z class y lifted pk top puts long small lifts wide sc m x e =
     let count = class-count s r z class pk puts in
@@ -106,7 +113,8 @@ successor-is s r z class y lifted pk top puts long small lifts wide sc m x e =
     (e ∙ ap (placeOf (statesIn sc m)) (l .up), l .top-is)
 
 -- ---- a block
-module _ {ar tab : List ℕ} {n : ℕ} {sc : List ℕ} {i c f : ℕ} (o : OnSymbol ar tab n sc i c f) (m : ℕ) {r : Parts} {out goals order : List ℕ} {dep : Square}
+module _ {ar tab : List ℕ} {n : ℕ} {sc : List ℕ} {i c f : ℕ} (o : OnSymbol ar tab n sc i c f) (m : ℕ) {r : Parts} {out goals order : List ℕ}
+    {dep : Square}
     (p : Parted tab n sc i f (getD ar f 0) r out goals dep order) where
   abbrev items : List ℕ
   items = firsts (r .announced) out
@@ -127,7 +135,8 @@ module _ {ar tab : List ℕ} {n : ℕ} {sc : List ℕ} {i c f : ℕ} (o : OnSymb
   out-words = ap₂ (λ x l. x ∷ l)
       (length-map outs announcementW ∙ ap length (sym (p .announced)) ∙ length-map items (λ x. goalOn sc (placeIn i) (x % 128)))
       (gather-map (λ x. x .shape ∷ code (x .at) ∷ []) announcementW outs
-      ∙ gather-same (λ g. g .sh ∷ code (decode (g .an)) ∷ []) (λ g. g .sh ∷ g .an ∷ []) outs (λ g q. ap (λ x. g .sh ∷ x ∷ []) (output-back (o .good) f g q))
+      ∙ gather-same (λ g. g .sh ∷ code (decode (g .an)) ∷ []) (λ g. g .sh ∷ g .an ∷ []) outs
+      (λ g q. ap (λ x. g .sh ∷ x ∷ []) (output-back (o .good) f g q))
       ∙ ap (gather (λ g. g .sh ∷ g .an ∷ [])) (sym (p .announced))
       ∙ gather-map (λ g. g .sh ∷ g .an ∷ []) (λ x. goalOn sc (placeIn i) (x % 128)) items)
 
@@ -141,7 +150,8 @@ module _ {ar tab : List ℕ} {n : ℕ} {sc : List ℕ} {i c f : ℕ} (o : OnSymb
   succ-words = ap₂ (λ x l. x ∷ l)
       (length-map ks (succOf (words tab n) ss) ∙ ap length (sym (p .classes)) ∙ length-map rows rowClass)
       (gather-map (λ x. x .to ∷ code (x .by) ∷ []) (succOf (words tab n) ss) ks
-      ∙ gather-same (λ K. succOf (words tab n) ss K .to ∷ code (decode (displacementW K)) ∷ []) (λ K. placeOf ss (liftedW K) ∷ displacementW K ∷ []) ks
+      ∙ gather-same (λ K. succOf (words tab n) ss K .to ∷ code (decode (displacementW K)) ∷ [])
+      (λ K. placeOf ss (liftedW K) ∷ displacementW K ∷ []) ks
       (λ K q. ap₂ (λ x y. x ∷ y ∷ []) (sym (place-in tab n ss K)) (least-back (o .good) f (getD ar f 0) (getElem-some ar f (o .symbol)) K q))
       ∙ ap (gather (λ K. placeOf ss (liftedW K) ∷ displacementW K ∷ [])) (sym (p .classes))
       ∙ gather-map (λ K. placeOf ss (liftedW K) ∷ displacementW K ∷ []) rowClass rows)
@@ -173,7 +183,8 @@ module _ {ar tab : List ℕ} {n : ℕ} {sc : List ℕ} {i c f : ℕ} (o : OnSymb
           let y = pairs-length (λ x. goalOn sc (placeIn i) (x % 128) .sh) (λ x. goalOn sc (placeIn i) (x % 128) .an) items in
           omega (arith, w .0, ap length (w .1), length-sets plan at (outWords sc (placeIn i) items))
 
-      pub block-put : (plan₂ : List ℕ) (last : ℕ) → Puts (succWords dep goals (r .goals) ss rows) next last plan₁ plan₂ → Puts (blockIn ar tab n sc m i f) at last plan plan₂
+      pub block-put : (plan₂ : List ℕ) (last : ℕ) → Puts (succWords dep goals (r .goals) ss rows) next last plan₁ plan₂
+          → Puts (blockIn ar tab n sc m i f) at last plan plan₂
       block-put plan₂ last v =
           let A = outWords sc (placeIn i) items in
           let B = succWords dep goals (r .goals) ss rows in (
@@ -189,15 +200,20 @@ starts-length at (b ∷ bs) = ap suc (starts-length (at + length b) bs)
 starts-append : (at : ℕ) (bs cs : List (List ℕ)) → startsFrom at (bs ++ cs) ≡ startsFrom at bs ++ startsFrom (at + length (concat bs)) cs
 starts-append at [] cs = ap (λ k. startsFrom k cs) (sym (add-zero at))
 starts-append at (b ∷ bs) cs =
-    ap (λ l. at ∷ l) (starts-append (at + length b) bs cs ∙ ap (λ k. startsFrom (at + length b) bs ++ startsFrom k cs) (let z = length-append b (concat bs) in omega arith))
+    ap (λ l. at ∷ l)
+    (starts-append (at + length b) bs cs ∙ ap (λ k. startsFrom (at + length b) bs ++ startsFrom k cs) (let z = length-append b (concat bs) in omega arith))
 
 module _ (tab : List ℕ) (n : ℕ) (sc : List ℕ) (m i : ℕ) (ar : List ℕ) where
   abbrev blockWordsOn : ℕ → List ℕ
   blockWordsOn f = blockIn ar tab n sc m i f
 
-  rest-next : (f : ℕ) → f < length ar → rowWords tab n sc m i f (drop f ar) ≡ blockWordsOn f ∷ rowWords tab n sc m i (f + 1) (drop (f + 1) ar)
+  rest-next : (f : ℕ) → f < length ar
+      → rowWords tab n sc m i f (drop f ar) ≡ blockWordsOn f ∷ rowWords tab n sc m i (f + 1) (drop (f + 1) ar)
   unfolding rowWords
-  rest-next f h = ap (λ ns. map blockWords (blocksOf (words tab n) (statesIn sc m) (stateIn sc i) f ns)) (from ar f h) ∙ ap (λ g. blockWordsOn f ∷ map blockWords (blocksOf (words tab n) (statesIn sc m) (stateIn sc i) g (drop (f + 1) ar))) (sym (add-one f))
+  rest-next f h =
+      ap (λ ns. map blockWords (blocksOf (words tab n) (statesIn sc m) (stateIn sc i) f ns)) (from ar f h)
+      ∙ ap (λ g. blockWordsOn f ∷ map blockWords (blocksOf (words tab n) (statesIn sc m) (stateIn sc i) g (drop (f + 1) ar)))
+      (sym (add-one f))
 
   rest-end : (f : ℕ) → length ar ≤ f → rowWords tab n sc m i f (drop f ar) ≡ []
   unfolding rowWords
@@ -220,7 +236,8 @@ module _ (tab : List ℕ) (n : ℕ) (sc : List ℕ) (m i : ℕ) (ar : List ℕ) 
 
 module _ {tab : List ℕ} {n : ℕ} {sc : List ℕ} {m i : ℕ} {ar : List ℕ} {S at : ℕ} {l₀ : List ℕ} where
   pub rowed-begin : Rowed tab n sc m i ar S at l₀ l₀ at 0
-  rowed-begin = record { below = omega arith; long = refl; past = omega arith; stands = refl; is = ap (λ k. sets (sets l₀ k (startsFrom at (rowWords tab n sc m i 0 ar))) at (rowAll ar tab n sc m i)) (sym (add-zero S)) }
+  rowed-begin =
+      record { below = omega arith; long = refl; past = omega arith; stands = refl; is = ap (λ k. sets (sets l₀ k (startsFrom at (rowWords tab n sc m i 0 ar))) at (rowAll ar tab n sc m i)) (sym (add-zero S)) }
 
   module _ {l : List ℕ} {here f : ℕ} (s : Rowed tab n sc m i ar S at l₀ l here f) where
     pub rowed-room : f < length ar → here + length (blockIn ar tab n sc m i f) ≤ at + length (rowAll ar tab n sc m i)
@@ -230,10 +247,12 @@ module _ {tab : List ℕ} {n : ℕ} {sc : List ℕ} {m i : ℕ} {ar : List ℕ} 
         let z = s .stands in
         omega arith
 
-    pub rowed-fits : f < length ar → at + length (rowAll ar tab n sc m i) ≤ length l₀ → here + length (blockIn ar tab n sc m i f) ≤ length (set l (S + f) here)
+    pub rowed-fits : f < length ar → at + length (rowAll ar tab n sc m i) ≤ length l₀
+        → here + length (blockIn ar tab n sc m i f) ≤ length (set l (S + f) here)
     rowed-fits h room = let r = rowed-room h in omega (arith, s .long, length-set l (S + f) here)
 
-    pub rowed-on : f < length ar → S + length ar ≤ at → (l₂ : List ℕ) (next : ℕ) → Puts (blockIn ar tab n sc m i f) here next (set l (S + f) here) l₂ → Rowed tab n sc m i ar S at l₀ l₂ next (f + 1)
+    pub rowed-on : f < length ar → S + length ar ≤ at → (l₂ : List ℕ) (next : ℕ)
+        → Puts (blockIn ar tab n sc m i f) here next (set l (S + f) here) l₂ → Rowed tab n sc m i ar S at l₀ l₂ next (f + 1)
     rowed-on h room l₂ next w =
         let e = w .1 in
         let d = w .0 in
@@ -244,7 +263,8 @@ module _ {tab : List ℕ} {n : ℕ} {sc : List ℕ} {m i : ℕ} {ar : List ℕ} 
         let l₁ = set l (S + f) here in
         let p = s .past in
         let c = length-append W more in
-        let count : length starts ≡ length ar - (f + 1) = starts-length (here + length W) R ∙ row-length tab n sc m i ar (f + 1) (drop (f + 1) ar) ∙ length-drop (f + 1) ar in
+        let count : length starts ≡ length ar - (f + 1) =
+        starts-length (here + length W) R ∙ row-length tab n sc m i ar (f + 1) (drop (f + 1) ar) ∙ length-drop (f + 1) ar in
         let apart : suc (S + f) + length starts ≤ here = omega arith in
         let z = s .stands in
         let q = ap (λ r. length (concat r)) (rest-next tab n sc m i ar f h) in
@@ -261,7 +281,8 @@ module _ {tab : List ℕ} {n : ℕ} {sc : List ℕ} {m i : ℕ} {ar : List ℕ} 
               ∙ ap (λ k. sets (sets l₂ (S + (f + 1)) (startsFrom k R)) k more) (sym d);
         }
 
-    pub rowed-end : length ar ≤ f → (here ≡ at + length (rowAll ar tab n sc m i)) × (l ≡ sets (sets l₀ S (startsFrom at (rowWords tab n sc m i 0 ar))) at (rowAll ar tab n sc m i))
+    pub rowed-end : length ar ≤ f
+        → (here ≡ at + length (rowAll ar tab n sc m i)) × (l ≡ sets (sets l₀ S (startsFrom at (rowWords tab n sc m i 0 ar))) at (rowAll ar tab n sc m i))
     rowed-end h =
         let e = rest-end tab n sc m i ar f h in
         let z = s .stands in
@@ -269,7 +290,8 @@ module _ {tab : List ℕ} {n : ℕ} {sc : List ℕ} {m i : ℕ} {ar : List ℕ} 
         (omega arith, sym (s .is ∙ ap (λ r. sets (sets l (S + f) (startsFrom here r)) here (concat r)) e))
 
 pub head-length : (l : List ℕ) (a b c d : ℕ) → length (set (set (set (set l 0 a) 1 b) 2 c) 3 d) ≡ length l
-head-length l a b c d = length-set (set (set (set l 0 a) 1 b) 2 c) 3 d ∙ length-set (set (set l 0 a) 1 b) 2 c ∙ length-set (set l 0 a) 1 b ∙ length-set l 0 a
+head-length l a b c d =
+    length-set (set (set (set l 0 a) 1 b) 2 c) 3 d ∙ length-set (set (set l 0 a) 1 b) 2 c ∙ length-set (set l 0 a) 1 b ∙ length-set l 0 a
 
 -- ---- labels, starts and blocks
 module _ (ar tab : List ℕ) (n : ℕ) (sc : List ℕ) (m : ℕ) where
@@ -283,7 +305,9 @@ module _ (ar tab : List ℕ) (n : ℕ) (sc : List ℕ) (m : ℕ) where
   base = 4 + m + m * length ar
 
   states-from : (i : ℕ) → i < m → drop i (statesIn sc m) ≡ stateIn sc i ∷ drop (i + 1) (statesIn sc m)
-  states-from i h = rw (add-one i) (drop-cons (statesIn sc m) i [] (rw (states-length sc m) h)) ∙ ap (λ s. s ∷ drop (i + 1) (statesIn sc m)) (states-at sc m i [] h)
+  states-from i h =
+      rw (add-one i) (drop-cons (statesIn sc m) i [] (rw (states-length sc m) h))
+      ∙ ap (λ s. s ∷ drop (i + 1) (statesIn sc m)) (states-at sc m i [] h)
 
   labels-next : (i : ℕ) → i < m → GoodState ar tab n (stateIn sc i) → labelsFrom i ≡ labelCode tab (stateIn sc i) ∷ labelsFrom (i + 1)
   labels-next i h good = ap (map (λ s. code (words tab n .label s))) (states-from i h) ∙ ap (λ x. x ∷ labelsFrom (i + 1)) (label-back good)
@@ -291,7 +315,8 @@ module _ (ar tab : List ℕ) (n : ℕ) (sc : List ℕ) (m : ℕ) where
   words-next : (i : ℕ) → i < m → wordsFrom i ≡ rowWords tab n sc m i 0 ar ++ wordsFrom (i + 1)
   unfolding rowWords
   words-next i h = ap (λ ss. map blockWords (gather (λ s. blocksOf (words tab n) (statesIn sc m) s 0 ar) ss)) (states-from i h)
-      ∙ map-append blockWords (blocksOf (words tab n) (statesIn sc m) (stateIn sc i) 0 ar) (gather (λ s. blocksOf (words tab n) (statesIn sc m) s 0 ar) (drop (i + 1) (statesIn sc m)))
+      ∙ map-append blockWords (blocksOf (words tab n) (statesIn sc m) (stateIn sc i) 0 ar)
+      (gather (λ s. blocksOf (words tab n) (statesIn sc m) s 0 ar) (drop (i + 1) (statesIn sc m)))
 
   none-left : (i : ℕ) → m ≤ i → drop i (statesIn sc m) ≡ []
   none-left i h = drop-of-length-le (statesIn sc m) {i = i} (rw (states-length sc m) h)
@@ -299,21 +324,28 @@ module _ (ar tab : List ℕ) (n : ℕ) (sc : List ℕ) (m : ℕ) where
   labels-length : (i : ℕ) → length (labelsFrom i) ≡ m - i
   labels-length i = length-map (drop i (statesIn sc m)) _ ∙ length-drop i (statesIn sc m) ∙ ap (λ x. x - i) (states-length sc m)
 
-  rows-count : (ss : List (List GoalWords)) → length (map blockWords (gather (λ s. blocksOf (words tab n) (statesIn sc m) s 0 ar) ss)) ≡ length ss * length ar
-  rows-count ss = length-map (gather (λ s. blocksOf (words tab n) (statesIn sc m) s 0 ar) ss) blockWords ∙ gather-length (λ s. blocksOf (words tab n) (statesIn sc m) s 0 ar) (length ar) ss (λ s. blocks-count s 0 ar)
+  rows-count : (ss : List (List GoalWords))
+      → length (map blockWords (gather (λ s. blocksOf (words tab n) (statesIn sc m) s 0 ar) ss)) ≡ length ss * length ar
+  rows-count ss =
+      length-map (gather (λ s. blocksOf (words tab n) (statesIn sc m) s 0 ar) ss) blockWords
+      ∙ gather-length (λ s. blocksOf (words tab n) (statesIn sc m) s 0 ar) (length ar) ss (λ s. blocks-count s 0 ar)
     where
       blocks-count : (s : List GoalWords) (f : ℕ) (ns : List ℕ) → length (blocksOf (words tab n) (statesIn sc m) s f ns) ≡ length ns
       blocks-count s f [] = refl
       blocks-count s f (k ∷ ns) = ap suc (blocks-count s (suc f) ns)
 
   words-count : (i : ℕ) → length (wordsFrom i) ≡ (m - i) * length ar
-  words-count i = rows-count (drop i (statesIn sc m)) ∙ ap (λ x. x * length ar) (length-drop i (statesIn sc m) ∙ ap (λ x. x - i) (states-length sc m))
+  words-count i =
+      rows-count (drop i (statesIn sc m)) ∙ ap (λ x. x * length ar) (length-drop i (statesIn sc m) ∙ ap (λ x. x - i) (states-length sc m))
 
   -- how long a plan is
   pub plan-length : length (planIn ar tab n sc m) ≡ 4 + length (statesIn sc m) + length (statesIn sc m) * length ar + length (concat (wordsFrom 0))
   plan-length =
-      let x = length-append (labelsFrom 0) (startsFrom (4 + length (statesIn sc m) + length (statesIn sc m) * length ar) (wordsFrom 0) ++ concat (wordsFrom 0)) in
-      let y = length-append (startsFrom (4 + length (statesIn sc m) + length (statesIn sc m) * length ar) (wordsFrom 0)) (concat (wordsFrom 0)) in
+      let x =
+      length-append (labelsFrom 0)
+      (startsFrom (4 + length (statesIn sc m) + length (statesIn sc m) * length ar) (wordsFrom 0) ++ concat (wordsFrom 0)) in
+      let y =
+      length-append (startsFrom (4 + length (statesIn sc m) + length (statesIn sc m) * length ar) (wordsFrom 0)) (concat (wordsFrom 0)) in
       let a = length-map (statesIn sc m) (λ s. code (words tab n .label s)) in
       let b = starts-length (4 + length (statesIn sc m) + length (statesIn sc m) * length ar) (wordsFrom 0) in
       let c = rows-count (statesIn sc m) in
@@ -345,7 +377,8 @@ module _ {ar tab : List ℕ} {n : ℕ} {sc : List ℕ} {m : ℕ} where
     within : i < m → 4 + m + i * length ar + length ar ≤ (base ar tab n sc m)
     within h =
         let a = suc-mul i (length ar) in
-        let b : suc i * length ar ≤ m * length ar = mul-le-mul {n₁ = suc i} {m₁ = length ar} {n₂ = m} {m₂ = length ar} (omega arith) (omega arith) in
+        let b : suc i * length ar ≤ m * length ar =
+        mul-le-mul {n₁ = suc i} {m₁ = length ar} {n₂ = m} {m₂ = length ar} (omega arith) (omega arith) in
         omega arith
 
     rest-within : i < m → 4 + m + i * length ar + length ar + (m - (i + 1)) * length ar ≡ (base ar tab n sc m)
@@ -392,20 +425,24 @@ module _ {ar tab : List ℕ} {n : ℕ} {sc : List ℕ} {m : ℕ} where
         let total = rest-within h in
         let front : suc (4 + i) + length labels ≤ S = omega arith in
         let one : 4 + (i + 1) ≡ suc (4 + i) = omega arith in
-        let two : 4 + m + (i + 1) * length ar ≡ S + length SR = let k = suc-mul i (length ar) in let t : (i + 1) * length ar ≡ suc i * length ar = ap (λ x. x * length ar) (add-one i) in omega arith in
+        let two : 4 + m + (i + 1) * length ar ≡ S + length SR = let k = suc-mul i (length ar) in
+        let t : (i + 1) * length ar ≡ suc i * length ar = ap (λ x. x * length ar) (add-one i) in omega arith in
         record {
           below = omega arith;
           long = ap length d ∙ length-sets (sets l₁ S SR) at CR ∙ length-sets l₁ S SR ∙ length-set l (4 + i) c ∙ s .long;
           past = omega arith;
           stands = omega arith;
           is = s .is
-              ∙ ap₂ (λ a r. sets (sets (sets l (4 + i) a) S (startsFrom at r)) at (concat r)) (labels-next ar tab n sc m i h good ∙ ap (λ x. x ∷ labels) (sym e)) (words-next ar tab n sc m i h)
+              ∙ ap₂ (λ a r. sets (sets (sets l (4 + i) a) S (startsFrom at r)) at (concat r))
+              (labels-next ar tab n sc m i h good ∙ ap (λ x. x ∷ labels) (sym e)) (words-next ar tab n sc m i h)
               ∙ ap₂ (λ a b. sets (sets (sets l₁ (suc (4 + i)) labels) S a) at b) (starts-append at R rest) (concat-append R rest)
               ∙ sets-append (sets (sets l₁ (suc (4 + i)) labels) S (SR ++ SB)) at CR CB
               ∙ ap (λ x. sets (sets x at CR) (at + length CR) CB) (sets-append (sets l₁ (suc (4 + i)) labels) S SR SB)
               ∙ ap (λ x. sets (sets (sets x (S + length SR) SB) at CR) (at + length CR) CB) (sets-swap labels l₁ (suc (4 + i)) S SR front)
-              ∙ ap (λ x. sets x (at + length CR) CB) (sets-swap SB (sets (sets l₁ S SR) (suc (4 + i)) labels) (S + length SR) at CR (omega arith))
-              ∙ ap (λ x. sets (sets x (S + length SR) SB) (at + length CR) CB) (sets-swap labels (sets l₁ S SR) (suc (4 + i)) at CR (omega arith))
+              ∙ ap (λ x. sets x (at + length CR) CB)
+              (sets-swap SB (sets (sets l₁ S SR) (suc (4 + i)) labels) (S + length SR) at CR (omega arith))
+              ∙ ap (λ x. sets (sets x (S + length SR) SB) (at + length CR) CB)
+              (sets-swap labels (sets l₁ S SR) (suc (4 + i)) at CR (omega arith))
               ∙ ap (λ x. sets (sets (sets x (suc (4 + i)) labels) (S + length SR) SB) (at + length CR) CB) (sym d)
               ∙ ap₂ (λ x y. sets (sets (sets l₂ x labels) y SB) (at + length CR) CB) (sym one) (sym two)
               ∙ ap (λ x. sets (sets (sets l₂ (4 + (i + 1)) labels) (4 + m + (i + 1) * length ar) (startsFrom x rest)) x CB) (sym q);
@@ -414,18 +451,31 @@ module _ {ar tab : List ℕ} {n : ℕ} {sc : List ℕ} {m : ℕ} where
     pub planned-end : m ≤ i → (plan : List ℕ) (total : ℕ) → total ≡ length (planIn ar tab n sc m)
         → l₀ ≡ set (set (set (set plan 0 m) 1 (length ar)) 2 n) 3 total → l ≡ sets plan 0 (planIn ar tab n sc m)
     planned-end h plan total e d =
-        let head : 4 + length (statesIn sc m) + length (statesIn sc m) * length ar + length (concat (wordsFrom ar tab n sc m 0)) ≡ total = sym (e ∙ plan-length ar tab n sc m) in
+        let head : 4 + length (statesIn sc m) + length (statesIn sc m) * length ar + length (concat (wordsFrom ar tab n sc m 0)) ≡ total =
+        sym (e ∙ plan-length ar tab n sc m) in
         let gone = none-left ar tab n sc m i h in
         let mm = states-length sc m in
         sym (
-        ap₂ (λ x y. sets plan 0 (x ∷ length ar ∷ n ∷ y ∷ labelsFrom ar tab n sc m 0 ++ (startsFrom (4 + x + x * length ar) (wordsFrom ar tab n sc m 0) ++ concat (wordsFrom ar tab n sc m 0)))) mm head
-        ∙ ap (λ x. sets x 4 (labelsFrom ar tab n sc m 0 ++ (startsFrom (base ar tab n sc m) (wordsFrom ar tab n sc m 0) ++ concat (wordsFrom ar tab n sc m 0)))) (sym d)
-        ∙ sets-append l₀ 4 (labelsFrom ar tab n sc m 0) (startsFrom (base ar tab n sc m) (wordsFrom ar tab n sc m 0) ++ concat (wordsFrom ar tab n sc m 0))
-        ∙ ap (λ x. sets (sets l₀ 4 (labelsFrom ar tab n sc m 0)) x (startsFrom (base ar tab n sc m) (wordsFrom ar tab n sc m 0) ++ concat (wordsFrom ar tab n sc m 0))) (ap (λ x. 4 + x) (labels-length ar tab n sc m 0 ∙ sub-zero m))
-        ∙ sets-append (sets l₀ 4 (labelsFrom ar tab n sc m 0)) (4 + m) (startsFrom (base ar tab n sc m) (wordsFrom ar tab n sc m 0)) (concat (wordsFrom ar tab n sc m 0))
-        ∙ ap (λ x. sets (sets (sets l₀ 4 (labelsFrom ar tab n sc m 0)) (4 + m) (startsFrom (base ar tab n sc m) (wordsFrom ar tab n sc m 0))) x (concat (wordsFrom ar tab n sc m 0))) (ap (λ x. 4 + m + x) (starts-length (base ar tab n sc m) (wordsFrom ar tab n sc m 0) ∙ words-count ar tab n sc m 0 ∙ ap (λ x. x * length ar) (sub-zero m)))
+        ap₂
+        (λ x y. sets plan 0 (x ∷ length ar ∷ n ∷ y ∷ labelsFrom ar tab n sc m 0 ++ (startsFrom (4 + x + x * length ar) (wordsFrom ar tab n sc m 0) ++ concat (wordsFrom ar tab n sc m 0))))
+        mm head
+        ∙ ap
+        (λ x. sets x 4 (labelsFrom ar tab n sc m 0 ++ (startsFrom (base ar tab n sc m) (wordsFrom ar tab n sc m 0) ++ concat (wordsFrom ar tab n sc m 0))))
+        (sym d)
+        ∙ sets-append l₀ 4 (labelsFrom ar tab n sc m 0)
+        (startsFrom (base ar tab n sc m) (wordsFrom ar tab n sc m 0) ++ concat (wordsFrom ar tab n sc m 0))
+        ∙ ap
+        (λ x. sets (sets l₀ 4 (labelsFrom ar tab n sc m 0)) x (startsFrom (base ar tab n sc m) (wordsFrom ar tab n sc m 0) ++ concat (wordsFrom ar tab n sc m 0)))
+        (ap (λ x. 4 + x) (labels-length ar tab n sc m 0 ∙ sub-zero m))
+        ∙ sets-append (sets l₀ 4 (labelsFrom ar tab n sc m 0)) (4 + m) (startsFrom (base ar tab n sc m) (wordsFrom ar tab n sc m 0))
+        (concat (wordsFrom ar tab n sc m 0))
+        ∙ ap
+        (λ x. sets (sets (sets l₀ 4 (labelsFrom ar tab n sc m 0)) (4 + m) (startsFrom (base ar tab n sc m) (wordsFrom ar tab n sc m 0))) x (concat (wordsFrom ar tab n sc m 0)))
+        (ap (λ x. 4 + m + x) (starts-length (base ar tab n sc m) (wordsFrom ar tab n sc m 0) ∙ words-count ar tab n sc m 0 ∙ ap (λ x. x * length ar) (sub-zero m)))
         ∙ s .is
-        ∙ ap (λ ss. sets (sets (sets l (4 + i) (map (λ t. code (words tab n .label t)) ss)) (4 + m + i * length ar) (startsFrom at (map blockWords (gather (λ t. blocksOf (words tab n) (statesIn sc m) t 0 ar) ss)))) at (concat (map blockWords (gather (λ t. blocksOf (words tab n) (statesIn sc m) t 0 ar) ss)))) gone)
+        ∙ ap
+        (λ ss. sets (sets (sets l (4 + i) (map (λ t. code (words tab n .label t)) ss)) (4 + m + i * length ar) (startsFrom at (map blockWords (gather (λ t. blocksOf (words tab n) (statesIn sc m) t 0 ar) ss)))) at (concat (map blockWords (gather (λ t. blocksOf (words tab n) (statesIn sc m) t 0 ar) ss))))
+        gone)
 
   module _ {total : ℕ} {plan : List ℕ} (w : Writable ar tab n sc m total plan) where
     plan-sum : base ar tab n sc m + length (concat (wordsFrom ar tab n sc m 0)) ≡ total
@@ -438,7 +488,8 @@ module _ {ar tab : List ℕ} {n : ℕ} {sc : List ℕ} {m : ℕ} where
     pub plan-word : 4 + m + m * length ar + length (concat (wordsFrom ar tab n sc m 0)) ≤ 65535
     plan-word = let e = plan-sum in omega (arith, w .word)
 
-    pub row-writable : {l₀ l : List ℕ} {at i : ℕ} → Planned ar tab n sc m l₀ l at i → i < m → length l₀ ≡ length plan → (c : ℕ) → c ≡ labelCode tab (stateIn sc i)
+    pub row-writable : {l₀ l : List ℕ} {at i : ℕ} → Planned ar tab n sc m l₀ l at i → i < m → length l₀ ≡ length plan → (c : ℕ)
+        → c ≡ labelCode tab (stateIn sc i)
         → RowWritable ar tab n sc m i c at (set l (4 + i) c)
     row-writable {l₀} {l} {at} {i} s h long c e =
         let room = planned-room s h in

@@ -48,7 +48,8 @@ abbrev pub outWords : List ℕ → ℕ → List ℕ → List ℕ
 outWords sc at xs = length xs ∷ pairs (λ x. goalOn sc at (x % 128) .sh) (λ x. goalOn sc at (x % 128) .an) xs
 
 abbrev pub succWords : Square → List ℕ → ℕ → List (List GoalWords) → List ℕ → List ℕ
-succWords d ws n ss xs = length xs ∷ pairs (λ x. placeOf ss (liftedW (classAt d ws n (x % 128)))) (λ x. displacementW (classAt d ws n (x % 128))) xs
+succWords d ws n ss xs =
+    length xs ∷ pairs (λ x. placeOf ss (liftedW (classAt d ws n (x % 128)))) (λ x. displacementW (classAt d ws n (x % 128))) xs
 
 abbrev pub SmallBy : Square → List ℕ → ℕ → List ℕ → Type 0
 SmallBy d ws n xs = (j : ℕ) → j < length xs → length (classAt d ws n (getD xs j 0 % 128)) ≤ 32

@@ -66,10 +66,12 @@ loop-again c =
     (c .if2 .came)
 
 returns : tie.Need-returns Inv-loop μ-loop
-returns c = let r = c .before .loop .inv in record { square = r .square; grown = r .grown; joined = λ b h ik kb. r .joined b (omega arith) kb }
+returns c =
+    let r = c .before .loop .inv in record { square = r .square; grown = r .grown; joined = λ b h ik kb. r .joined b (omega arith) kb }
 
 returns-2 : tie.Need-returns-2 Inv-loop μ-loop
-returns-2 c = record { square = c .before .before .pre .3; grown = grown-refl _ _; joined = λ b h ik kb. absurd (no-both _ (c .if1 .left) ik) }
+returns-2 c =
+    record { square = c .before .before .pre .3; grown = grown-refl _ _; joined = λ b h ik kb. absurd (no-both _ (c .if1 .left) ik) }
 
 pub join-row-spec : {M : Type 1} → statement M
 join-row-spec =

@@ -32,7 +32,9 @@ loop-again : tie.Need-loop-again Inv-loop μ-loop
 loop-again c = rows-more (c .before .before .loop-test .taken) (c .before .before .before .loop .inv) (c .join-row .ensures)
 
 returns : tie.Need-returns Inv-loop μ-loop
-returns c = let r = c .before .loop .inv in record { within = omega arith; square = r .square; grown = r .grown; joined = λ a ha b hb ak kb. r .joined a (omega arith) b hb ak kb }
+returns c =
+    let r = c .before .loop .inv in
+    record { within = omega arith; square = r .square; grown = r .grown; joined = λ a ha b hb ak kb. r .joined a (omega arith) b hb ak kb }
 
 pub round-spec : {M : Type 1} → statement M
 round-spec =

@@ -17,7 +17,8 @@ use Rattle.goals.proofs.obligations.first_owed.Reads as first-owed-reads
 use Rattle.goals.proofs.words.goal_at.Reads as goal-at-reads
 
 abbrev Inv-loop : tie.InvT-loop
-Inv-loop tab ws n dep i best₀ j₀ best j = (j ≤ n) × (firstFrom tab (getD dep i []) ws n noCode 0 ≡ firstFrom tab (getD dep i []) ws n best j)
+Inv-loop tab ws n dep i best₀ j₀ best j =
+    (j ≤ n) × (firstFrom tab (getD dep i []) ws n noCode 0 ≡ firstFrom tab (getD dep i []) ws n best j)
 
 abbrev μ-loop : tie.MeasureT-loop
 μ-loop tab ws n dep i best₀ j₀ best j = n - j
@@ -43,7 +44,8 @@ goal-at-requires c κs = search needs
 first-owed-requires : tie.Need-first-owed-requires Inv-loop μ-loop
 first-owed-requires c κs =
     let entry = c .before .before .before .before .before .before .before in
-    rw (c .goal-at .ensures) (entry .pre .0 .tabled, stored-first (entry .pre .0) (c .before .before .before .before .loop .j) (c .before .before .before .loop-test .taken))
+    rw (c .goal-at .ensures)
+    (entry .pre .0 .tabled, stored-first (entry .pre .0) (c .before .before .before .before .loop .j) (c .before .before .before .loop-test .taken))
 
 add-j : tie.Need-add-j Inv-loop μ-loop
 add-j c = search needs
@@ -64,7 +66,10 @@ loop-again c =
     (c .if1 .came)
 
 returns : tie.Need-returns Inv-loop μ-loop
-returns c = let a = c .before .before .before .before .args in let l = c .before .loop in sym (first-all (a .tab .now) (getD (a .dep .now) (a .i) []) (a .ws .now) (a .n) noCode ∙ l .inv .1 ∙ first-end (a .tab .now) (getD (a .dep .now) (a .i) []) (a .ws .now) (a .n) (l .best) (l .j) (c .loop-test .left))
+returns c =
+    let a = c .before .before .before .before .args in
+    let l = c .before .loop in
+    sym (first-all (a .tab .now) (getD (a .dep .now) (a .i) []) (a .ws .now) (a .n) noCode ∙ l .inv .1 ∙ first-end (a .tab .now) (getD (a .dep .now) (a .i) []) (a .ws .now) (a .n) (l .best) (l .j) (c .loop-test .left))
 
 pub first-in-row-spec : {M : Type 1} → statement M
 first-in-row-spec =

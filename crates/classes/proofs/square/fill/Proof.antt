@@ -19,7 +19,8 @@ loop-holds : tie.Need-loop-holds Inv-loop μ-loop
 loop-holds c = (omega arith, rows-none _ _ _ (c .before .before .pre .1))
 
 fill-row-requires : tie.Need-fill-row-requires Inv-loop μ-loop
-fill-row-requires c κs = (c .before .before .before .before .before .pre .0, c .before .loop-test .taken, c .before .before .loop .inv .1 .square)
+fill-row-requires c κs =
+    (c .before .before .before .before .before .pre .0, c .before .loop-test .taken, c .before .before .loop .inv .1 .square)
 
 add-i : tie.Need-add-i Inv-loop μ-loop
 add-i c = search needs
@@ -29,8 +30,11 @@ loop-less c = search needs
 
 loop-again : tie.Need-loop-again Inv-loop μ-loop
 loop-again c =
-    let entry = c .before .before .before .before .before .before in
-    (omega arith, rows-more _ (shares (entry .args .tab .now) (entry .args .ws .now)) _ _ _ (c .before .before .before .loop .inv .1) (c .fill-row .ensures))
+    let entry = c .before .before .before .before .before .before in (
+      omega arith,
+      rows-more _ (shares (entry .args .tab .now) (entry .args .ws .now)) _ _ _ (c .before .before .before .loop .inv .1)
+          (c .fill-row .ensures),
+    )
 
 returns : tie.Need-returns Inv-loop μ-loop
 returns c = rows-all (c .before .loop .inv .1) (c .loop-test .left)

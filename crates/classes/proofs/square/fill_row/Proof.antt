@@ -42,7 +42,8 @@ goal-at-requires-2 c κs = search needs
 depends-requires : tie.Need-depends-requires Inv-loop μ-loop
 depends-requires c κs =
     let entry = c .before .before .before .before .before .before in
-    rw (c .before .before .before .goal-at .ensures, c .goal-at2 .ensures) (entry .pre .0 .tabled, stored-first (entry .pre .0) (entry .args .i) (entry .pre .1), stored-first (entry .pre .0) (c .before .before .loop .j) (c .before .loop-test .taken))
+    rw (c .before .before .before .goal-at .ensures, c .goal-at2 .ensures)
+    (entry .pre .0 .tabled, stored-first (entry .pre .0) (entry .args .i) (entry .pre .1), stored-first (entry .pre .0) (c .before .before .loop .j) (c .before .loop-test .taken))
 
 mul-dep : tie.Need-mul-dep Inv-loop μ-loop
 mul-dep c = search needs
@@ -64,11 +65,18 @@ loop-again c =
     let entry = c .before .before .before .before .before .before .before in
     let at-loop = c .before .before .before .loop in
     let few = entry .pre .0 .few in
-    let is = c .depends .ensures ∙ ap₂ (λ (x y : Goal). depW (entry .args .tab .now) (asWords x) (asWords y)) (c .before .before .before .before .goal-at .ensures) (c .before .goal-at2 .ensures) in
-    (omega arith, row-more (entry .args .i) (shares (entry .args .tab .now) (entry .args .ws .now) (entry .args .i)) _ _ (at-loop .j) _ (omega (arith, entry .pre .1)) (omega (arith, c .before .before .loop-test .taken)) (at-loop .inv .1) is)
+    let is =
+    c .depends .ensures
+    ∙ ap₂ (λ (x y : Goal). depW (entry .args .tab .now) (asWords x) (asWords y)) (c .before .before .before .before .goal-at .ensures)
+    (c .before .goal-at2 .ensures) in (
+      omega arith,
+      row-more (entry .args .i) (shares (entry .args .tab .now) (entry .args .ws .now) (entry .args .i)) _ _ (at-loop .j) _
+          (omega (arith, entry .pre .1)) (omega (arith, c .before .before .loop-test .taken)) (at-loop .inv .1) is,
+    )
 
 returns : tie.Need-returns Inv-loop μ-loop
-returns c = let j=n : c .before .loop .j ≡ c .before .before .before .before .before .args .n = omega arith in rw (← j=n) (c .before .loop .inv .1)
+returns c =
+    let j=n : c .before .loop .j ≡ c .before .before .before .before .before .args .n = omega arith in rw (← j=n) (c .before .loop .inv .1)
 
 pub fill-row-spec : {M : Type 1} → statement M
 fill-row-spec =

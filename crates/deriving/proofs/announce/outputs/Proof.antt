@@ -25,7 +25,8 @@ use Rattle.deriving.proofs.sorting.arrange.Reads as arrange-reads
 use Rattle.goals.proofs.words.goal_at.Reads as goal-at-reads
 
 abbrev Inv-loop : tie.InvT-loop
-Inv-loop tab ws at n root symbol items₀ k₀ j₀ items k j = Listed (goesOut tab ws at (root .0) (symbol .0)) (λ x. annKey (goalOn ws at x)) n items₀ items k j
+Inv-loop tab ws at n root symbol items₀ k₀ j₀ items k j =
+    Listed (goesOut tab ws at (root .0) (symbol .0)) (λ x. annKey (goalOn ws at x)) n items₀ items k j
 
 abbrev μ-loop : tie.MeasureT-loop
 μ-loop tab ws at n root symbol items₀ k₀ j₀ items k j = n - j
@@ -33,7 +34,8 @@ abbrev μ-loop : tie.MeasureT-loop
 loop-holds : tie.Need-loop-holds Inv-loop μ-loop
 loop-holds c =
     let entry = c .before .before .before in
-    listed-begin (goesOut (entry .args .tab .now) (entry .args .ws .now) (entry .args .at) (entry .args .root .0) (entry .args .symbol .0)) (λ x. annKey (goalOn (entry .args .ws .now) (entry .args .at) x)) (entry .args .n) (entry .args .items .now)
+    listed-begin (goesOut (entry .args .tab .now) (entry .args .ws .now) (entry .args .at) (entry .args .root .0) (entry .args .symbol .0))
+    (λ x. annKey (goalOn (entry .args .ws .now) (entry .args .at) x)) (entry .args .n) (entry .args .items .now)
 
 mul-goal-at : tie.Need-mul-goal-at Inv-loop μ-loop
 mul-goal-at c = search needs
@@ -126,7 +128,8 @@ loop-again c =
     let at-loop-test = c .before .before .before .loop-test in
     let at-goal-at = c .before .before .goal-at in
     let a = entry .args in let l = c .before .before .before .before .loop in
-    let d = c .before .reduce .ensures ∙ ap (λ (x : Goal). reduct (a .tab .now) (a .root .0) (a .symbol .0) (asWords x)) (at-goal-at .ensures) in
+    let d =
+    c .before .reduce .ensures ∙ ap (λ (x : Goal). reduct (a .tab .now) (a .root .0) (a .symbol .0) (asWords x)) (at-goal-at .ensures) in
     ⊎-elim
     (λ w. rw (w .4, w .5) (listed-on (l .inv) (at-loop-test .taken) (eq-eqb _ _ (sym d ∙ w .0 .taken)) _ (ap₂ (λ (x : ℕ) (y : Goal). 128 * (16 * x + y .shape .0) + l .j) (w .2 .ensures ∙ ap (λ (y : Goal). pad (y .at .0)) (at-goal-at .ensures)) (at-goal-at .ensures))))
     (λ w. rw (w .1, w .2) (listed-off (l .inv) (at-loop-test .taken) (ne-eqb _ _ (λ e. w .0 .left (d ∙ e)))))
@@ -143,7 +146,8 @@ same-length c = c .before .before .arrange .kept .0 ∙ c .before .before .befor
 returns : tie.Need-returns Inv-loop μ-loop
 returns c =
     let entry = c .before .before .before .before .before .before .before .before .before in
-    listed-end (c .before .before .before .before .before .loop .inv) (c .before .before .before .before .loop-test .left) (entry .pre .1) _ (c .before .before .arrange .ensures)
+    listed-end (c .before .before .before .before .before .loop .inv) (c .before .before .before .before .loop-test .left) (entry .pre .1) _
+    (c .before .before .arrange .ensures)
 
 pub outputs-spec : {M : Type 1} → statement M
 outputs-spec =

@@ -16,8 +16,6 @@ use Rattle.deriving.proofs.derivative.put_moved.Reads as reads
 use Rattle.deriving.proofs.derivative.put_moved.Lts as lts
 use Rattle.goals.proofs.words.put_goal.Reads as put-goal-reads
 
--- src/derivative.rt:100:9
-
 returns : tie.Need-returns
 returns c = let a = c .before .before .args in let g = asWords (a .g) in
     let e = flat-none (goesOn (a .x) g) (goes-out (a .x) g (c .if1 .taken)) in
@@ -46,7 +44,9 @@ returns-3 : tie.Need-returns-3
 returns-3 c =
     let entry = c .before .before .before .before .before .before .before in
     let a = entry .args in let g = asWords (a .g) in
-    let e = flat-one (goesOn (a .x) g) (withMask g (a .x)) (goes (a .x) g (c .before .before .before .before .before .if1 .left) (c .before .before .before .before .if2 .left)) in
+    let e =
+    flat-one (goesOn (a .x) g) (withMask g (a .x))
+    (goes (a .x) g (c .before .before .before .before .before .if1 .left) (c .before .before .before .before .if2 .left)) in
     (omega (arith, ap length e), c .before .before .put-goal .ensures ∙ sym (ap (sets (a .out .now) (a .to)) e))
 
 pub put-moved-spec : {M : Type 1} → statement M

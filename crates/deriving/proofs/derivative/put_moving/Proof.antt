@@ -13,7 +13,8 @@ use Rattle.deriving.proofs.derivative.reduce.Reads as reduce-reads
 use Rattle.goals.proofs.words.goal_at.Reads as goal-at-reads
 
 abbrev Inv-loop : tie.InvT-loop
-Inv-loop tab ws at n root symbol out₀ to next₀ here₀ left₀ out next here left = Passing (moves tab (root .0) (symbol .0)) ws at n to out₀ out next here left
+Inv-loop tab ws at n root symbol out₀ to next₀ here₀ left₀ out next here left =
+    Passing (moves tab (root .0) (symbol .0)) ws at n to out₀ out next here left
 
 abbrev μ-loop : tie.MeasureT-loop
 μ-loop tab ws at n root symbol out₀ to next₀ here₀ left₀ out next here left = left
@@ -32,7 +33,8 @@ reduce-requires c κs =
 put-moved-requires : tie.Need-put-moved-requires Inv-loop μ-loop
 put-moved-requires c κs =
     let entry = c .before .before .before .before .before .before .before .before in
-    move-room (entry .args .tab .now) (entry .args .root .0) (entry .args .symbol .0) (c .before .before .before .before .loop .inv) (c .before .before .before .loop-test .taken) _ _ (c .before .before .goal-at .ensures) (c .before .reduce .ensures) (entry .pre .1)
+    move-room (entry .args .tab .now) (entry .args .root .0) (entry .args .symbol .0) (c .before .before .before .before .loop .inv)
+    (c .before .before .before .loop-test .taken) _ _ (c .before .before .goal-at .ensures) (c .before .reduce .ensures) (entry .pre .1)
 
 add-here : tie.Need-add-here Inv-loop μ-loop
 add-here c = search needs
@@ -48,7 +50,9 @@ loop-again c =
     let entry = c .before .before .before .before .before .before .before .before .before .before .before in
     let at-loop = c .before .before .before .before .before .before .before .loop in
     let at-loop-test = c .before .before .before .before .before .before .loop-test in
-    move-on (entry .args .tab .now) (entry .args .root .0) (entry .args .symbol .0) (at-loop .inv) (at-loop-test .taken) _ _ (c .before .before .before .before .before .goal-at .ensures) (c .before .before .before .before .reduce .ensures) _ _ (c .before .before .put-moved .ensures)
+    move-on (entry .args .tab .now) (entry .args .root .0) (entry .args .symbol .0) (at-loop .inv) (at-loop-test .taken) _ _
+    (c .before .before .before .before .before .goal-at .ensures) (c .before .before .before .before .reduce .ensures) _ _
+    (c .before .before .put-moved .ensures)
 
 same-length : tie.Need-same-length Inv-loop μ-loop
 same-length c = search needs

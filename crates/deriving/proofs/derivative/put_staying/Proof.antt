@@ -32,7 +32,9 @@ node-at-requires c κs =
 put-goal-requires : tie.Need-put-goal-requires Inv-loop μ-loop
 put-goal-requires c κs =
     let entry = c .before .before .before .before .before .before .before .before .before in
-    stay-room (entry .args .tab .now) (entry .args .root .0) (c .before .before .before .before .before .loop .inv) (c .before .before .before .before .loop-test .taken) _ _ (c .before .before .before .goal-at .ensures) (c .before .before .node-at .ensures) (c .before .if1 .taken) (entry .pre .1)
+    stay-room (entry .args .tab .now) (entry .args .root .0) (c .before .before .before .before .before .loop .inv)
+    (c .before .before .before .before .loop-test .taken) _ _ (c .before .before .before .goal-at .ensures)
+    (c .before .before .node-at .ensures) (c .before .if1 .taken) (entry .pre .1)
 
 add-next : tie.Need-add-next Inv-loop μ-loop
 add-next c = search needs

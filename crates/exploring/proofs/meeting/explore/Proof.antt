@@ -49,11 +49,14 @@ enum-known-states c = search needs
 
 add-words : tie.Need-add-words Inv-loop μ-loop
 add-words c =
-    let entry = c .before .before .before .before .before .before .before .before .before .before .before .before .before .before .before .before .before .before .before .before in
+    let entry =
+    c .before .before .before .before .before .before .before .before .before .before .before .before .before .before .before .before .before .before .before .before in
     let at-loop = c .before .before .before .before .before .before .before .before .loop in
     let at-loop-test = c .before .before .before .before .before .before .before .loop-test in
     let at-explore-state = c .before .before .before .before .before .explore-state in
-    let s = (running-on (at-loop .inv) (at-loop-test .taken) _ (at-explore-state .result) _ _ (c .before .states .given .1) (at-explore-state .ensures .0) (at-explore-state .ensures .1) (at-explore-state .kept .1 .1 .1 .0)) in omega (arith, s .sum, s .below, s .held .kept .few)
+    let s =
+    (running-on (at-loop .inv) (at-loop-test .taken) _ (at-explore-state .result) _ _ (c .before .states .given .1) (at-explore-state .ensures .0) (at-explore-state .ensures .1) (at-explore-state .kept .1 .1 .1 .0)) in
+    omega (arith, s .sum, s .below, s .held .kept .few)
 
 enum-known-reason : tie.Need-enum-known-reason Inv-loop μ-loop
 enum-known-reason c = search needs
@@ -72,13 +75,20 @@ same-length c =
 
 returns : tie.Need-returns Inv-loop μ-loop
 returns c =
-    let entry = c .before .before .before .before .before .before .before .before .before .before .before .before .before .before .before .before .before .before .before .before in
-    let at-put-fresh = c .before .before .before .before .before .before .before .before .before .before .before .before .before .before .before .put-fresh in
+    let entry =
+    c .before .before .before .before .before .before .before .before .before .before .before .before .before .before .before .before .before .before .before .before in
+    let at-put-fresh =
+    c .before .before .before .before .before .before .before .before .before .before .before .before .before .before .before .put-fresh in
     let at-add-state = c .before .before .before .before .before .before .before .before .before .before .before .add-state in
     let at-loop = c .before .before .before .before .before .before .before .before .loop in
     let at-loop-test = c .before .before .before .before .before .before .before .loop-test in
-    let at-explore-state = c .before .before .before .before .before .explore-state in
-    (running-stop (at-loop .inv) (at-loop-test .taken) _ (at-explore-state .result) _ (c .before .reason .given .1) (at-explore-state .ensures .0), at-explore-state .ensures .1 ∙ at-loop .inv .behind ∙ (running-begin (entry .args .scratch .now) (entry .pre .0) (entry .pre .1) _ _ (at-put-fresh .ensures .1) (at-add-state .ensures)) .1)
+    let at-explore-state = c .before .before .before .before .before .explore-state in (
+      running-stop (at-loop .inv) (at-loop-test .taken) _ (at-explore-state .result) _ (c .before .reason .given .1)
+          (at-explore-state .ensures .0),
+      at-explore-state .ensures .1
+          ∙ at-loop .inv .behind
+          ∙ (running-begin (entry .args .scratch .now) (entry .pre .0) (entry .pre .1) _ _ (at-put-fresh .ensures .1) (at-add-state .ensures)) .1,
+    )
 
 add-i : tie.Need-add-i Inv-loop μ-loop
 add-i c =
@@ -94,7 +104,8 @@ loop-less c =
 
 loop-again : tie.Need-loop-again Inv-loop μ-loop
 loop-again c =
-    let entry = c .before .before .before .before .before .before .before .before .before .before .before .before .before .before .before .before .before .before .before .before in
+    let entry =
+    c .before .before .before .before .before .before .before .before .before .before .before .before .before .before .before .before .before .before .before .before in
     let at-loop = c .before .before .before .before .before .before .before .before .loop in
     let at-loop-test = c .before .before .before .before .before .before .before .loop-test in
     let at-explore-state = c .before .before .before .before .before .explore-state in
@@ -106,8 +117,11 @@ same-length-2 c = c .before .loop .inv .long ∙ c .before .before .before .befo
 returns-2 : tie.Need-returns-2 Inv-loop μ-loop
 returns-2 c =
     let entry = c .before .before .before .before .before .before .before .before .before .before .before .before .before in
-    let at-put-fresh = c .before .before .before .before .before .before .before .before .put-fresh in
-    (running-end (c .before .loop .inv) (c .loop-test .left), c .before .loop .inv .behind ∙ (running-begin (entry .args .scratch .now) (entry .pre .0) (entry .pre .1) _ _ (at-put-fresh .ensures .1) (c .before .before .before .before .add-state .ensures)) .1)
+    let at-put-fresh = c .before .before .before .before .before .before .before .before .put-fresh in (
+      running-end (c .before .loop .inv) (c .loop-test .left),
+      c .before .loop .inv .behind
+          ∙ (running-begin (entry .args .scratch .now) (entry .pre .0) (entry .pre .1) _ _ (at-put-fresh .ensures .1) (c .before .before .before .before .add-state .ensures)) .1,
+    )
 
 pub explore-spec : {M : Type 1} → statement M
 explore-spec =

@@ -10,68 +10,59 @@ use Rattle.exploring.proofs.meeting.explore_symbol.Lts as lts
 use Rattle.exploring.proofs.meeting.meet_all.Reads as meet-all-reads
 use Rattle.states.proofs.parting.part.Reads as part-reads
 
--- src/meeting.rt:115:61
 slice-aggregate-part : tie.Need-slice-aggregate-part
 slice-aggregate-part c = search needs
 
--- src/meeting.rt:115:71
 slice-aggregate-part-2 : tie.Need-slice-aggregate-part-2
 slice-aggregate-part-2 c = search needs
 
--- src/meeting.rt:115:93
 slice-aggregate-part-3 : tie.Need-slice-aggregate-part-3
 slice-aggregate-part-3 c = search needs
 
--- src/meeting.rt:114:9
 part-requires : tie.Need-part-requires
 part-requires c κs =
     let entry = c .before .before .before .before .before .before .before .before in
     (entry .pre .1, record { outs = omega arith; room = omega arith; square = empty-square; rows = omega arith })
 
--- src/meeting.rt:118:20
 mul-base : tie.Need-mul-base
 mul-base c = omega (arith, c .before .before .before .before .part .ensures .few-outs)
 
--- src/meeting.rt:118:16
 add-base : tie.Need-add-base
 add-base c = omega (arith, c .before .before .before .before .part .ensures .few-outs)
 
--- src/meeting.rt:119:26
 slice-aggregate-meet-all : tie.Need-slice-aggregate-meet-all
 slice-aggregate-meet-all c = search needs
 
--- src/meeting.rt:119:53
 sub-meet-all : tie.Need-sub-meet-all
 sub-meet-all c = search needs
 
--- src/meeting.rt:119:53
 part-meet-all-start : tie.Need-part-meet-all-start
 part-meet-all-start c = search needs
 
--- src/meeting.rt:119:53
 part-meet-all-end : tie.Need-part-meet-all-end
 part-meet-all-end c =
     let at-part = c .before .before .before .before .before .before .before .before .part in
     omega (arith, at-part .ensures .few-classes)
 
--- src/meeting.rt:119:5
 meet-all-requires : tie.Need-meet-all-requires
 meet-all-requires c κs =
-    let entry = c .before .before .before .before .before .before .before .before .before .before .before .before .before .before .before .before .before .before in
+    let entry =
+    c .before .before .before .before .before .before .before .before .before .before .before .before .before .before .before .before .before .before in
     let at-part = c .before .before .before .before .before .before .before .before .before .part in
     (entry .pre .0, at-part .ensures .squared, at-part .ensures .rows-named, symbol-base (entry .args .symbols .now) (at-part .ensures))
 
--- src/meeting.rt:96:1
 same-length : tie.Need-same-length
 same-length c = c .before .before .meet-all .kept .0
 
--- src/meeting.rt:96:1
 returns : tie.Need-returns
 returns c =
-    let entry = c .before .before .before .before .before .before .before .before .before .before .before .before .before .before .before .before .before .before .before .before .before in
+    let entry =
+    c .before .before .before .before .before .before .before .before .before .before .before .before .before .before .before .before .before .before .before .before .before in
     let at-part = c .before .before .before .before .before .before .before .before .before .before .before .before .part in
-    let at-meet-all = c .before .before .meet-all in
-    (symbol-met (entry .args .symbols .now) (at-part .ensures) (entry .args .m) (at-meet-all .result) _ (at-meet-all .ensures .0), at-meet-all .ensures .1)
+    let at-meet-all = c .before .before .meet-all in (
+      symbol-met (entry .args .symbols .now) (at-part .ensures) (entry .args .m) (at-meet-all .result) _ (at-meet-all .ensures .0),
+      at-meet-all .ensures .1,
+    )
 
 pub explore-symbol-spec : {M : Type 1} → statement M
 explore-symbol-spec =

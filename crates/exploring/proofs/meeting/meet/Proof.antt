@@ -11,99 +11,92 @@ use Rattle.deriving.proofs.lift.lift_class.Reads as lift-class-reads
 use Rattle.states.proofs.keeping.add_state.Reads as add-state-reads
 use Rattle.states.proofs.keeping.find_state.Reads as find-state-reads
 
--- src/meeting.rt:167:41
 slice-aggregate-put-class : tie.Need-slice-aggregate-put-class
 slice-aggregate-put-class c = search needs
 
--- src/meeting.rt:167:13
 put-class-requires : tie.Need-put-class-requires
 put-class-requires c κs =
     let entry = c .before .before .before in
     (entry .pre .1, entry .pre .2, class-room (entry .pre .1) (entry .args .r))
 
--- src/meeting.rt:169:9
 returns : tie.Need-returns
 returns c =
-    let entry = c .before .before .before .before .before .before in
-    (class-big (entry .pre .1) (entry .args .r) _ _ _ (c .before .before .put-class .ensures) (entry .args .scratch .now) (entry .args .m) (c .if1 .taken), refl)
+    let entry = c .before .before .before .before .before .before in (
+      class-big (entry .pre .1) (entry .args .r) _ _ _ (c .before .before .put-class .ensures) (entry .args .scratch .now) (entry .args .m)
+          (c .if1 .taken),
+      refl,
+    )
 
--- src/meeting.rt:172:16
 slice-aggregate-lift-class : tie.Need-slice-aggregate-lift-class
 slice-aggregate-lift-class c = search needs
 
--- src/meeting.rt:172:27
 slice-aggregate-lift-class-2 : tie.Need-slice-aggregate-lift-class-2
 slice-aggregate-lift-class-2 c = search needs
 
--- src/meeting.rt:172:5
 lift-class-requires : tie.Need-lift-class-requires
 lift-class-requires c κs = omega (arith, c .before .before .if1 .left, c .before .before .before .before .put-class .kept .1 .1 .1 .1 .0)
 
--- src/meeting.rt:173:31
 slice-aggregate-find-state : tie.Need-slice-aggregate-find-state
 slice-aggregate-find-state c = search needs
 
--- src/meeting.rt:173:8
 find-state-requires : tie.Need-find-state-requires
 find-state-requires c κs =
     let entry = c .before .before .before .before .before .before .before .before .before .before .before .before in
     let at-if1 = c .before .before .before .before .before .before .if1 in
     (entry .pre .0, at-if1 .left, omega (arith, at-if1 .left, c .before .before .before .lift-class .kept .1 .1 .0))
 
--- src/meeting.rt:174:9
 same-length : tie.Need-same-length
 same-length c = search needs
 
--- src/meeting.rt:174:9
 returns-2 : tie.Need-returns-2
 returns-2 c =
     let entry = c .before .before .before .before .before .before .before .before .before .before .before .before .before .before in
     let at-put-class = c .before .before .before .before .before .before .before .before .before .before .put-class in
     let at-if1 = c .before .before .before .before .before .before .before .before .if1 in
-    let l = class-lifted (entry .pre .1) (entry .args .r) _ _ _ _ _ _ (at-put-class .ensures) refl (at-if1 .left) (c .before .before .before .before .before .lift-class .ensures) refl in
+    let l =
+    class-lifted (entry .pre .1) (entry .args .r) _ _ _ _ _ _ (at-put-class .ensures) refl (at-if1 .left)
+    (c .before .before .before .before .before .lift-class .ensures) refl in
     (met-known (entry .pre .0) l (at-if1 .left) (c .before .find-state .ensures) (c .if2 .taken), refl)
 
--- src/meeting.rt:177:9
 same-length-2 : tie.Need-same-length-2
 same-length-2 c = search needs
 
--- src/meeting.rt:177:9
 returns-3 : tie.Need-returns-3
 returns-3 c =
     let entry = c .before .before .before .before .before .before .before .before .before .before .before .before .before .before .before in
     let at-put-class = c .before .before .before .before .before .before .before .before .before .before .before .put-class in
     let at-if1 = c .before .before .before .before .before .before .before .before .before .if1 in
     let at-lift-class = c .before .before .before .before .before .before .lift-class in
-    let l = class-lifted (entry .pre .1) (entry .args .r) _ _ _ _ _ _ (at-put-class .ensures) refl (at-if1 .left) (at-lift-class .ensures) refl in
+    let l =
+    class-lifted (entry .pre .1) (entry .args .r) _ _ _ _ _ _ (at-put-class .ensures) refl (at-if1 .left) (at-lift-class .ensures) refl in
     (met-full (entry .pre .0) l (at-if1 .left) (c .before .before .find-state .ensures) (c .before .if2 .left) (c .if3 .taken), refl)
 
--- src/meeting.rt:179:27
 slice-aggregate-add-state : tie.Need-slice-aggregate-add-state
 slice-aggregate-add-state c = search needs
 
--- src/meeting.rt:179:5
 add-state-requires : tie.Need-add-state-requires
 add-state-requires c κs = search needs
 
--- src/meeting.rt:180:15
 add-t10 : tie.Need-add-t10
 add-t10 c = search needs
 
--- src/meeting.rt:154:1
 same-length-3 : tie.Need-same-length-3
 same-length-3 c = search needs
 
--- src/meeting.rt:154:1
 returns-4 : tie.Need-returns-4
 returns-4 c =
-    let entry = c .before .before .before .before .before .before .before .before .before .before .before .before .before .before .before .before .before .before .before .before in
-    let at-put-class = c .before .before .before .before .before .before .before .before .before .before .before .before .before .before .before .before .put-class in
+    let entry =
+    c .before .before .before .before .before .before .before .before .before .before .before .before .before .before .before .before .before .before .before .before in
+    let at-put-class =
+    c .before .before .before .before .before .before .before .before .before .before .before .before .before .before .before .before .put-class in
     let at-if1 = c .before .before .before .before .before .before .before .before .before .before .before .before .before .before .if1 in
     let at-lift-class = c .before .before .before .before .before .before .before .before .before .before .before .lift-class in
     let at-find-state = c .before .before .before .before .before .before .before .find-state in
     let at-if2 = c .before .before .before .before .before .before .if2 in
-    let l = class-lifted (entry .pre .1) (entry .args .r) _ _ _ _ _ _ (at-put-class .ensures) refl (at-if1 .left) (at-lift-class .ensures) refl in
-    met-new (entry .pre .0) l (at-if1 .left) (at-find-state .ensures) (at-if2 .left) (c .before .before .before .before .before .if3 .left) _ (c .before .before .add-state .ensures) (omega (arith, at-if1 .left, at-lift-class .kept .1 .1 .0))
+    let l =
+    class-lifted (entry .pre .1) (entry .args .r) _ _ _ _ _ _ (at-put-class .ensures) refl (at-if1 .left) (at-lift-class .ensures) refl in
+    met-new (entry .pre .0) l (at-if1 .left) (at-find-state .ensures) (at-if2 .left) (c .before .before .before .before .before .if3 .left)
+    _ (c .before .before .add-state .ensures) (omega (arith, at-if1 .left, at-lift-class .kept .1 .1 .0))
 
 pub meet-spec : {M : Type 1} → statement M
 meet-spec =

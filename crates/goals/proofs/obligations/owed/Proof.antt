@@ -18,7 +18,8 @@ use Rattle.goals.proofs.obligations.owed.Lts as lts
 use Rattle.goals.proofs.obligations.code_at.Reads as code-at-reads
 
 abbrev Inv-loop : tie.InvT-loop
-Inv-loop tab g out₀ left₀ mask₀ r₀ k₀ out left mask r k = (length out ≡ length out₀) × (r + left ≡ sizeOf tab (g .shape .0)) × (k ≤ r) × (k + length (owedFrom tab (g .shape .0) (g .at .0) left r mask) ≡ length (owedBy tab (asWords g))) × (sets out₀ 0 (owedBy tab (asWords g)) ≡ sets out k (owedFrom tab (g .shape .0) (g .at .0) left r mask))
+Inv-loop tab g out₀ left₀ mask₀ r₀ k₀ out left mask r k =
+    (length out ≡ length out₀) × (r + left ≡ sizeOf tab (g .shape .0)) × (k ≤ r) × (k + length (owedFrom tab (g .shape .0) (g .at .0) left r mask) ≡ length (owedBy tab (asWords g))) × (sets out₀ 0 (owedBy tab (asWords g)) ≡ sets out k (owedFrom tab (g .shape .0) (g .at .0) left r mask))
 
 abbrev μ-loop : tie.MeasureT-loop
 μ-loop tab g out₀ left₀ mask₀ r₀ k₀ out left mask r k = left

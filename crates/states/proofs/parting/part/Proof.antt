@@ -10,90 +10,80 @@ use Rattle.classes.proofs.square.dependency.Reads as dependency-reads
 use Rattle.deriving.proofs.announce.outputs.Reads as outputs-reads
 use Rattle.deriving.proofs.derivative.derive.Reads as derive-reads
 
--- src/parting.rt:33:13
 cast-i : tie.Need-cast-i
 cast-i c = search needs
 
--- src/parting.rt:34:21
 cast-k : tie.Need-cast-k
 cast-k c = search needs
 
--- src/parting.rt:34:13
 shared-slice-read-k : tie.Need-shared-slice-read-k
 shared-slice-read-k c = search needs
 
--- src/parting.rt:34:13
 cast-k-2 : tie.Need-cast-k-2
 cast-k-2 c =
     let entry = c .before .before .before .before .before .before .before .before .before in
     omega (arith, c .shared-slice-known4 .given (entry .args .symbol .0))
 
--- src/parting.rt:35:23
 mul-at : tie.Need-mul-at
 mul-at c = search needs
 
--- src/parting.rt:35:14
 add-at : tie.Need-add-at
 add-at c = search needs
 
--- src/parting.rt:36:13
 mul-n : tie.Need-mul-n
 mul-n c = search needs
 
--- src/parting.rt:36:13
 shared-slice-read-n : tie.Need-shared-slice-read-n
 shared-slice-read-n c = search needs
 
--- src/parting.rt:36:13
 cast-n : tie.Need-cast-n
 cast-n c = search needs
 
--- src/parting.rt:37:9
 outputs-requires : tie.Need-outputs-requires
 outputs-requires c κs =
     let entry = c .before .before .before .before .before .before .before .before .before .before .before in
     (state-stored (entry .pre .0), omega (arith, entry .pre .0 .count, entry .pre .1 .outs))
 
--- src/parting.rt:38:13
 derive-requires : tie.Need-derive-requires
 derive-requires c κs =
     let entry = c .before .before .before .before .before .before .before .before .before .before .before .before .before .before .before in
     (state-stored (entry .pre .0), derivable (entry .pre .0) (entry .args .goals .now) (entry .pre .1 .room))
 
--- src/parting.rt:39:5
 dependency-requires : tie.Need-dependency-requires
 dependency-requires c κs =
-    let entry = c .before .before .before .before .before .before .before .before .before .before .before .before .before .before .before .before .before .before .before .before in
-    (derived (entry .pre .0) _ _ _ (c .before .before .before .before .derive .ensures) (entry .pre .1 .room) .stored, entry .pre .1 .square)
+    let entry =
+    c .before .before .before .before .before .before .before .before .before .before .before .before .before .before .before .before .before .before .before .before in (
+      derived (entry .pre .0) _ _ _ (c .before .before .before .before .derive .ensures) (entry .pre .1 .room) .stored,
+      entry .pre .1 .square,
+    )
 
--- src/parting.rt:40:9
 class-order-requires : tie.Need-class-order-requires
 class-order-requires c κs =
-    let entry = c .before .before .before .before .before .before .before .before .before .before .before .before .before .before .before .before .before .before .before .before .before .before .before .before in
+    let entry =
+    c .before .before .before .before .before .before .before .before .before .before .before .before .before .before .before .before .before .before .before .before .before .before .before .before in
     let at-derive = c .before .before .before .before .before .before .before .before .derive in
     let s = derived (entry .pre .0) _ _ _ (at-derive .ensures) (entry .pre .1 .room) .stored in
     (s, c .before .before .before .dependency .ensures .square, omega (arith, s .few, entry .pre .1 .rows))
 
--- src/parting.rt:17:1
 same-length : tie.Need-same-length
 same-length c = search needs
 
--- src/parting.rt:17:1
 same-length-2 : tie.Need-same-length-2
 same-length-2 c = search needs
 
--- src/parting.rt:17:1
 same-length-3 : tie.Need-same-length-3
 same-length-3 c = search needs
 
--- src/parting.rt:17:1
 returns : tie.Need-returns
 returns c =
-    let entry = c .before .before .before .before .before .before .before .before .before .before .before .before .before .before .before .before .before .before .before .before .before .before .before .before .before .before .before in
-    let at-outputs = c .before .before .before .before .before .before .before .before .before .before .before .before .before .before .before .outputs in
+    let entry =
+    c .before .before .before .before .before .before .before .before .before .before .before .before .before .before .before .before .before .before .before .before .before .before .before .before .before .before .before in
+    let at-outputs =
+    c .before .before .before .before .before .before .before .before .before .before .before .before .before .before .before .outputs in
     let at-derive = c .before .before .before .before .before .before .before .before .before .before .before .derive in
     let at-dependency = c .before .before .before .before .before .before .dependency in
-    parted (entry .pre .0) (entry .pre .1) _ _ _ _ _ _ _ (at-outputs .ensures) (at-derive .ensures) (at-dependency .ensures) (c .before .before .class-order .ensures)
+    parted (entry .pre .0) (entry .pre .1) _ _ _ _ _ _ _ (at-outputs .ensures) (at-derive .ensures) (at-dependency .ensures)
+    (c .before .before .class-order .ensures)
 
 pub part-spec : {M : Type 1} → statement M
 part-spec =

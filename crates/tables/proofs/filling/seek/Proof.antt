@@ -10,7 +10,8 @@ use Rattle.tables.proofs.filling.seek.Statement.{statement}
 use Rattle.tables.proofs.filling.seek.Tie as tie
 
 abbrev Inv-loop : tie.InvT-loop
-Inv-loop symbols words st r one v c₀ here₀ left₀ c here left = (left ≤ 16) × (c + 16 * left ≤ 256) × (here ≤ 65535) × (seekFrom symbols words st r one 16 0 v ≡ seekFrom symbols words st r one left c here)
+Inv-loop symbols words st r one v c₀ here₀ left₀ c here left =
+    (left ≤ 16) × (c + 16 * left ≤ 256) × (here ≤ 65535) × (seekFrom symbols words st r one 16 0 v ≡ seekFrom symbols words st r one left c here)
 
 abbrev μ-loop : tie.MeasureT-loop
 μ-loop symbols words st r one v c₀ here₀ left₀ c here left = left
@@ -21,8 +22,10 @@ loop-holds c = (omega arith, omega arith, omega arith, refl)
 returns : tie.Need-returns Inv-loop μ-loop
 returns c =
     let entry = c .before .before .before .before .before in
-    let at-loop = c .before .before .loop in
-    (sym (at-loop .inv .3 ∙ seek-there (entry .args .symbols .now) (entry .args .words .now) (entry .args .st) (entry .args .r) (entry .args .one) (at-loop .left) (at-loop .c) (at-loop .here) (c .if1 .taken)), at-loop .inv .2)
+    let at-loop = c .before .before .loop in (
+      sym (at-loop .inv .3 ∙ seek-there (entry .args .symbols .now) (entry .args .words .now) (entry .args .st) (entry .args .r) (entry .args .one) (at-loop .left) (at-loop .c) (at-loop .here) (c .if1 .taken)),
+      at-loop .inv .2,
+    )
 
 add-span-at : tie.Need-add-span-at Inv-loop μ-loop
 add-span-at c = search needs
@@ -66,8 +69,10 @@ loop-again c =
 
 returns-2 : tie.Need-returns-2 Inv-loop μ-loop
 returns-2 c =
-    let entry = c .before .before .before .before in
-    (sym (c .before .loop .inv .3 ∙ seek-end (entry .args .symbols .now) (entry .args .words .now) (entry .args .st) (entry .args .r) (entry .args .one) (c .before .loop .left) (c .before .loop .c) (c .before .loop .here) (c .loop-test .left)), c .before .loop .inv .2)
+    let entry = c .before .before .before .before in (
+      sym (c .before .loop .inv .3 ∙ seek-end (entry .args .symbols .now) (entry .args .words .now) (entry .args .st) (entry .args .r) (entry .args .one) (c .before .loop .left) (c .before .loop .c) (c .before .loop .here) (c .loop-test .left)),
+      c .before .loop .inv .2,
+    )
 
 pub seek-spec : {M : Type 1} → statement M
 seek-spec =

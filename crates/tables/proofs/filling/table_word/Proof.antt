@@ -28,7 +28,8 @@ node-word-requires c κs =
 returns : tie.Need-returns
 returns c =
     let entry = c .before .before .before .before .before .before .before .before in
-    c .node-word .ensures ∙ sym (entry-in (entry .args .symbols .now) (entry .args .words .now) (entry .args .starts .now) (entry .args .k) (c .before .before .before .before .if1 .taken) (omega (arith, c .before .if2 .taken, c .before .before .span-at .ensures .0)))
+    c .node-word .ensures
+    ∙ sym (entry-in (entry .args .symbols .now) (entry .args .words .now) (entry .args .starts .now) (entry .args .k) (c .before .before .before .before .if1 .taken) (omega (arith, c .before .if2 .taken, c .before .before .span-at .ensures .0)))
 
 returns-2 : tie.Need-returns-2
 returns-2 c =

@@ -11,91 +11,89 @@ use Rattle.states.proofs.parting.part.Reads as part-reads
 use Rattle.writing.proofs.blocks.write_outputs.Reads as write-outputs-reads
 use Rattle.writing.proofs.blocks.write_successors.Reads as write-successors-reads
 
--- src/blocks.rt:122:61
 slice-aggregate-part : tie.Need-slice-aggregate-part
 slice-aggregate-part c = search needs
 
--- src/blocks.rt:122:71
 slice-aggregate-part-2 : tie.Need-slice-aggregate-part-2
 slice-aggregate-part-2 c = search needs
 
--- src/blocks.rt:122:93
 slice-aggregate-part-3 : tie.Need-slice-aggregate-part-3
 slice-aggregate-part-3 c = search needs
 
--- src/blocks.rt:121:9
 part-requires : tie.Need-part-requires
 part-requires c κs =
     let entry = c .before .before .before .before .before .before .before .before in
     (entry .pre .1, record { outs = omega arith; room = omega arith; square = empty-square; rows = omega arith })
 
--- src/blocks.rt:126:39
 cast-from : tie.Need-cast-from
 cast-from c = search needs
 
--- src/blocks.rt:126:25
 mul-from : tie.Need-mul-from
 mul-from c = search needs
 
--- src/blocks.rt:126:16
 add-from : tie.Need-add-from
 add-from c = search needs
 
--- src/blocks.rt:127:45
 sub-write-outputs : tie.Need-sub-write-outputs
 sub-write-outputs c = search needs
 
--- src/blocks.rt:127:45
 part-write-outputs-start : tie.Need-part-write-outputs-start
 part-write-outputs-start c = search needs
 
--- src/blocks.rt:127:45
 part-write-outputs-end : tie.Need-part-write-outputs-end
 part-write-outputs-end c = search needs
 
--- src/blocks.rt:127:9
 write-outputs-requires : tie.Need-write-outputs-requires
 write-outputs-requires c κs =
-    let entry = c .before .before .before .before .before .before .before .before .before .before .before .before .before .before .before .before in
-    let at-part = c .before .before .before .before .before .before .before .part in
-    (at-part .ensures .out-named, state-room (entry .pre .1), out-room (entry .pre .1) (entry .args .m) (at-part .ensures) (entry .args .plan .now) (entry .args .at) (entry .pre .3))
+    let entry =
+    c .before .before .before .before .before .before .before .before .before .before .before .before .before .before .before .before in
+    let at-part = c .before .before .before .before .before .before .before .part in (
+      at-part .ensures .out-named,
+      state-room (entry .pre .1),
+      out-room (entry .pre .1) (entry .args .m) (at-part .ensures) (entry .args .plan .now) (entry .args .at) (entry .pre .3),
+    )
 
--- src/blocks.rt:131:9
 slice-aggregate-write-successors : tie.Need-slice-aggregate-write-successors
 slice-aggregate-write-successors c = search needs
 
--- src/blocks.rt:134:9
 sub-write-successors : tie.Need-sub-write-successors
 sub-write-successors c = search needs
 
--- src/blocks.rt:134:9
 part-write-successors-start : tie.Need-part-write-successors-start
 part-write-successors-start c = search needs
 
--- src/blocks.rt:134:9
 part-write-successors-end : tie.Need-part-write-successors-end
 part-write-successors-end c = search needs
 
--- src/blocks.rt:128:5
 write-successors-requires : tie.Need-write-successors-requires
 write-successors-requires c κs =
-    let entry = c .before .before .before .before .before .before .before .before .before .before .before .before .before .before .before .before .before .before .before .before .before .before .before .before in
-    let at-part = c .before .before .before .before .before .before .before .before .before .before .before .before .before .before .before .part in
+    let entry =
+    c .before .before .before .before .before .before .before .before .before .before .before .before .before .before .before .before .before .before .before .before .before .before .before .before in
+    let at-part =
+    c .before .before .before .before .before .before .before .before .before .before .before .before .before .before .before .part in
     let at-write-outputs = c .before .before .before .before .before .before .before .write-outputs in
-    let room = succ-room (entry .pre .1) (entry .args .m) (at-part .ensures) (entry .args .plan .now) (entry .args .at) (entry .pre .3) _ _ (at-write-outputs .ensures) in
-    (entry .pre .0, at-part .ensures .squared, at-part .ensures .rows-named, class-small (entry .pre .1) (entry .args .m) (at-part .ensures) (entry .pre .2), room)
+    let room =
+    succ-room (entry .pre .1) (entry .args .m) (at-part .ensures) (entry .args .plan .now) (entry .args .at) (entry .pre .3) _ _
+    (at-write-outputs .ensures) in (
+      entry .pre .0,
+      at-part .ensures .squared,
+      at-part .ensures .rows-named,
+      class-small (entry .pre .1) (entry .args .m) (at-part .ensures) (entry .pre .2),
+      room,
+    )
 
--- src/blocks.rt:102:1
 same-length : tie.Need-same-length
 same-length c = search needs
 
--- src/blocks.rt:102:1
 returns : tie.Need-returns
 returns c =
-    let entry = c .before .before .before .before .before .before .before .before .before .before .before .before .before .before .before .before .before .before .before .before .before .before .before .before .before .before .before in
-    let at-part = c .before .before .before .before .before .before .before .before .before .before .before .before .before .before .before .before .before .before .part in
+    let entry =
+    c .before .before .before .before .before .before .before .before .before .before .before .before .before .before .before .before .before .before .before .before .before .before .before .before .before .before .before in
+    let at-part =
+    c .before .before .before .before .before .before .before .before .before .before .before .before .before .before .before .before .before .before .part in
     let at-write-outputs = c .before .before .before .before .before .before .before .before .before .before .write-outputs in
-    block-put (entry .pre .1) (entry .args .m) (at-part .ensures) (entry .args .plan .now) (entry .args .at) (entry .pre .3) _ _ (at-write-outputs .ensures) _ _ (c .before .before .write-successors .ensures)
+    block-put (entry .pre .1) (entry .args .m) (at-part .ensures) (entry .args .plan .now) (entry .args .at) (entry .pre .3) _ _
+    (at-write-outputs .ensures) _ _ (c .before .before .write-successors .ensures)
 
 pub write-block-spec : {M : Type 1} → statement M
 write-block-spec =

@@ -19,149 +19,125 @@ Inv-loop tab symbols shapes scratch m total plan₀ k at₀ i₀ plan at i = Pla
 abbrev μ-loop : tie.MeasureT-loop
 μ-loop tab symbols shapes scratch m total plan₀ k at₀ i₀ plan at i = m - i
 
--- src/blocks.rt:33:15
 cast-plan : tie.Need-cast-plan Inv-loop μ-loop
 cast-plan c = omega (arith, c .before .before .before .before .pre .held .kept .few)
 
--- src/blocks.rt:33:5
 slice-write-plan : tie.Need-slice-write-plan Inv-loop μ-loop
 slice-write-plan c = omega (arith, plan-room (c .before .before .before .before .pre))
 
--- src/blocks.rt:34:15
 cast-plan-2 : tie.Need-cast-plan-2 Inv-loop μ-loop
 cast-plan-2 c = omega (arith, c .before .before .before .before .pre .ready .few-symbols)
 
--- src/blocks.rt:34:5
 slice-write-plan-2 : tie.Need-slice-write-plan-2 Inv-loop μ-loop
 slice-write-plan-2 c =
     let entry = c .before .before .before .before in
     omega (arith, plan-room (entry .pre), length-set (entry .args .plan .now) 0 (entry .args .m))
 
--- src/blocks.rt:35:15
 cast-plan-3 : tie.Need-cast-plan-3 Inv-loop μ-loop
 cast-plan-3 c = omega (arith, c .before .before .before .before .pre .ready .few-shapes)
 
--- src/blocks.rt:35:5
 slice-write-plan-3 : tie.Need-slice-write-plan-3 Inv-loop μ-loop
 slice-write-plan-3 c =
     let entry = c .before .before .before .before in
     omega (arith, plan-room (entry .pre), length-set (entry .args .plan .now) 0 (entry .args .m), length-set (set (entry .args .plan .now) 0 (entry .args .m)) 1 (length (entry .args .symbols .now)))
 
--- src/blocks.rt:36:15
 cast-plan-4 : tie.Need-cast-plan-4 Inv-loop μ-loop
 cast-plan-4 c = omega (arith, c .before .before .before .before .pre .word)
 
--- src/blocks.rt:36:5
 slice-write-plan-4 : tie.Need-slice-write-plan-4 Inv-loop μ-loop
 slice-write-plan-4 c =
     let entry = c .before .before .before .before in
     omega (arith, plan-room (entry .pre), head-length (entry .args .plan .now) (entry .args .m) (length (entry .args .symbols .now)) (entry .args .shapes) (entry .args .total), length-set (set (set (set (entry .args .plan .now) 0 (entry .args .m)) 1 (length (entry .args .symbols .now))) 2 (entry .args .shapes)) 3 (entry .args .total))
 
--- src/blocks.rt:37:18
 add-at : tie.Need-add-at Inv-loop μ-loop
 add-at c = omega (arith, c .before .before .before .before .pre .held .kept .few)
 
--- src/blocks.rt:37:26
 mul-at : tie.Need-mul-at Inv-loop μ-loop
 mul-at c = omega (arith, plan-word (c .before .before .before .before .pre))
 
--- src/blocks.rt:37:18
 add-at-2 : tie.Need-add-at-2 Inv-loop μ-loop
 add-at-2 c = omega (arith, plan-word (c .before .before .before .before .pre))
 
--- src/blocks.rt:39:5
 loop-holds : tie.Need-loop-holds Inv-loop μ-loop
 loop-holds c = planned-begin _
 
--- src/blocks.rt:40:43
 mul-label : tie.Need-mul-label Inv-loop μ-loop
 mul-label c =
     let entry = c .before .before .before .before .before .before in
     omega (arith, entry .pre .held .kept .few, c .loop-test .taken)
 
--- src/blocks.rt:40:37
 add-label : tie.Need-add-label Inv-loop μ-loop
 add-label c =
     let entry = c .before .before .before .before .before .before in
     omega (arith, entry .pre .held .kept .few, c .loop-test .taken)
 
--- src/blocks.rt:40:51
 mul-label-2 : tie.Need-mul-label-2 Inv-loop μ-loop
 mul-label-2 c =
     let entry = c .before .before .before .before .before .before in
     omega (arith, entry .pre .held .kept .few, c .loop-test .taken)
 
--- src/blocks.rt:40:51
 shared-slice-read-label : tie.Need-shared-slice-read-label Inv-loop μ-loop
 shared-slice-read-label c =
     let entry = c .before .before .before .before .before .before .before in
     omega (arith, entry .pre .held .kept .few, entry .pre .held .kept .long, c .before .loop-test .taken)
 
--- src/blocks.rt:40:51
 cast-label : tie.Need-cast-label Inv-loop μ-loop
 cast-label c =
     let entry = c .before .before .before .before .before .before .before in
     omega (arith, held-count (entry .pre .held) (c .before .loop-test .taken))
 
--- src/blocks.rt:40:17
 label-requires : tie.Need-label-requires Inv-loop μ-loop
 label-requires c κs =
     let entry = c .before .before .before .before .before .before .before in
     held-stored (entry .pre .held) (c .before .loop-test .taken)
 
--- src/blocks.rt:40:17
 cast-c : tie.Need-cast-c Inv-loop μ-loop
 cast-c c =
     let entry = c .before .before .before .before .before .before .before .before in
     omega (arith, c .label .ensures, good-label (held-good (entry .pre .held) (c .before .before .loop-test .taken)))
 
--- src/blocks.rt:41:14
 add-plan : tie.Need-add-plan Inv-loop μ-loop
 add-plan c =
     let entry = c .before .before .before .before .before .before .before .before in
     omega (arith, entry .pre .held .kept .few, c .before .before .loop-test .taken)
 
--- src/blocks.rt:41:9
 mul-plan : tie.Need-mul-plan Inv-loop μ-loop
 mul-plan c =
     let entry = c .before .before .before .before .before .before .before .before in
     omega (arith, entry .pre .held .kept .few, c .before .before .loop-test .taken)
 
--- src/blocks.rt:41:9
 slice-write-plan-5 : tie.Need-slice-write-plan-5 Inv-loop μ-loop
 slice-write-plan-5 c =
     let entry = c .before .before .before .before .before .before .before .before in
     omega (arith, c .before .before .loop-test .taken, c .before .before .before .loop .inv .long, head-length (entry .args .plan .now) (entry .args .m) (length (entry .args .symbols .now)) (entry .args .shapes) (entry .args .total), plan-room (entry .pre))
 
--- src/blocks.rt:42:9
 write-row-requires : tie.Need-write-row-requires Inv-loop μ-loop
 write-row-requires c κs =
     let entry = c .before .before .before .before .before .before .before .before .before in
-    row-writable (entry .pre) (c .before .before .before .before .loop .inv) (c .before .before .before .loop-test .taken) (head-length (entry .args .plan .now) (entry .args .m) (length (entry .args .symbols .now)) (entry .args .shapes) (entry .args .total)) _ (c .before .label .ensures)
+    row-writable (entry .pre) (c .before .before .before .before .loop .inv) (c .before .before .before .loop-test .taken)
+    (head-length (entry .args .plan .now) (entry .args .m) (length (entry .args .symbols .now)) (entry .args .shapes) (entry .args .total))
+    _ (c .before .label .ensures)
 
--- src/blocks.rt:43:9
 add-i : tie.Need-add-i Inv-loop μ-loop
 add-i c = search needs
 
--- src/blocks.rt:39:5
 loop-less : tie.Need-loop-less Inv-loop μ-loop
 loop-less c = search needs
 
--- src/blocks.rt:39:5
 loop-again : tie.Need-loop-again Inv-loop μ-loop
 loop-again c =
     let entry = c .before .before .before .before .before .before .before .before .before .before .before .before in
     let at-loop = c .before .before .before .before .before .before .before .loop in
     let at-loop-test = c .before .before .before .before .before .before .loop-test in
-    planned-on (at-loop .inv) (at-loop-test .taken) (held-good (entry .pre .held) (at-loop-test .taken)) _ (c .before .before .before .before .label .ensures) _ _ (c .before .before .write-row .ensures)
+    planned-on (at-loop .inv) (at-loop-test .taken) (held-good (entry .pre .held) (at-loop-test .taken)) _
+    (c .before .before .before .before .label .ensures) _ _ (c .before .before .write-row .ensures)
 
--- src/blocks.rt:28:1
 same-length : tie.Need-same-length Inv-loop μ-loop
 same-length c =
     let entry = c .before .before .before .before .before .before in
-    c .before .loop .inv .long ∙ head-length (entry .args .plan .now) (entry .args .m) (length (entry .args .symbols .now)) (entry .args .shapes) (entry .args .total)
+    c .before .loop .inv .long
+    ∙ head-length (entry .args .plan .now) (entry .args .m) (length (entry .args .symbols .now)) (entry .args .shapes) (entry .args .total)
 
--- src/blocks.rt:28:1
 returns : tie.Need-returns Inv-loop μ-loop
 returns c =
     let entry = c .before .before .before .before .before .before in

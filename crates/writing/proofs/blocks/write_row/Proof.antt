@@ -11,80 +11,72 @@ use Rattle.writing.proofs.blocks.write_row.Lts as lts
 use Rattle.writing.proofs.blocks.write_block.Reads as write-block-reads
 
 abbrev Inv-loop : tie.InvT-loop
-Inv-loop tab symbols shapes scratch m state root at plan₀ starts here₀ f₀ plan here f = Rowed tab shapes scratch m (state .0) symbols starts at plan₀ plan here f
+Inv-loop tab symbols shapes scratch m state root at plan₀ starts here₀ f₀ plan here f =
+    Rowed tab shapes scratch m (state .0) symbols starts at plan₀ plan here f
 
 abbrev μ-loop : tie.MeasureT-loop
 μ-loop tab symbols shapes scratch m state root at plan₀ starts here₀ f₀ plan here f = length symbols - f
 
--- src/blocks.rt:53:18
 add-starts : tie.Need-add-starts Inv-loop μ-loop
 add-starts c = omega (arith, c .before .before .before .before .pre .held .kept .few)
 
--- src/blocks.rt:53:26
 mul-starts : tie.Need-mul-starts Inv-loop μ-loop
 mul-starts c =
     let entry = c .before .before .before .before .before in
     omega (arith, entry .pre .starts, entry .pre .word)
 
--- src/blocks.rt:53:18
 add-starts-2 : tie.Need-add-starts-2 Inv-loop μ-loop
 add-starts-2 c =
     let entry = c .before .before .before .before .before in
     omega (arith, entry .pre .starts, entry .pre .word)
 
--- src/blocks.rt:56:5
 loop-holds : tie.Need-loop-holds Inv-loop μ-loop
 loop-holds c = rowed-begin
 
--- src/blocks.rt:57:28
 cast-plan : tie.Need-cast-plan Inv-loop μ-loop
 cast-plan c =
     let entry = c .before .before .before .before .before .before .before in
     omega (arith, rowed-room (c .before .loop .inv) (c .loop-test .taken), entry .pre .word)
 
--- src/blocks.rt:57:14
 add-plan : tie.Need-add-plan Inv-loop μ-loop
 add-plan c =
     let entry = c .before .before .before .before .before .before .before in
     omega (arith, c .loop-test .taken, entry .pre .starts, entry .pre .word)
 
--- src/blocks.rt:57:9
 mul-plan : tie.Need-mul-plan Inv-loop μ-loop
 mul-plan c =
     let entry = c .before .before .before .before .before .before .before in
     omega (arith, c .loop-test .taken, entry .pre .starts, entry .pre .word)
 
--- src/blocks.rt:57:9
 slice-write-plan : tie.Need-slice-write-plan Inv-loop μ-loop
 slice-write-plan c =
     let entry = c .before .before .before .before .before .before .before in
     omega (arith, rowed-room (c .before .loop .inv) (c .loop-test .taken), c .before .loop .inv .past, c .before .loop .inv .long, c .loop-test .taken, entry .pre .starts, entry .pre .room)
 
--- src/blocks.rt:58:9
 write-block-requires : tie.Need-write-block-requires Inv-loop μ-loop
 write-block-requires c κs =
-    let entry = c .before .before .before .before .before .before .before .before in
-    (entry .pre .held .kept, on-symbol (entry .pre .held) (entry .pre .inside) _ _ (entry .pre .label) (c .before .loop-test .taken), entry .pre .small, rowed-fits (c .before .before .loop .inv) (c .before .loop-test .taken) (entry .pre .room))
+    let entry = c .before .before .before .before .before .before .before .before in (
+      entry .pre .held .kept,
+      on-symbol (entry .pre .held) (entry .pre .inside) _ _ (entry .pre .label) (c .before .loop-test .taken),
+      entry .pre .small,
+      rowed-fits (c .before .before .loop .inv) (c .before .loop-test .taken) (entry .pre .room),
+    )
 
--- src/blocks.rt:59:9
 add-f : tie.Need-add-f Inv-loop μ-loop
 add-f c = search needs
 
--- src/blocks.rt:56:5
 loop-less : tie.Need-loop-less Inv-loop μ-loop
 loop-less c = search needs
 
--- src/blocks.rt:56:5
 loop-again : tie.Need-loop-again Inv-loop μ-loop
 loop-again c =
     let entry = c .before .before .before .before .before .before .before .before .before .before .before in
-    rowed-on (c .before .before .before .before .before .loop .inv) (c .before .before .before .before .loop-test .taken) (entry .pre .starts) _ _ (c .before .before .write-block .ensures)
+    rowed-on (c .before .before .before .before .before .loop .inv) (c .before .before .before .before .loop-test .taken)
+    (entry .pre .starts) _ _ (c .before .before .write-block .ensures)
 
--- src/blocks.rt:48:1
 same-length : tie.Need-same-length Inv-loop μ-loop
 same-length c = c .before .loop .inv .long
 
--- src/blocks.rt:48:1
 returns : tie.Need-returns Inv-loop μ-loop
 returns c = rowed-end (c .before .loop .inv) (c .loop-test .left)
 

@@ -14,81 +14,72 @@ use Rattle.classes.proofs.members.put_class.Reads as put-class-reads
 use Rattle.deriving.proofs.lift.lift_class.Reads as lift-class-reads
 use Rattle.states.proofs.keeping.find_state.Reads as find-state-reads
 
--- src/blocks.rt:207:41
 slice-aggregate-put-class : tie.Need-slice-aggregate-put-class
 slice-aggregate-put-class c = search needs
 
--- src/blocks.rt:207:13
 put-class-requires : tie.Need-put-class-requires
 put-class-requires c κs =
     let entry = c .before .before .before .before in
     (entry .pre .1, entry .pre .2, class-room (entry .pre .1) (entry .args .r))
 
--- src/blocks.rt:209:26
 slice-aggregate-lift-class : tie.Need-slice-aggregate-lift-class
 slice-aggregate-lift-class c = search needs
 
--- src/blocks.rt:209:37
 slice-aggregate-lift-class-2 : tie.Need-slice-aggregate-lift-class-2
 slice-aggregate-lift-class-2 c = search needs
 
--- src/blocks.rt:209:9
 lift-class-requires : tie.Need-lift-class-requires
 lift-class-requires c κs =
     let entry = c .before .before .before .before .before .before .before .before in
     let at-put-class = c .before .before .before .put-class in
     omega (arith, class-count (entry .pre .1) (entry .args .r) _ _ _ (at-put-class .ensures), entry .pre .3, at-put-class .kept .1 .1 .1 .1 .0)
 
--- src/blocks.rt:210:39
 slice-aggregate-find-state : tie.Need-slice-aggregate-find-state
 slice-aggregate-find-state c = search needs
 
--- src/blocks.rt:210:16
 find-state-requires : tie.Need-find-state-requires
 find-state-requires c κs =
     let entry = c .before .before .before .before .before .before .before .before .before .before .before in
-    let at-put-class = c .before .before .before .before .before .before .put-class in
-    (entry .pre .0, omega (arith, class-count (entry .pre .1) (entry .args .r) _ _ _ (at-put-class .ensures), entry .pre .3), omega (arith, class-count (entry .pre .1) (entry .args .r) _ _ _ (at-put-class .ensures), entry .pre .3, c .before .before .lift-class .kept .1 .1 .0))
+    let at-put-class = c .before .before .before .before .before .before .put-class in (
+      entry .pre .0,
+      omega (arith, class-count (entry .pre .1) (entry .args .r) _ _ _ (at-put-class .ensures), entry .pre .3),
+      omega (arith, class-count (entry .pre .1) (entry .args .r) _ _ _ (at-put-class .ensures), entry .pre .3, c .before .before .lift-class .kept .1 .1 .0),
+    )
 
--- src/blocks.rt:210:16
 cast-plan : tie.Need-cast-plan
 cast-plan c =
     let entry = c .before .before .before .before .before .before .before .before .before .before .before .before in
     omega (arith, place-small (entry .pre .0) _ _ (c .find-state .ensures))
 
--- src/blocks.rt:210:5
 mul-plan : tie.Need-mul-plan
 mul-plan c = search needs
 
--- src/blocks.rt:210:5
 slice-write-plan : tie.Need-slice-write-plan
 slice-write-plan c = search needs
 
--- src/blocks.rt:211:10
 add-plan : tie.Need-add-plan
 add-plan c = search needs
 
--- src/blocks.rt:211:5
 mul-plan-2 : tie.Need-mul-plan-2
 mul-plan-2 c = search needs
 
--- src/blocks.rt:211:5
 slice-write-plan-2 : tie.Need-slice-write-plan-2
 slice-write-plan-2 c =
     let entry = c .before .before .before .before .before .before .before .before .before .before .before .before in
     omega (arith, entry .pre .4, length-set (entry .args .plan .now) (entry .args .at) (c .find-state .result))
 
--- src/blocks.rt:193:1
 same-length : tie.Need-same-length
 same-length c = search needs
 
--- src/blocks.rt:193:1
 returns : tie.Need-returns
 returns c =
     let entry = c .before .before .before .before .before .before .before .before .before .before .before .before in
     let at-put-class = c .before .before .before .before .before .before .before .put-class in
-    let w = successor-is (entry .pre .1) (entry .args .r) _ _ _ _ _ _ (at-put-class .ensures) refl (entry .pre .3) (c .before .before .before .lift-class .ensures) refl (entry .args .scratch .now) (entry .args .m) _ (c .find-state .ensures) in
-    two-stores (entry .args .plan .now) (entry .args .at) _ _ ∙ ap₂ (λ x y. sets (entry .args .plan .now) (entry .args .at) (x ∷ y ∷ [])) (w .0) (w .1)
+    let w =
+    successor-is (entry .pre .1) (entry .args .r) _ _ _ _ _ _ (at-put-class .ensures) refl (entry .pre .3)
+    (c .before .before .before .lift-class .ensures) refl (entry .args .scratch .now) (entry .args .m) _ (c .find-state .ensures) in
+    two-stores (entry .args .plan .now) (entry .args .at) _ _
+    ∙ ap₂ (λ x y. sets (entry .args .plan .now) (entry .args .at) (x ∷ y ∷ [])) (w .0) (w .1)
 
 pub write-successor-spec : {M : Type 1} → statement M
 write-successor-spec =
