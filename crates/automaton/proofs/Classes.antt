@@ -4,7 +4,6 @@
 --   Class class-is class-lead          a class, by the place of its first goal
 --   class-sub class-at class-has class-some   its goals are goals of the list; which ones; there is one
 --   class-closed                       what depends on a goal of a class is in it
---   dependent-place dependent-sym      Dependent goals stand in the list, and the other way round too
 --   class-unique class-of              each goal that depends on itself is in exactly one class
 --   classes-one classes-none           of the classes one passes a test, or none does
 use mathlib.Core.Path.{_≡_, refl, ap, sym, _∙_}
@@ -25,9 +24,9 @@ use Rattle.kinds.proofs.Sums.{sum-map, sum-perm, sum-zero}
 use Rattle.kinds.proofs.Pairwise.{Pairwise}
 use Rattle.kinds.proofs.Places.{on-in, at-below, at-some, getD-at}
 use Rattle.automaton.specs.Goals.{Goal, State, Calculus}
-use Rattle.automaton.specs.Classes.{Square, entry, picked, leads, rowsFrom, dep, Dependent, direct, via, closed, classBefore, classes}
+use Rattle.automaton.specs.Classes.{Square, cell, picked, leads, rowsFrom, dep, Dependent, closed, classBefore, classes}
 use Rattle.automaton.specs.Walking.{one}
-use Rattle.automaton.proofs.Closure.{dep-sym, dependent-closed}
+use Rattle.automaton.proofs.Closure.{direct, dependent-place, dependent-join, dependent-sym, dependent-closed}
 
 -- ---- the goals of a row
 module _ {A : Type 0} where
@@ -95,10 +94,10 @@ row-in (x ∷ m) i (suc l) {r} e t = go (leads i x) (row-in m (suc i) l e (rw (�
     go true a = there a
     go false a = a
 
-on-entry {κ} : {C : Type κ} (m : Square) (i j : ℕ) → entry m i j ≡ true → ((r : List Bool) → getElem? m i ≡ some r → getD r j false ≡ true → C) → C
-on-entry [] i j e k = absurd (false≢true e)
-on-entry (r ∷ m) zero j e k = k r refl e
-on-entry (r ∷ m) (suc i) j e k = on-entry m i j e k
+on-cell {κ} : {C : Type κ} (m : Square) (i j : ℕ) → cell m i j ≡ true → ((r : List Bool) → getElem? m i ≡ some r → getD r j false ≡ true → C) → C
+on-cell [] i j e k = absurd (false≢true e)
+on-cell (r ∷ m) zero j e k = k r refl e
+on-cell (r ∷ m) (suc i) j e k = on-cell m i j e k
 
 -- the first number that passes a test
 record Least (f : ℕ → Bool) (n : ℕ) : Type 0 where
@@ -117,14 +116,6 @@ least f (suc n) = go (least f n) (test (f n))
     go (inl z) (inr t) = inl (λ m h. ⊎-elim (λ (e : m ≡ n). rw e t) (λ (l : m < n). z m l) (eq-or-lt-of-le (le-of-suc-le-suc h)))
 
 module _ {O : Type 0} (K : Calculus O) where
-  pub dependent-sym : (s : State O) {i j : ℕ} → Dependent K s i j → Dependent K s j i
-  dependent-sym s (direct {g = g} {h = h} a b t) = direct b a (dep-sym K g h t)
-  dependent-sym s (via d e) = via (dependent-sym s e) (dependent-sym s d)
-
-  pub dependent-place : (s : State O) {i j : ℕ} → Dependent K s i j → (i < length s) × (j < length s)
-  dependent-place s (direct {i} {j} a b t) = (at-below s i a, at-below s j b)
-  dependent-place s (via d e) = ((dependent-place s d) .0, (dependent-place s e) .1)
-
   -- a class: the row of its first goal
   pub record Class (s k : State O) : Type 0 where
     pub lead : ℕ
@@ -146,14 +137,14 @@ module _ {O : Type 0} (K : Calculus O) where
   class-sub s k m = let c = class-is s k m in rw (c .is) (picked-in (c .row) s)
 
   module _ (s k : State O) (c : Class s k) where
-    row-entry : (j : ℕ) → entry (closed K s) (c .lead) j ≡ getD (c .row) j false
-    row-entry j = ap (λ r. getD r j false) (getD-at (closed K s) (c .lead) [] (c .is-row))
+    row-cell : (j : ℕ) → cell (closed K s) (c .lead) j ≡ getD (c .row) j false
+    row-cell j = ap (λ r. getD r j false) (getD-at (closed K s) (c .lead) [] (c .is-row))
 
     row-yes : (j : ℕ) → getD (c .row) j false ≡ true → Dependent K s (c .lead) j
-    row-yes j e = (dependent-closed K s (c .lead) j) .0 (row-entry j ∙ e)
+    row-yes j e = (dependent-closed K s (c .lead) j) .0 (row-cell j ∙ e)
 
     yes-row : (j : ℕ) → Dependent K s (c .lead) j → getD (c .row) j false ≡ true
-    yes-row j d = sym (row-entry j) ∙ (dependent-closed K s (c .lead) j) .1 d
+    yes-row j d = sym (row-cell j) ∙ (dependent-closed K s (c .lead) j) .1 d
 
     pub class-lead : Dependent K s (c .lead) (c .lead)
     class-lead = row-yes (c .lead) ((leads-at (c .lead) (c .row) (c .begins)) .0)
@@ -167,14 +158,14 @@ module _ {O : Type 0} (K : Calculus O) where
     class-has j a d = rw (c .is) (picked-of (c .row) s j a (yes-row j d))
 
     pub class-some : (g : Goal O) × (g ∈ k)
-    class-some = let g = at-some s (c .lead) ((dependent-place s class-lead) .0) in (g .0, class-has (c .lead) (g .1) class-lead)
+    class-some = let g = at-some s (c .lead) ((dependent-place K s class-lead) .0) in (g .0, class-has (c .lead) (g .1) class-lead)
 
   pub class-closed : (s k : State O) → k ∈ classes K s → (g h : Goal O) → g ∈ k → h ∈ s → dep K g h ≡ true → h ∈ k
   class-closed s k m g h gk hs t =
       let c = class-is s k m in
       class-at s k c gk λ i a d.
       on-in hs λ j b.
-      class-has s k c j b (via d (direct a b t))
+      class-has s k c j b (dependent-join K s d (direct K s a b t))
 
   -- nothing before the first goal of a class is in it
   lead-first : (s k : State O) (c : Class s k) (m : ℕ) → m < c .lead → Dependent K s (c .lead) m → ⊥
@@ -185,21 +176,21 @@ module _ {O : Type 0} (K : Calculus O) where
   class-unique s k k′ c c′ j d e = go (order (c .lead) (c′ .lead))
     where
       there : Dependent K s (c .lead) (c′ .lead)
-      there = via d (dependent-sym s e)
+      there = dependent-join K s d (dependent-sym K s e)
 
       go : Order (c .lead) (c′ .lead) → c .lead ≡ c′ .lead
-      go (less h) = absurd (lead-first s k′ c′ (c .lead) h (dependent-sym s there))
+      go (less h) = absurd (lead-first s k′ c′ (c .lead) h (dependent-sym K s there))
       go (equal e) = e
       go (more h) = absurd (lead-first s k c (c′ .lead) h there)
 
   -- a goal that depends on itself is in a class
   pub class-of {κ} : {C : Type κ} (s : State O) (j : ℕ) → Dependent K s j j → ((k : State O) (c : Class s k) → k ∈ classes K s → Dependent K s (c .lead) j → C) → C
-  class-of {C = C} s j d f = ⊎-elim (λ z. absurd (false≢true (sym (z j ((dependent-place s d) .0)) ∙ (dependent-closed K s j j) .1 d))) go (least (entry (closed K s) j) (length s))
+  class-of {C = C} s j d f = ⊎-elim (λ z. absurd (false≢true (sym (z j ((dependent-place K s d) .0)) ∙ (dependent-closed K s j j) .1 d))) go (least (cell (closed K s) j) (length s))
     where
-      go : Least (entry (closed K s) j) (length s) → C
-      go l = on-entry (closed K s) (l .at) (l .at) ((dependent-closed K s (l .at) (l .at)) .1 (via (dependent-sym s to) to)) λ r a t.
+      go : Least (cell (closed K s) j) (length s) → C
+      go l = on-cell (closed K s) (l .at) (l .at) ((dependent-closed K s (l .at) (l .at)) .1 (dependent-join K s (dependent-sym K s to) to)) λ r a t.
           let c : Class s (picked r s) = record { lead = l .at; row = r; is-row = a; begins = leads-of (l .at) r t (no-less r a); is = refl } in
-          f (picked r s) c (is-class s (picked r s) c) (dependent-sym s to)
+          f (picked r s) c (is-class s (picked r s) c) (dependent-sym K s to)
         where
           to : Dependent K s j (l .at)
           to = (dependent-closed K s j (l .at)) .0 (l .passes)
@@ -210,8 +201,8 @@ module _ {O : Type 0} (K : Calculus O) where
               go′ : (b : Bool) → getD r m false ≡ b → getD r m false ≡ false
               go′ false e = e
               go′ true e =
-                  let y : entry (closed K s) (l .at) m ≡ true = ap (λ x. getD x m false) (getD-at (closed K s) (l .at) [] a) ∙ e in
-                  let u : entry (closed K s) j m ≡ true = (dependent-closed K s j m) .1 (via to ((dependent-closed K s (l .at) m) .0 y)) in
+                  let y : cell (closed K s) (l .at) m ≡ true = ap (λ x. getD x m false) (getD-at (closed K s) (l .at) [] a) ∙ e in
+                  let u : cell (closed K s) j m ≡ true = (dependent-closed K s j m) .1 (dependent-join K s to ((dependent-closed K s (l .at) m) .0 y)) in
                   absurd (false≢true (sym (l .before m h) ∙ u))
 
 -- exactly one of the rows that begin a class passes a test

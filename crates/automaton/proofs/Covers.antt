@@ -20,10 +20,11 @@ use Rattle.kinds.specs.Members.{_∈_, here}
 use Rattle.kinds.proofs.Places.{at-in, on-in}
 use Rattle.kinds.proofs.Prefixes.{_≼_, ≼-refl, ≼-trans, comparable, below-cases, snoc-not, prefix-is, below-prefix}
 use Rattle.automaton.specs.Goals.{Calculus, Goal, State, has, allObs, label, deriv}
-use Rattle.automaton.specs.Classes.{dep, Dependent, direct, via, classes}
+use Rattle.automaton.specs.Classes.{dep, Dependent, classes}
 use Rattle.automaton.specs.Bare.{fresh}
 use Rattle.automaton.specs.Walking.{Setting, calculus, covers, one}
 use Rattle.automaton.proofs.Classes.{Class, class-sub, class-at, class-has, class-of, class-unique, classes-one, classes-none}
+use Rattle.automaton.proofs.Closure.{direct, dependent-join}
 use Rattle.automaton.proofs.Derivative.{Owes, owes, on-owes, new-in, From, old, under, from}
 use Rattle.automaton.proofs.Sound.{Sound, SoundState}
 use Rattle.automaton.proofs.Apart.{label-owes, child-below}
@@ -43,7 +44,7 @@ module _ (S : Setting) where
   share g h o a b = any-of (λ y. has K y (h .obs)) a (any-of (λ y. same o y) b (same-refl o))
 
   self : (d : State Pos) → Sound S d → (j : ℕ) (g : Goal Pos) → getElem? d j ≡ some g → Dependent K d j j
-  self d w j g a = let o = w .owing g (at-in d j a) in direct a a (share g g (o .0) (o .1) (o .1))
+  self d w j g a = let o = w .owing g (at-in d j a) in direct K d a a (share g g (o .0) (o .1) (o .1))
 
   pub class-owing {κ} : {C : Type κ} (d : State Pos) → Sound S d → (g : Goal Pos) → g ∈ d → ((k : State Pos) → k ∈ classes K d → g ∈ k → C) → C
   class-owing d w g m f = on-in m λ j a. class-of K d j (self d w j g a) λ k c i e. f k i (class-has K d k c j a e)
@@ -67,7 +68,7 @@ module _ (S : Setting) where
               let x = owes (at-in d j aj) b in
               let x′ = owes (at-in d j′ aj′) b′ in
               let e : o ≡ o′ = ⊎-elim (λ (z : o ≼ o′). w .apart o o′ x x′ z) (λ (z : o′ ≼ o). sym (w .apart o′ o x′ x z)) (comparable h h′) in
-              class-unique K d k′ k c′ c j′ dj′ (via dj (direct aj aj′ (share g g′ o b (rw e b′))))
+              class-unique K d k′ k c′ c j′ dj′ (dependent-join K d dj (direct K d aj aj′ (share g g′ o b (rw e b′))))
 
       go : (b : Bool) → covers d q ≡ b → one (covers d q) ≡ sum (map (λ k. one (covers k q)) (classes K d))
       go true e = rw e (sym (some-class e))

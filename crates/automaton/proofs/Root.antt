@@ -14,14 +14,16 @@ use native.Mathlib.Omega.{arith}
 use native.Mathlib.Decide.{decLe}
 use lib.ListN.{length, getElem?}
 use Rattle.kinds.specs.Lists.{same}
+use Rattle.kinds.specs.Chains.{one, via}
 use Rattle.kinds.specs.Positions.{Pos, commonPrefix}
 use Rattle.kinds.proofs.Members.{on-any, same-is}
 use Rattle.kinds.specs.Members.{_∈_, here, there}
 use Rattle.kinds.proofs.Places.{at-in, at-some}
 use Rattle.kinds.proofs.Prefixes.{_≼_, ≼-refl, ≼-trans, ≼-same, ≼-antisym, comparable, common-left, common-right, common-least}
 use Rattle.automaton.specs.Goals.{Goal, State, Calculus, has}
-use Rattle.automaton.specs.Classes.{dep, Dependent, direct, via, classes, gcpFrom, gcp}
-use Rattle.automaton.proofs.Classes.{Class, class-is, class-at, class-has, class-some, dependent-sym, dependent-place}
+use Rattle.automaton.specs.Classes.{dep, Dependent, classes, gcpFrom, gcp}
+use Rattle.automaton.proofs.Classes.{Class, class-is, class-at, class-has, class-some}
+use Rattle.automaton.proofs.Closure.{dependent-join, dependent-sym}
 
 module _ {O : Type 0} where
   gcpFrom-start : (s : State O) (p : Pos) → p ≼ gcpFrom p s
@@ -102,13 +104,13 @@ module _ {O : Type 0} (K : Calculus O) where
   -- where m is no longer than any announcement that depends on goal i, all these are below m
   all-below : (s : State O) → AllBelow s → (m : Pos) {i j : ℕ} → Dependent K s i j → (g : Goal O) → getElem? s i ≡ some g → g .ann ≼ m
       → ((y : ℕ) (h : Goal O) → Dependent K s i y → getElem? s y ≡ some h → length m ≤ length (h .ann)) → (h : Goal O) → getElem? s j ≡ some h → h .ann ≼ m
-  all-below s low m (direct {i} {j} {g = x} {h = y} a b t) g ag u l h ah =
-      let xg : x ≡ g = cc (a, ag) in
-      let yh : y ≡ h = cc (b, ah) in
-      near m g h (low g (at-in s i ag)) (low h (at-in s j ah)) (rw (xg, yh) at t) u (l j h (direct a b t) ah)
-  all-below s low m (via {m = mid} d e) g ag u l h ah =
-      let x = at-some s mid ((dependent-place K s e) .0) in
-      all-below s low m e (x .0) (x .1) (all-below s low m d g ag u l (x .0) (x .1)) (λ y z c. l y z (via d c)) h ah
+  all-below s low m (one {i} {j} d) g ag u l h ah =
+      let xg : d .g ≡ g = cc (d .at-i, ag) in
+      let yh : d .h ≡ h = cc (d .at-j, ah) in
+      near m g h (low g (at-in s i ag)) (low h (at-in s j ah)) (rw (xg, yh) at (d .shares)) u (l j h (one d) ah)
+  all-below s low m (via {m = mid} b d e) g ag u l h ah =
+      let x = at-some s mid b in
+      all-below s low m e (x .0) (x .1) (all-below s low m d g ag u l (x .0) (x .1)) (λ y z c. l y z (via b d c)) h ah
 
   pub class-top : (s : State O) → AllBelow s → (k : State O) → k ∈ classes K s → Top k
   class-top s low k m = let c = class-is K s k m in top c (short-of ((class-some K s k c) .1))
@@ -120,8 +122,8 @@ module _ {O : Type 0} (K : Calculus O) where
           below g gk =
               class-at K s k c (b .inside) λ i ai di.
               class-at K s k c gk λ j aj dj.
-              all-below s low (b .goal .ann) (via (dependent-sym K s di) dj) (b .goal) ai (≼-refl (b .goal .ann))
-              (λ y h d ah. b .least h (class-has K s k c y ah (via di d))) g aj
+              all-below s low (b .goal .ann) (dependent-join K s (dependent-sym K s di) dj) (b .goal) ai (≼-refl (b .goal .ann))
+              (λ y h d ah. b .least h (class-has K s k c y ah (dependent-join K s di d))) g aj
 
   pub gcp-shortest : (s : State O) → AllBelow s → (k : State O) → k ∈ classes K s → (g : Goal O) → g ∈ k → ((h : Goal O) → h ∈ k → length (g .ann) ≤ length (h .ann)) → gcp k ≡ g .ann
   gcp-shortest s low k m g i sh =

@@ -1,6 +1,7 @@
 -- Partitioning and lifting: document 000, sections 4.3 and 4.4.
 --   dep           direct dependency: "mo₁ R mo₂ iff pos(mo₁) ∩ pos(mo₂) ≠ ∅"
---   Dependent     "the dependency relation, the transitive closure of R", between the goals at two places of a list
+--   Direct        R between the goals at two places of a list
+--   Dependent     "the dependency relation, the transitive closure of R"
 --   square        "kept as a square of yes and no, one row for each goal"
 --   close         "closed under going through a third"
 --   closed        the square of a derivative, closed: it says yes exactly where two goals are Dependent
@@ -19,14 +20,15 @@ use lib.Dec.{eqb}
 use lib.ListN.{length, getD, getElem?}
 use Rattle.kinds.specs.Lists.{same, any, all, sort, range}
 use Rattle.kinds.specs.Positions.{Pos, before, commonPrefix, strip}
+use Rattle.kinds.specs.Chains.{Chain}
 use Rattle.automaton.specs.Goals.{Goal, State, Calculus, has, first, allObs}
 
 abbrev pub Square : Type 0
 Square = List (List Bool)
 
--- the entry at row i, column j
-abbrev pub entry : Square → ℕ → ℕ → Bool
-entry m i j = getD (getD m i []) j false
+-- what stands in row i and column j
+abbrev pub cell : Square → ℕ → ℕ → Bool
+cell m i j = getD (getD m i []) j false
 
 abbrev pub ors : List Bool → List Bool → List Bool
 ors [] r = r
@@ -69,9 +71,15 @@ module _ {O : Type 0} (K : Calculus O) where
   abbrev pub dep : Goal O → Goal O → Bool
   dep g h = any (λ o. has K (K .at o) (h .obs)) (g .obs)
 
-  pub data Dependent (s : State O) : ℕ → ℕ → Type 0 where
-    direct : {i j : ℕ} {g h : Goal O} → getElem? s i ≡ some g → getElem? s j ≡ some h → dep g h ≡ true → Dependent s i j
-    via : {i m j : ℕ} → Dependent s i m → Dependent s m j → Dependent s i j
+  pub record Direct (s : State O) (i j : ℕ) : Type 0 where
+    pub g : Goal O
+    pub h : Goal O
+    pub at-i : getElem? s i ≡ some g
+    pub at-j : getElem? s j ≡ some h
+    pub shares : dep g h ≡ true
+
+  abbrev pub Dependent : State O → ℕ → ℕ → Type 0
+  Dependent s = Chain (length s) (Direct s)
 
   abbrev pub square : State O → Square
   square s = map (λ g. map (dep g) s) s

@@ -20,7 +20,8 @@ leads-no row i j h l e =
     let d : i - j ≡ suc (i - (j + 1)) = omega arith in
     ap₂ leads d (drop-cons row j false h) ∙ rw e refl
 
-pub leads-next : (row : List Bool) (i j : ℕ) → j < length row → j < i → getD row j false ≡ false → leads (i - j) (drop j row) ≡ leads (i - (j + 1)) (drop (j + 1) row)
+pub leads-next : (row : List Bool) (i j : ℕ) → j < length row → j < i → getD row j false ≡ false
+    → leads (i - j) (drop j row) ≡ leads (i - (j + 1)) (drop (j + 1) row)
 leads-next row i j h l e =
     let d : i - j ≡ suc (i - (j + 1)) = omega arith in
     ap₂ leads d (drop-cons row j false h) ∙ rw (e, add-one j) refl
@@ -41,7 +42,8 @@ pick-on row ws at n j h l e =
     let d : n - j - 1 ≡ n - (j + 1) = omega arith in
     ap₂ (λ r gs. flat (pickedW r gs)) (drop-cons row j false l) (goals-next ws at (n - j) (omega arith)) ∙ rw (e, d, add-one j) refl
 
-pub pick-off : (row : List Bool) (ws : List ℕ) (at n j : ℕ) → j < n → j < length row → getD row j false ≡ false → Left row ws at n j ≡ Left row ws (at + 3) n (j + 1)
+pub pick-off : (row : List Bool) (ws : List ℕ) (at n j : ℕ) → j < n → j < length row → getD row j false ≡ false
+    → Left row ws at n j ≡ Left row ws (at + 3) n (j + 1)
 unfolding pickedW
 pick-off row ws at n j h l e =
     let d : n - j - 1 ≡ n - (j + 1) = omega arith in
@@ -49,7 +51,8 @@ pick-off row ws at n j h l e =
 
 pub pick-end : (row : List Bool) (ws : List ℕ) (at n j : ℕ) → n ≤ j → Left row ws at n j ≡ []
 unfolding flat
-pick-end row ws at n j h = ap (λ gs. flat (pickedW (drop j row) gs)) (goals-end ws at (n - j) (omega arith)) ∙ ap flat (picked-none (drop j row))
+pick-end row ws at n j h =
+    ap (λ gs. flat (pickedW (drop j row) gs)) (goals-end ws at (n - j) (omega arith)) ∙ ap flat (picked-none (drop j row))
 
 pub pick-all : (row : List Bool) (ws : List ℕ) (n : ℕ) → flat (pickedW row (goalsFrom ws 0 n)) ≡ Left row ws 0 n 0
 pick-all row ws n = rw (sub-zero n) refl

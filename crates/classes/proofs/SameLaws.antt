@@ -54,7 +54,8 @@ module _ (hs : List GoalWords) (ws : List ℕ) (at k : ℕ) where
   within-end h = ap (λ gs. withinW gs hs) (goals-end ws at k h)
 
 -- one word of a copy
-pub copy-next : (ws out : List ℕ) (at n i : ℕ) → i < n → at + n ≤ length ws → sets out i (take (n - i) (drop (at + i) ws)) ≡ sets (set out i (getD ws (at + i) 0)) (i + 1) (take (n - (i + 1)) (drop (at + (i + 1)) ws))
+pub copy-next : (ws out : List ℕ) (at n i : ℕ) → i < n → at + n ≤ length ws
+    → sets out i (take (n - i) (drop (at + i) ws)) ≡ sets (set out i (getD ws (at + i) 0)) (i + 1) (take (n - (i + 1)) (drop (at + (i + 1)) ws))
 copy-next ws out at n i h l =
     let e : n - i ≡ suc (n - (i + 1)) = omega arith in
     let d : at + (i + 1) ≡ suc (at + i) = omega arith in
@@ -64,7 +65,8 @@ pub copy-end : (ws out : List ℕ) (at n i : ℕ) → n ≤ i → sets out i (ta
 copy-end ws out at n i h = let e : n - i ≡ 0 = omega arith in rw e refl
 
 -- goals read from words that agree
-pub goals-same : (xs ys : List ℕ) (a b k : ℕ) → ((i : ℕ) → i < 3 * k → getD xs (a + i) 0 ≡ getD ys (b + i) 0) → goalsFrom xs a k ≡ goalsFrom ys b k
+pub goals-same : (xs ys : List ℕ) (a b k : ℕ) → ((i : ℕ) → i < 3 * k → getD xs (a + i) 0 ≡ getD ys (b + i) 0)
+    → goalsFrom xs a k ≡ goalsFrom ys b k
 unfolding goalsFrom
 goals-same xs ys a b zero h = refl
 goals-same xs ys a b (suc k) h =
@@ -73,7 +75,8 @@ goals-same xs ys a b (suc k) h =
     (λ i. record { sh = z i; an = h 1 (omega arith) i; mask = h 2 (omega arith) i })
     (goals-same xs ys (a + 3) (b + 3) k (λ i l. ap (λ n. getD xs n 0) (add-assoc a 3 i) ∙ h (3 + i) (omega arith) ∙ ap (λ n. getD ys n 0) (sym (add-assoc b 3 i))))
 
-pub copied : (ws out : List ℕ) (at n k : ℕ) → n ≡ 3 * k → at + n ≤ length ws → n ≤ length out → goalsFrom (sets out 0 (take n (drop at ws))) 0 k ≡ goalsFrom ws at k
+pub copied : (ws out : List ℕ) (at n k : ℕ) → n ≡ 3 * k → at + n ≤ length ws → n ≤ length out
+    → goalsFrom (sets out 0 (take n (drop at ws))) 0 k ≡ goalsFrom ws at k
 copied ws out at n k e l m = goals-same _ ws 0 at k (λ i h.
     let len : length (take n (drop at ws)) ≡ n = length-take-le n (drop at ws) (rw (length-drop at ws) (omega arith)) in
     ap (λ j. getD (sets out 0 (take n (drop at ws))) j 0) (zero-add i)

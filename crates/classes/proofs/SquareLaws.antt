@@ -9,13 +9,13 @@ use native.Mathlib.Nat.{eq-or-lt-of-le}
 use native.Mathlib.Decide.{ℕ-discrete}
 use lib.ListN.{length, getD, set, length-set}
 use lib.Seq.{getD-set-same, getD-set-other}
-use Rattle.classes.specs.Squares.{cell, Square, Reach, one, via}
-use Rattle.classes.specs.Links.{Linked, near, over}
+use Rattle.automaton.specs.Classes.{Square, cell}
+use Rattle.classes.specs.Squares.{IsSquare, RowFilled, RowsFilled}
 
-abbrev pub store : List (List Bool) → ℕ → ℕ → Bool → List (List Bool)
+abbrev pub store : Square → ℕ → ℕ → Bool → Square
 store d i j v = set d i (set (getD d i []) j v)
 
-module _ (d : List (List Bool)) (i j : ℕ) (v : Bool) (hi : i < 96) (hj : j < 96) (sq : Square 96 d) where
+module _ (d : Square) (i j : ℕ) (v : Bool) (hi : i < 96) (hj : j < 96) (sq : IsSquare 96 d) where
   pub store-same : cell (store d i j v) i j ≡ v
   store-same =
       ap (λ r. getD r j false) (getD-set-same d i (set (getD d i []) j v) [] (rw (sq .rows) hi))
@@ -30,26 +30,22 @@ module _ (d : List (List Bool)) (i j : ℕ) (v : Bool) (hi : i < 96) (hj : j < 9
           ∙ getD-set-other (getD d i []) j b v false (λ z. ne e z))
       go (no n) = ap (λ r. getD r b false) (getD-set-other d i a (set (getD d i []) j v) [] n)
 
-  pub store-square : Square 96 (store d i j v)
+  pub store-square : IsSquare 96 (store d i j v)
   store-square = record {
     rows = length-set d i (set (getD d i []) j v) ∙ sq .rows;
     cols = λ a h. go a h (ℕ-discrete a i);
   }
     where
       go : (a : ℕ) → a < 96 → Dec (a ≡ i) → length (getD (store d i j v) a []) ≡ 96
-      go a h (yes e) = rw e (ap length (getD-set-same d i (set (getD d i []) j v) [] (rw (sq .rows) hi)) ∙ length-set (getD d i []) j v ∙ sq .cols i hi)
+      go a h (yes e) =
+          rw e (ap length (getD-set-same d i (set (getD d i []) j v) [] (rw (sq .rows) hi)) ∙ length-set (getD d i []) j v ∙ sq .cols i hi)
       go a h (no n) = ap length (getD-set-other d i a (set (getD d i []) j v) [] n) ∙ sq .cols a h
 
--- row i holds p below j, and nothing else is changed from e
-pub record RowIs (i : ℕ) (p : ℕ → Bool) (e d : List (List Bool)) (j : ℕ) : Type 0 where
-  pub square : Square 96 d
-  pub row : (b : ℕ) → b < j → cell d i b ≡ p b
-  pub others : (a b : ℕ) → (a ≡ i → ⊥) → cell d a b ≡ cell e a b
-
-pub row-none : (i : ℕ) (p : ℕ → Bool) (e : List (List Bool)) → Square 96 e → RowIs i p e e 0
+pub row-none : (i : ℕ) (p : ℕ → Bool) (e : Square) → IsSquare 96 e → RowFilled i p e e 0
 row-none i p e sq = record { square = sq; row = λ b h. absurd (omega arith); others = λ a b n. refl }
 
-pub row-more : (i : ℕ) (p : ℕ → Bool) (e d : List (List Bool)) (j : ℕ) (v : Bool) → i < 96 → j < 96 → RowIs i p e d j → v ≡ p j → RowIs i p e (store d i j v) (j + 1)
+pub row-more : (i : ℕ) (p : ℕ → Bool) (e d : Square) (j : ℕ) (v : Bool) → i < 96 → j < 96 → RowFilled i p e d j → v ≡ p j
+    → RowFilled i p e (store d i j v) (j + 1)
 row-more i p e d j v hi hj r w = record {
   square = store-square d i j v hi hj (r .square);
   row = λ b h. go b h (ℕ-discrete b j);
@@ -60,28 +56,15 @@ row-more i p e d j v hi hj r w = record {
     go b h (yes z) = rw z (store-same d i j v hi hj (r .square) ∙ w)
     go b h (no n) = store-other d i j v hi hj (r .square) i b (λ _ z. n z) ∙ r .row b (omega (arith, n))
 
--- the rows below i hold p
-pub record RowsAre (n : ℕ) (p : ℕ → ℕ → Bool) (d : List (List Bool)) (i : ℕ) : Type 0 where
-  pub square : Square 96 d
-  pub rows : (a b : ℕ) → a < i → b < n → cell d a b ≡ p a b
-
-pub rows-none : (n : ℕ) (p : ℕ → ℕ → Bool) (d : List (List Bool)) → Square 96 d → RowsAre n p d 0
+pub rows-none : (n : ℕ) (p : ℕ → ℕ → Bool) (d : Square) → IsSquare 96 d → RowsFilled n p d 0
 rows-none n p d sq = record { square = sq; rows = λ a b h g. absurd (omega arith) }
 
-pub rows-more : (n : ℕ) (p : ℕ → ℕ → Bool) (d x : List (List Bool)) (i : ℕ) → RowsAre n p d i → Square 96 x
-    → ((b : ℕ) → b < n → cell x i b ≡ p i b) → ((a b : ℕ) → (a ≡ i → ⊥) → cell x a b ≡ cell d a b) → RowsAre n p x (i + 1)
-rows-more n p d x i r sq row others = record { square = sq; rows = λ a b h g. go a b h g (ℕ-discrete a i) }
+pub rows-more : (n : ℕ) (p : ℕ → ℕ → Bool) (d x : Square) (i : ℕ) → RowsFilled n p d i → RowFilled i (p i) d x n → RowsFilled n p x (i + 1)
+rows-more n p d x i r f = record { square = f .square; rows = λ a b h g. go a b h g (ℕ-discrete a i) }
   where
     go : (a b : ℕ) → a < i + 1 → b < n → Dec (a ≡ i) → cell x a b ≡ p a b
-    go a b h g (yes z) = rw z (row b g)
-    go a b h g (no z) = others a b z ∙ r .rows a b (omega (arith, z)) g
+    go a b h g (yes z) = rw z (f .row b g)
+    go a b h g (no z) = f .others a b z ∙ r .rows a b (omega (arith, z)) g
 
--- chains of entries are chains of the test
-module _ (n : ℕ) (p : ℕ → ℕ → Bool) (d : List (List Bool)) (is : (a b : ℕ) → a < n → b < n → cell d a b ≡ p a b) where
-  pub reach-linked : {a b : ℕ} → a < n → b < n → Reach n d a b → Linked n p a b
-  reach-linked {a} {b} ha hb (one e) = near (sym (is a b ha hb) ∙ e)
-  reach-linked {a} {b} ha hb (via {m = c} hc x y) = over hc (reach-linked ha hc x) (reach-linked hc hb y)
-
-  pub linked-reach : {a b : ℕ} → a < n → b < n → Linked n p a b → Reach n d a b
-  linked-reach {a} {b} ha hb (near e) = one (is a b ha hb ∙ e)
-  linked-reach {a} {b} ha hb (over {c = c} hc x y) = via hc (linked-reach ha hc x) (linked-reach hc hb y)
+pub rows-all : {n : ℕ} {p : ℕ → ℕ → Bool} {d : Square} {i : ℕ} → RowsFilled n p d i → n ≤ i → RowsFilled n p d n
+rows-all r h = record { square = r .square; rows = λ a b ha hb. r .rows a b (omega arith) hb }

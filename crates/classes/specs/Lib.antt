@@ -1,2 +1,1 @@
 pub mod Squares
-pub mod Links

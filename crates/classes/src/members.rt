@@ -5,15 +5,15 @@ ghost use mathlib.Core.Bool.{false};
 ghost use mathlib.Core.List.{[]};
 ghost use Prim.Native.Nat.{ℕ, _+_, _*_, _<_, _≤_};
 ghost use lib.ListN.{length, getD};
-ghost use lib.Seq.{sets};
 ghost use Rattle.automaton.specs.Classes.{leads};
-ghost use Rattle.goals.specs.GoalWords.{goalsFrom, flat};
-ghost use Rattle.goals.specs.WordStages.{pickedW};
-ghost use Rattle.classes.specs.Squares.{Square};
+ghost use Rattle.goals.specs.GoalWords.{flat};
+ghost use Rattle.classes.specs.Squares.{IsSquare, Squared};
+ghost use Rattle.deriving.specs.Orders.{classAt};
+ghost use Rattle.deriving.specs.Passes.{PutsFirst};
 
 // Is the first yes of row i at its own place?
 pub fn leader(dep: &[[bool; 96]; 96], i: usize) -> bool
-    requires { ⌜ (i < 96) × Square 96 (now dep) ⌝ }
+    requires { ⌜ (i < 96) × IsSquare 96 (now dep) ⌝ }
     ensures { λ r. ⌜ r ≡ leads i (getD (now (dep .entry)) i []) ⌝ }
 {
     let mut j = 0;
@@ -28,9 +28,8 @@ pub fn leader(dep: &[[bool; 96]; 96], i: usize) -> bool
 
 // The goals of row i, of n goals, into `out`; answers the words written.
 pub fn put_class(dep: &[[bool; 96]; 96], i: usize, ws: &[u16], n: usize, out: &mut [u16]) -> usize
-    requires { ⌜ (n ≤ 96) × (i < 96) × Square 96 (now dep) × (3 * n ≤ length (now ws)) × (length (flat (pickedW (getD (now dep) i []) (goalsFrom (now ws) 0 n))) ≤ length (now out)) ⌝ }
-    ensures next { λ r. ⌜ r ≡ length (flat (pickedW (getD (now (dep .entry)) i []) (goalsFrom (now (ws .entry)) 0 n))) ⌝ }
-    ensures wrote { λ r. ⌜ now (out .exit) ≡ sets (now (out .entry)) 0 (flat (pickedW (getD (now (dep .entry)) i []) (goalsFrom (now (ws .entry)) 0 n))) ⌝ }
+    requires { ⌜ Squared (now ws) n (now dep) × (i < 96) × (length (flat (classAt (now dep) (now ws) n i)) ≤ length (now out)) ⌝ }
+    ensures { λ r. ⌜ PutsFirst (flat (classAt (now (dep .entry)) (now (ws .entry)) n i)) r (now (out .entry)) (now (out .exit)) ⌝ }
 {
     let mut next = 0;
     let mut here = 0;

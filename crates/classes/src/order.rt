@@ -1,17 +1,17 @@
 use crate::members::leader;
 use deriving::sorting::arrange;
+use goals::NO_CODE;
 use goals::obligations::first_owed;
 use goals::obligations::padded;
 use goals::words::goal_at;
 ghost use mathlib.Core.Path.{_≡_};
-ghost use Prim.Native.Nat.{ℕ, _+_, _*_, _<_, _≤_};
-ghost use lib.Dec.{ltb};
+ghost use Prim.Native.Nat.{ℕ, _<_, _≤_};
 ghost use lib.ListN.{length};
-ghost use lib.Seq.{sets};
-ghost use Rattle.kinds.specs.Lists.{gather, sort};
-ghost use Rattle.goals.specs.GoalWords.{Tabled, goalAt, owedBy, firstCode};
-ghost use Rattle.classes.specs.Squares.{Square};
+ghost use Rattle.kinds.specs.Lists.{gather};
+ghost use Rattle.goals.specs.GoalWords.{owedBy, noCode, firstCode, Stored};
+ghost use Rattle.classes.specs.Squares.{IsSquare};
 ghost use Rattle.deriving.specs.Orders.{classAt, leadItems};
+ghost use Rattle.deriving.specs.Passes.{Arranged};
 
 // The classes of n goals in their order: for each 128 times the padded code of its first obligation position and the row that begins it.
 // Answers how many.
@@ -22,9 +22,8 @@ pub fn class_order(
     dep: &[[bool; 96]; 96],
     items: &mut [u32],
 ) -> usize
-    requires { ⌜ Tabled (now tab) × (n ≤ 96) × (3 * n ≤ length (now ws)) × ((j : ℕ) → j < n → (goalAt (now ws) (3 * j)) .sh < 16) × Square 96 (now dep) × (n ≤ length (now items)) ⌝ }
-    ensures count { λ k. ⌜ k ≡ length (leadItems (now (tab .entry)) (now (dep .entry)) (now (ws .entry)) n) ⌝ }
-    ensures wrote { λ k. ⌜ now (items .exit) ≡ sets (now (items .entry)) 0 (sort ltb (leadItems (now (tab .entry)) (now (dep .entry)) (now (ws .entry)) n)) ⌝ }
+    requires { ⌜ Stored (now tab) (now ws) 0 n × IsSquare 96 (now dep) × (n ≤ length (now items)) ⌝ }
+    ensures { λ k. ⌜ Arranged (leadItems (now (tab .entry)) (now (dep .entry)) (now (ws .entry)) n) k (now (items .entry)) (now (items .exit)) ⌝ }
 {
     let mut k = 0;
     let mut i = 0;
@@ -39,12 +38,12 @@ pub fn class_order(
     k
 }
 
-// The first obligation position of the goals that row i says yes to, as a code; 65535 where they have none.
+// The first obligation position of the goals that row i says yes to, as a code; NO_CODE where they have none.
 fn first_in_row(tab: &[u16], ws: &[u16], n: usize, dep: &[[bool; 96]; 96], i: usize) -> u32
-    requires { ⌜ Tabled (now tab) × (n ≤ 96) × (3 * n ≤ length (now ws)) × ((j : ℕ) → j < n → (goalAt (now ws) (3 * j)) .sh < 16) × Square 96 (now dep) × (i < 96) ⌝ }
-    ensures { λ r. ⌜ r ≡ firstCode 65535 (gather (owedBy (now (tab .entry))) (classAt (now (dep .entry)) (now (ws .entry)) n i)) ⌝ }
+    requires { ⌜ Stored (now tab) (now ws) 0 n × IsSquare 96 (now dep) × (i < 96) ⌝ }
+    ensures { λ r. ⌜ r ≡ firstCode noCode (gather (owedBy (now (tab .entry))) (classAt (now (dep .entry)) (now (ws .entry)) n i)) ⌝ }
 {
-    let mut best: u32 = 65535;
+    let mut best: u32 = NO_CODE;
     let mut j = 0;
     while j < n {
         if dep[i][j] {

@@ -6,11 +6,11 @@ ghost use Prim.Native.Nat.{ℕ, _+_, _*_, _<_, _≤_};
 ghost use lib.ListN.{length, take, drop};
 ghost use lib.Seq.{sets};
 ghost use Rattle.goals.specs.GoalWords.{goalsFrom};
-ghost use Rattle.goals.specs.GoalKinds.{wordsOf};
+ghost use Rattle.goals.specs.GoalKinds.{asWords};
 ghost use Rattle.goals.specs.WordStages.{sameW, amongW, withinW, sameStateW};
 
 fn same_goal(g: Goal, h: Goal) -> bool
-    ensures { λ r. ⌜ r ≡ sameW (wordsOf g) (wordsOf h) ⌝ }
+    ensures { λ r. ⌜ r ≡ sameW (asWords g) (asWords h) ⌝ }
 {
     if g.shape.0 != h.shape.0 {
         return false;
@@ -24,7 +24,7 @@ fn same_goal(g: Goal, h: Goal) -> bool
 // Does a goal stand among the k goals from `at` on?
 fn among(g: Goal, vs: &[u16], at: usize, k: usize) -> bool
     requires { ⌜ (k ≤ 96) × (at + 3 * k ≤ length (now vs)) ⌝ }
-    ensures { λ r. ⌜ r ≡ amongW (wordsOf g) (goalsFrom (now (vs .entry)) at k) ⌝ }
+    ensures { λ r. ⌜ r ≡ amongW (asWords g) (goalsFrom (now (vs .entry)) at k) ⌝ }
 {
     let mut here = at;
     let mut left = k;

@@ -17,7 +17,7 @@ use Rattle.kinds.specs.Lists.{any, same}
 use Rattle.kinds.specs.Positions.{Pos, code, decode}
 use Rattle.decoding.proofs.LabelDecoded.{Fit}
 use Rattle.decoding.proofs.GoalDecoded.{Fine, owed-is}
-use Rattle.decoding.specs.Decoding.{select, shapeAt, goalOf, TableOf}
+use Rattle.decoding.specs.Decoding.{select, shapeAt, goalMeant, TableOf}
 use Rattle.goals.specs.GoalWords.{GoalWords, owedBy}
 use Rattle.goals.specs.WordStages.{hasCode, sharing, depW}
 use Rattle.term.specs.Places.{dom}
@@ -52,10 +52,12 @@ sharing-is (p ∷ ps) qs fp fq = ap₂ (λ x y. x || y) (has-code p qs both) (sh
     both x (here e) = fp x (here e)
     both x (there m) = fq x m
 
-pub fit-obs : (shapes : List Term) (g : GoalWords) → Fine shapes g → Fit (goalOf shapes g .obs)
-fit-obs shapes g fine q m = on-map (λ r. decode (g .an) ++ r) (select (g .mask) (dom (shapeAt shapes (g .sh)))) m λ r k d. rw d (fine .fit r k)
+pub fit-obs : (shapes : List Term) (g : GoalWords) → Fine shapes g → Fit (goalMeant shapes g .obs)
+fit-obs shapes g fine q m =
+    on-map (λ r. decode (g .an) ++ r) (select (g .mask) (dom (shapeAt shapes (g .sh)))) m λ r k d. rw d (fine .fit r k)
 
-pub dep-is : (shapes : List Term) (tab : List ℕ) → ((s : ℕ) → s < length shapes → TableOf tab s (shapeAt shapes s)) → (g h : GoalWords) → Fine shapes g → Fine shapes h → depW tab g h ≡ dep (bare shapes) (goalOf shapes g) (goalOf shapes h)
+pub dep-is : (shapes : List Term) (tab : List ℕ) → ((s : ℕ) → s < length shapes → TableOf tab s (shapeAt shapes s)) → (g h : GoalWords)
+    → Fine shapes g → Fine shapes h → depW tab g h ≡ dep (bare shapes) (goalMeant shapes g) (goalMeant shapes h)
 dep-is shapes tab tables g h fg fh =
     ap₂ sharing (owed-is shapes tab tables g fg) (owed-is shapes tab tables h fh)
-    ∙ sharing-is (goalOf shapes g .obs) (goalOf shapes h .obs) (fit-obs shapes g fg) (fit-obs shapes h fh)
+    ∙ sharing-is (goalMeant shapes g .obs) (goalMeant shapes h .obs) (fit-obs shapes g fg) (fit-obs shapes h fh)

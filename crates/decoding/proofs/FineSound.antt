@@ -39,24 +39,25 @@ use Rattle.automaton.proofs.Apart.{label-owes}
 use Rattle.automaton.proofs.Reachable.{deriv-sound}
 use Rattle.automaton.proofs.Classes.{picked-in}
 use Rattle.goals.specs.GoalWords.{GoalWords, nodeAt, labelCode}
-use Rattle.goals.specs.WordStages.{stays, moves, reduct, goesOn, withMask, freshW, freshesW, bornW, derivW, pickedW, closedW, classBeforeW, classesW}
-use Rattle.decoding.specs.Decoding.{shapeAt, goalOf, stateOf}
+use Rattle.goals.specs.WordStages.{stays, moves, reduct, goesOn, withMask, freshW, freshesW, bornW, derivW, pickedW, closedW, classBeforeW, classesW, unexpected}
+use Rattle.decoding.specs.Decoding.{shapeAt, goalMeant, stateMeant, codesEnd}
 use Rattle.decoding.specs.GoodStates.{Ready, settingOf, GoodState}
 use Rattle.decoding.proofs.GoalDecoded.{Fine}
 use Rattle.decoding.proofs.Goalwise.{goal-apart}
 use Rattle.decoding.proofs.LabelDecoded.{rootObs, label-is}
 use Rattle.decoding.proofs.DerivDecoded.{deriv-is}
 use Rattle.decoding.proofs.ReductDecoded.{Reduct, missed, cut, reduct-is}
+use Rattle.kinds.specs.Limits.{blankWord}
 
 pub record Bounded (shapes : List Term) (gs : List GoalWords) : Type 0 where
-  pub code : (g : GoalWords) → g ∈ gs → g .an < 78125
+  pub code : (g : GoalWords) → g ∈ gs → g .an < codesEnd
   pub mask : (g : GoalWords) → g ∈ gs → g .mask < 2 ^ span (shapeAt shapes (g .sh))
 
 pub bounded-within : (shapes : List Term) (gs hs : List GoalWords) → hs ⊆ gs → Bounded shapes gs → Bounded shapes hs
 bounded-within shapes gs hs i b = record { code = λ g m. b .code g (i g m); mask = λ g m. b .mask g (i g m) }
 
 pub record GoodFor {ar tab : List ℕ} {n : ℕ} (r : Ready ar tab n) (gs : List GoalWords) : Type 0 where
-  pub sound : SoundState (settingOf r) (stateOf (r .shapes) gs)
+  pub sound : SoundState (settingOf r) (stateMeant (r .shapes) gs)
   pub few : length gs ≤ 32
   pub bounded : Bounded (r .shapes) gs
 
@@ -67,34 +68,37 @@ pub for-good : {ar tab : List ℕ} {n : ℕ} (r : Ready ar tab n) (gs : List Goa
 for-good r gs w = record { ready = r; sound = w .sound; few = w .few; code = w .bounded .code; mask = w .bounded .mask }
 
 -- ---- past the shapes stands a blank, which fits
-shape-fits : (ar : List ℕ) (shapes : List Term) → ((i : ℕ) (t : Term) → getElem? shapes i ≡ some t → IsShape ar t) → (s : ℕ) → Fits ar 65535 (shapeAt shapes s)
+shape-fits : (ar : List ℕ) (shapes : List Term) → ((i : ℕ) (t : Term) → getElem? shapes i ≡ some t → IsShape ar t) → (s : ℕ)
+    → Fits ar blankWord (shapeAt shapes s)
 shape-fits ar [] h s = omega arith
 shape-fits ar (t ∷ ts) h zero = h 0 t refl .fits
 shape-fits ar (t ∷ ts) h (suc s) = shape-fits ar ts (λ i u e. h (suc i) u e) s
 
 module _ {ar tab : List ℕ} {n : ℕ} (r : Ready ar tab n) where
-  pub sound-fine : (gs : List GoalWords) → Sound (settingOf r) (stateOf (r .shapes) gs) → Bounded (r .shapes) gs → (g : GoalWords) → g ∈ gs → Fine (r .shapes) g
+  pub sound-fine : (gs : List GoalWords) → Sound (settingOf r) (stateMeant (r .shapes) gs) → Bounded (r .shapes) gs → (g : GoalWords)
+      → g ∈ gs → Fine (r .shapes) g
   sound-fine gs w b g m = record {
     shape = at-below (r .shapes) (g .sh) (real .is-shape);
     small = b .code g m;
     bits = b .mask g m;
-    low = rw (getD-at (r .shapes) (g .sh) (blank 65535) (real .is-shape)) (r .is-shape (g .sh) (real .shape) (real .is-shape) .small);
+    low = rw (getD-at (r .shapes) (g .sh) (blank blankWord) (real .is-shape)) (r .is-shape (g .sh) (real .shape) (real .is-shape) .small);
     fit = λ q i. let s = w .small (decode (g .an) ++ q) (owes inside (map-in (λ x. decode (g .an) ++ x) i)) in (s .digits, s .short);
     apart = goal-apart (r .shapes) g alone;
   }
     where
-      inside : goalOf (r .shapes) g ∈ stateOf (r .shapes) gs
-      inside = map-in (goalOf (r .shapes)) m
+      inside : goalMeant (r .shapes) g ∈ stateMeant (r .shapes) gs
+      inside = map-in (goalMeant (r .shapes)) m
 
-      real : Real (settingOf r) (goalOf (r .shapes) g) (w .owing (goalOf (r .shapes) g) inside .0)
-      real = let o = w .owing (goalOf (r .shapes) g) inside in w .real (goalOf (r .shapes) g) inside (o .0) (o .1)
+      real : Real (settingOf r) (goalMeant (r .shapes) g) (w .owing (goalMeant (r .shapes) g) inside .0)
+      real = let o = w .owing (goalMeant (r .shapes) g) inside in w .real (goalMeant (r .shapes) g) inside (o .0) (o .1)
 
-      alone : (p c : Pos) → p ∈ goalOf (r .shapes) g .obs → (p ++ c) ∈ goalOf (r .shapes) g .obs → c ≡ []
-      alone p c i j = append-same p c [] (w .apart (p ++ c) p (owes inside j) (owes inside i) (record { by = c; eq = refl }) ∙ sym (append-nil p))
+      alone : (p c : Pos) → p ∈ goalMeant (r .shapes) g .obs → (p ++ c) ∈ goalMeant (r .shapes) g .obs → c ≡ []
+      alone p c i j =
+          append-same p c [] (w .apart (p ++ c) p (owes inside j) (owes inside i) (record { by = c; eq = refl }) ∙ sym (append-nil p))
 
   module _ (gs : List GoalWords) (good : GoodFor r gs) where
     abbrev S : State Pos
-    S = stateOf (r .shapes) gs
+    S = stateMeant (r .shapes) gs
 
     abbrev L : Pos
     L = label (bare (r .shapes)) S
@@ -109,7 +113,9 @@ module _ {ar tab : List ℕ} {n : ℕ} (r : Ready ar tab n) where
     label-code = label-is (r .shapes) tab (r .tables) gs good-fine some-owed
       where
         inside : L ∈ rootObs (r .shapes) tab (r .tables) gs
-        inside = gather-in (λ g. g .obs) (filter-in (λ g. isRoot (g .ann)) (good .sound .root-in) (rw (good .sound .root-at))) (good .sound .label-owed)
+        inside =
+            gather-in (λ g. g .obs) (filter-in (λ g. isRoot (g .ann)) (good .sound .root-in) (rw (good .sound .root-at)))
+            (good .sound .label-owed)
 
         some-owed : rootObs (r .shapes) tab (r .tables) gs ≡ [] → ⊥
         some-owed e = let i : L ∈ [] = subst (λ os. L ∈ os) e inside in in-none i
@@ -125,24 +131,26 @@ module _ {ar tab : List ℕ} {n : ℕ} (r : Ready ar tab n) where
       abbrev D : List GoalWords
       D = derivW tab n (labelCode tab gs) f k gs
 
-      symbol : f < 65535
+      symbol : f < blankWord
       symbol = let h = at-below ar f a in let l = r .few-symbols in omega arith
 
       arity : (s : ℕ) (p : Pos) (ts : Terms) → sub (shapeAt (r .shapes) s) p ≡ some (node f ts) → count ts ≡ k
-      arity s p ts e = let h = fits-sub ar 65535 p (shapeAt (r .shapes) s) (shape-fits ar (r .shapes) (r .is-shape) s) e .1 in cc
+      arity s p ts e = let h = fits-sub ar blankWord p (shapeAt (r .shapes) s) (shape-fits ar (r .shapes) (r .is-shape) s) e .1 in cc
 
-      blanks : (s : ℕ) (p : Pos) (w : ℕ) → sub (shapeAt (r .shapes) s) p ≡ some (blank w) → 65535 ≤ w
-      blanks s p w e = fits-sub ar 65535 p (shapeAt (r .shapes) s) (shape-fits ar (r .shapes) (r .is-shape) s) e
+      blanks : (s : ℕ) (p : Pos) (w : ℕ) → sub (shapeAt (r .shapes) s) p ≡ some (blank w) → blankWord ≤ w
+      blanks s p w e = fits-sub ar blankWord p (shapeAt (r .shapes) s) (shape-fits ar (r .shapes) (r .is-shape) s) e
 
-      pub deriv-decoded : stateOf (r .shapes) D ≡ deriv (bare (r .shapes)) S f k
+      pub deriv-decoded : stateMeant (r .shapes) D ≡ deriv (bare (r .shapes)) S f k
       deriv-decoded =
-          ap₂ (λ m c. stateOf (r .shapes) (derivW tab m c f k gs)) (sym (r .count)) label-code
-          ∙ deriv-is (r .shapes) tab (r .tables) L (label-small .digits) (label-small .short) f k symbol (r .children f k a) arity blanks gs good-fine refl
+          ap₂ (λ m c. stateMeant (r .shapes) (derivW tab m c f k gs)) (sym (r .count)) label-code
+          ∙ deriv-is (r .shapes) tab (r .tables) L (label-small .digits) (label-small .short) f k symbol (r .children f k a) arity blanks gs
+          good-fine refl
 
       pub reduct-for : (g : GoalWords) → g ∈ gs → Reduct (r .shapes) g L f k (reduct tab (labelCode tab gs) f g)
       reduct-for g m =
           let s = label-small .short in
-          rw label-code (reduct-is (r .shapes) tab (r .tables) g (good-fine g m) L (label-small .digits) (omega arith) f k symbol (arity (g .sh)) (blanks (g .sh)))
+          rw label-code
+          (reduct-is (r .shapes) tab (r .tables) g (good-fine g m) L (label-small .digits) (omega arith) f k symbol (arity (g .sh)) (blanks (g .sh)))
 
       -- where a goal of the derivative comes from
       pub data FromWords (g : GoalWords) : Type 0 where
@@ -152,7 +160,9 @@ module _ {ar tab : List ℕ} {n : ℕ} (r : Ready ar tab n) where
 
       pub deriv-from : (g : GoalWords) → g ∈ D → FromWords g
       unfolding derivW
-      deriv-from g m = ⊎-elim (λ i. old i) (λ i. ⊎-elim (λ j. on j) (λ j. fresh-one j) (∈-append (gather (moves tab c f) gs) i)) (∈-append (gather (stays tab c) gs) m)
+      deriv-from g m =
+          ⊎-elim (λ i. old i) (λ i. ⊎-elim (λ j. on j) (λ j. fresh-one j) (∈-append (gather (moves tab c f) gs) i))
+          (∈-append (gather (stays tab c) gs) m)
         where
           c : ℕ
           c = labelCode tab gs
@@ -167,14 +177,15 @@ module _ {ar tab : List ℕ} {n : ℕ} (r : Ready ar tab n) where
           on : g ∈ gather (moves tab c f) gs → FromWords g
           on i = on-gather (moves tab c f) gs i λ h j e. move h j (reduct tab c f h) (reduct-for h j) e
             where
-              some-left : (h : GoalWords) (x : ℕ) → h ∈ gs → x < 2 ^ span (shapeAt (r .shapes) (h .sh)) → (b d : Bool) → g ∈ cond b [] (cond d (withMask h x ∷ []) []) → FromWords g
+              some-left : (h : GoalWords) (x : ℕ) → h ∈ gs → x < 2 ^ span (shapeAt (r .shapes) (h .sh)) → (b d : Bool)
+                  → g ∈ cond b [] (cond d (withMask h x ∷ []) []) → FromWords g
               some-left h x j l true d e = in-none e
               some-left h x j l false true e = moved h x j l (in-one e)
               some-left h x j l false false e = in-none e
 
               move : (h : GoalWords) → h ∈ gs → (x : ℕ) → Reduct (r .shapes) h L f k x → g ∈ goesOn x h → FromWords g
-              move h j x (missed z ne) e = let e′ : g ∈ goesOn 65536 h = subst (λ y. g ∈ goesOn y h) z e in in-none e′
-              move h j x (cut l ex is) e = some-left h x j l (eqb x 0) (ltb x 65536) e
+              move h j x (missed z ne) e = let e′ : g ∈ goesOn unexpected h = subst (λ y. g ∈ goesOn y h) z e in in-none e′
+              move h j x (cut l ex is) e = some-left h x j l (eqb x 0) (ltb x unexpected) e
 
           fresh-one : g ∈ bornW n c k → FromWords g
           fresh-one i =
@@ -187,7 +198,7 @@ module _ {ar tab : List ℕ} {n : ℕ} (r : Ready ar tab n) where
       pub deriv-bounded : Bounded (r .shapes) D
       deriv-bounded = record { code = λ g m. code-of (deriv-from g m); mask = λ g m. mask-of (deriv-from g m) }
         where
-          code-of : {g : GoalWords} → FromWords g → g .an < 78125
+          code-of : {g : GoalWords} → FromWords g → g .an < codesEnd
           code-of {g} (stayed i) = good .bounded .code g i
           code-of (moved h x i l e) = rw e (good .bounded .code h i)
           code-of (born i j l u w e) = let c = label-low in let d = r .children f k a in rw e (omega arith)
@@ -197,7 +208,7 @@ module _ {ar tab : List ℕ} {n : ℕ} (r : Ready ar tab n) where
           mask-of (moved h x i l e) = rw e l
           mask-of (born i j l u w e) = rw e (pow-lt (span-pos (shapeAt (r .shapes) j)))
 
-      pub deriv-goals-sound : Sound (settingOf r) (stateOf (r .shapes) D)
+      pub deriv-goals-sound : Sound (settingOf r) (stateMeant (r .shapes) D)
       deriv-goals-sound = subst (Sound (settingOf r)) (sym deriv-decoded) (deriv-sound (settingOf r) S (good .sound) f k a)
 
       pub deriv-fine : (g : GoalWords) → g ∈ D → Fine (r .shapes) g

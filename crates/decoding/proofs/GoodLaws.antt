@@ -28,8 +28,8 @@ use Rattle.automaton.specs.Goals.{initial}
 use Rattle.automaton.proofs.Sound.{SoundState}
 use Rattle.automaton.proofs.Reachable.{initial-sound}
 use Rattle.goals.specs.GoalWords.{GoalWords, Low, labelCode}
-use Rattle.goals.specs.WordStages.{freshW, freshesW, derivW, leastCode, liftW, classesW, outputsW}
-use Rattle.decoding.specs.Decoding.{shapeAt, goalOf, stateOf}
+use Rattle.goals.specs.WordStages.{freshW, freshesW, derivW, leastCode, liftW, classesW, outputsW, displacementW}
+use Rattle.decoding.specs.Decoding.{shapeAt, goalMeant, stateMeant}
 use Rattle.decoding.specs.GoodStates.{Ready, settingOf, GoodState}
 use Rattle.decoding.proofs.GoalDecoded.{Fine}
 use Rattle.decoding.proofs.Room.{deriv-room as room-of}
@@ -39,15 +39,16 @@ use Rattle.decoding.proofs.ClassLifted.{class-part, part-displaced, dis
 use Rattle.decoding.proofs.DerivDecoded.{fresh-is}
 
 -- ---- the beginning
-pub start-decoded : (shapes : List Term) → stateOf shapes (freshesW (length shapes) 0) ≡ initial (bare shapes)
+pub start-decoded : (shapes : List Term) → stateMeant shapes (freshesW (length shapes) 0) ≡ initial (bare shapes)
 start-decoded shapes =
-    map-map (goalOf shapes) (freshW 0) (range 0 (length shapes))
-    ∙ map-same (λ j. goalOf shapes (freshW 0 j)) (fresh []) (range 0 (length shapes)) (λ j m. fresh-is shapes 0 j ∙ ap (λ p. fresh p j) (decode-nil 7))
+    map-map (goalMeant shapes) (freshW 0) (range 0 (length shapes))
+    ∙ map-same (λ j. goalMeant shapes (freshW 0 j)) (fresh []) (range 0 (length shapes))
+    (λ j m. fresh-is shapes 0 j ∙ ap (λ p. fresh p j) (decode-nil 7))
 
 module _ {ar tab : List ℕ} {n : ℕ} (r : Ready ar tab n) where
   pub start-good : GoodFor r (freshesW n 0)
   start-good = record {
-    sound = subst (SoundState (settingOf r)) (sym (ap (λ m. stateOf (r .shapes) (freshesW m 0)) (sym (r .count)) ∙ start-decoded (r .shapes))) (initial-sound (settingOf r));
+    sound = subst (SoundState (settingOf r)) (sym (ap (λ m. stateMeant (r .shapes) (freshesW m 0)) (sym (r .count)) ∙ start-decoded (r .shapes))) (initial-sound (settingOf r));
     few = let e = length-map (range 0 n) (freshW 0) in let d = length-range 0 n in let h = r .few-shapes in omega arith;
     bounded = record {
       code = λ g m. on-map (freshW 0) (range 0 n) m λ j i e. rw e (omega arith);
@@ -57,7 +58,8 @@ module _ {ar tab : List ℕ} {n : ℕ} (r : Ready ar tab n) where
 
   low-of : (gs : List GoalWords) → ((g : GoalWords) → g ∈ gs → Fine (r .shapes) g) → Low gs
   low-of [] h = tt
-  low-of (g ∷ gs) h = (let a = h g (here refl) .shape in let b = r .count in let c = r .few-shapes in omega arith, low-of gs (λ x m. h x (there m)))
+  low-of (g ∷ gs) h =
+      (let a = h g (here refl) .shape in let b = r .count in let c = r .few-shapes in omega arith, low-of gs (λ x m. h x (there m)))
 
 pub good-start : {ar tab : List ℕ} {n : ℕ} → Ready ar tab n → GoodState ar tab n (freshesW n 0)
 good-start {n = n} r = for-good r (freshesW n 0) (start-good r)
@@ -73,8 +75,11 @@ module _ {ar tab : List ℕ} {n : ℕ} {gs : List GoalWords} (w : GoodState ar t
   label-back = let l = good-label in code-decode (labelCode tab gs) (omega arith)
 
   module _ (f k : ℕ) (a : getElem? ar f ≡ some k) where
-    pub good-next : (c : List GoalWords) → c ∈ classesW tab (derivW tab n (labelCode tab gs) f k gs) → length c ≤ 32 → GoodState ar tab n (map (liftW (leastCode 65535 c)) c)
-    good-next c m few = for-good (w .ready) (map (liftW (leastCode 65535 c)) c) (lifted-good (w .ready) c (class-part (w .ready) gs (good-for w) f k a c m) few)
+    pub good-next : (c : List GoalWords) → c ∈ classesW tab (derivW tab n (labelCode tab gs) f k gs) → length c ≤ 32
+        → GoodState ar tab n (map (liftW (displacementW c)) c)
+    good-next c m few =
+        for-good (w .ready) (map (liftW (displacementW c)) c)
+        (lifted-good (w .ready) c (class-part (w .ready) gs (good-for w) f k a c m) few)
 
     pub deriv-low : Low (derivW tab n (labelCode tab gs) f k gs)
     deriv-low = low-of (w .ready) (derivW tab n (labelCode tab gs) f k gs) (deriv-fine (w .ready) gs (good-for w) f k a)
@@ -87,13 +92,14 @@ module _ {ar tab : List ℕ} {n : ℕ} {gs : List GoalWords} (w : GoodState ar t
         let p : k * n ≤ 4 * n = mul-le-mul-right n (w .ready .children f k a) in
         omega (arith, h, l, s, p)
 
-    pub least-small : (c : List GoalWords) → c ∈ classesW tab (derivW tab n (labelCode tab gs) f k gs) → leastCode 65535 c ≤ 15624
+    pub least-small : (c : List GoalWords) → c ∈ classesW tab (derivW tab n (labelCode tab gs) f k gs) → displacementW c ≤ 15624
     least-small c m =
         let p = class-part (w .ready) gs (good-for w) f k a c m in
         rw (part-displaced (w .ready) c p) (small-code _ (displaced-small (w .ready) c p))
 
-    pub least-back : (c : List GoalWords) → c ∈ classesW tab (derivW tab n (labelCode tab gs) f k gs) → code (decode (leastCode 65535 c)) ≡ leastCode 65535 c
-    least-back c m = let l = least-small c m in code-decode (leastCode 65535 c) (omega arith)
+    pub least-back : (c : List GoalWords) → c ∈ classesW tab (derivW tab n (labelCode tab gs) f k gs)
+        → code (decode (displacementW c)) ≡ displacementW c
+    least-back c m = let l = least-small c m in code-decode (displacementW c) (omega arith)
 
   pub output-small : (f : ℕ) (g : GoalWords) → g ∈ outputsW tab (labelCode tab gs) f gs → g .an ≤ 15624
   output-small f g m =

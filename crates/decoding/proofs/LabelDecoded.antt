@@ -17,8 +17,8 @@ use Rattle.kinds.proofs.ListLaws.{map-append}
 use Rattle.kinds.specs.Lists.{filter, gather}
 use Rattle.kinds.specs.Positions.{Pos, before, code, decodeTo, decode}
 use Rattle.decoding.proofs.GoalDecoded.{Fine, owed-is}
-use Rattle.decoding.specs.Decoding.{select, shapeAt, goalOf, stateOf, TableOf}
-use Rattle.goals.specs.GoalWords.{GoalWords, owedBy, pad, firstCode, rootCodes, labelCode}
+use Rattle.decoding.specs.Decoding.{select, shapeAt, goalMeant, stateMeant, TableOf}
+use Rattle.goals.specs.GoalWords.{GoalWords, owedBy, pad, firstCode, rootCodes, labelCode, noCode}
 use Rattle.term.specs.Places.{dom}
 use Rattle.term.specs.Terms.{Term}
 
@@ -39,19 +39,21 @@ first-is p (q ∷ ps) f =
     skip g x (here e) = g x (here e)
     skip g x (there m) = g x (there (there m))
 
-    go : (t : Bool) → firstCode (code q) (map code ps) ≡ code (firstFrom (bare []) q ps) → firstCode (code p) (map code ps) ≡ code (firstFrom (bare []) p ps) → firstCode (cond t (code q) (code p)) (map code ps) ≡ code (firstFrom (bare []) (cond t q p) ps)
+    go : (t : Bool) → firstCode (code q) (map code ps) ≡ code (firstFrom (bare []) q ps)
+        → firstCode (code p) (map code ps) ≡ code (firstFrom (bare []) p ps)
+        → firstCode (cond t (code q) (code p)) (map code ps) ≡ code (firstFrom (bare []) (cond t q p) ps)
     go true x y = x
     go false x y = y
 
 -- the first of all, from a number above all codes
-pub first-from : (ps : List Pos) → Fit ps → (ps ≡ [] → ⊥) → firstCode 65535 (map code ps) ≡ code (first (bare []) ps)
+pub first-from : (ps : List Pos) → Fit ps → (ps ≡ [] → ⊥) → firstCode noCode (map code ps) ≡ code (first (bare []) ps)
 unfolding firstCode
 first-from [] f n = absurd (n refl)
 first-from (p ∷ ps) f n =
     let a = f p (here refl) in
     let v = pad-lt 6 p (λ d m. a .0 d m .1) in
-    let l : pad (code p) < 65535 = rw (pad-six p (a .0) (a .1)) (omega (arith, v)) in
-    ap (λ t. firstCode (cond t (code p) 65535) (map code ps)) (lt-ltb (pad (code p)) 65535 l) ∙ first-is p ps f
+    let l : pad (code p) < noCode = rw (pad-six p (a .0) (a .1)) (omega (arith, v)) in
+    ap (λ t. firstCode (cond t (code p) noCode) (map code ps)) (lt-ltb (pad (code p)) noCode l) ∙ first-is p ps f
 
 -- a code is the root's exactly if it is 0
 root-is : (c : ℕ) → isRoot (decode c) ≡ eqb c 0
@@ -65,7 +67,7 @@ root-is c = go (eqb c 0) (decodeTo 6 (c / 5))
 
 module _ (shapes : List Term) (tab : List ℕ) (tables : (s : ℕ) → s < length shapes → TableOf tab s (shapeAt shapes s)) where
   abbrev pub rootObs : List GoalWords → List Pos
-  rootObs gs = allObs (filter (λ g. isRoot (g .ann)) (stateOf shapes gs))
+  rootObs gs = allObs (filter (λ g. isRoot (g .ann)) (stateMeant shapes gs))
 
   roots-are : (gs : List GoalWords) → ((g : GoalWords) → g ∈ gs → Fine shapes g) → rootCodes tab gs ≡ map code (rootObs gs)
   unfolding rootCodes
@@ -75,21 +77,22 @@ module _ (shapes : List Term) (tab : List ℕ) (tables : (s : ℕ) → s < lengt
       ∙ go (isRoot (decode (g .an))) (owed-is shapes tab tables g (fine g (here refl))) (roots-are gs (λ h i. fine h (there i)))
     where
       rest : List (Goal Pos)
-      rest = filter (λ g. isRoot (g .ann)) (stateOf shapes gs)
+      rest = filter (λ g. isRoot (g .ann)) (stateMeant shapes gs)
 
-      go : (b : Bool) → owedBy tab g ≡ map code (goalOf shapes g .obs) → rootCodes tab gs ≡ map code (rootObs gs)
-          → cond b (owedBy tab g ++ rootCodes tab gs) (map code (rootObs gs)) ≡ map code (allObs (cond b (goalOf shapes g ∷ filter (λ g. isRoot (g .ann)) (stateOf shapes gs)) (filter (λ g. isRoot (g .ann)) (stateOf shapes gs))))
-      go true e i = ap₂ (λ xs ys. xs ++ ys) e i ∙ sym (map-append code (goalOf shapes g .obs) (rootObs gs))
+      go : (b : Bool) → owedBy tab g ≡ map code (goalMeant shapes g .obs) → rootCodes tab gs ≡ map code (rootObs gs)
+          → cond b (owedBy tab g ++ rootCodes tab gs) (map code (rootObs gs)) ≡ map code (allObs (cond b (goalMeant shapes g ∷ filter (λ g. isRoot (g .ann)) (stateMeant shapes gs)) (filter (λ g. isRoot (g .ann)) (stateMeant shapes gs))))
+      go true e i = ap₂ (λ xs ys. xs ++ ys) e i ∙ sym (map-append code (goalMeant shapes g .obs) (rootObs gs))
       go false e i = refl
 
   roots-fit : (gs : List GoalWords) → ((g : GoalWords) → g ∈ gs → Fine shapes g) → Fit (rootObs gs)
   roots-fit gs fine q m =
-      on-gather (λ g. g .obs) (filter (λ g. isRoot (g .ann)) (stateOf shapes gs)) m λ G i o.
-      on-map (goalOf shapes) gs (in-filter (λ g. isRoot (g .ann)) (stateOf shapes gs) i .0) λ g j e.
-      let o′ : q ∈ (goalOf shapes g .obs) = rw e at o in
+      on-gather (λ g. g .obs) (filter (λ g. isRoot (g .ann)) (stateMeant shapes gs)) m λ G i o.
+      on-map (goalMeant shapes) gs (in-filter (λ g. isRoot (g .ann)) (stateMeant shapes gs) i .0) λ g j e.
+      let o′ : q ∈ (goalMeant shapes g .obs) = rw e at o in
       on-map (λ r. decode (g .an) ++ r) (select (g .mask) (dom (shapeAt shapes (g .sh)))) o′ λ r k d.
       rw d (fine g j .fit r k)
 
   -- some goal that announces at the root has an obligation (S5): then the label's code is the label's
-  pub label-is : (gs : List GoalWords) → ((g : GoalWords) → g ∈ gs → Fine shapes g) → (rootObs gs ≡ [] → ⊥) → labelCode tab gs ≡ code (label (bare shapes) (stateOf shapes gs))
-  label-is gs fine some = ap (firstCode 65535) (roots-are gs fine) ∙ first-from (rootObs gs) (roots-fit gs fine) some
+  pub label-is : (gs : List GoalWords) → ((g : GoalWords) → g ∈ gs → Fine shapes g) → (rootObs gs ≡ [] → ⊥)
+      → labelCode tab gs ≡ code (label (bare shapes) (stateMeant shapes gs))
+  label-is gs fine some = ap (firstCode noCode) (roots-are gs fine) ∙ first-from (rootObs gs) (roots-fit gs fine) some

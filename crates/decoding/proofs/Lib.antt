@@ -10,7 +10,6 @@ pub mod DepDecoded
 pub mod LiftDecoded
 pub mod GcpDecoded
 pub mod Room
-pub mod ClosedDecoded
 pub mod TableFilled
 pub mod TableKids
 pub mod TableSeek

@@ -16,7 +16,7 @@ use Rattle.kinds.proofs.Codes.{Proper, codeFrom-append, code-join, decode-prope
 use Rattle.kinds.proofs.Prefixes.{strip-append}
 use Rattle.kinds.proofs.ListLaws.{map-map, map-same}
 use Rattle.kinds.specs.Positions.{Pos, code, codeFrom, strip, decode}
-use Rattle.decoding.specs.Decoding.{goalOf, select, shapeAt}
+use Rattle.decoding.specs.Decoding.{goalMeant, select, shapeAt, codesEnd}
 use Rattle.goals.specs.GoalWords.{GoalWords}
 use Rattle.goals.specs.WordStages.{underFrom, underCode, liftW}
 use Rattle.term.specs.Places.{dom}
@@ -48,7 +48,8 @@ climb (suc k) g c w (i ∷ r) h l =
     let b = back-le g r (proper-tail h) in
     let a = proper-head h in
     let d : (5 * back g r + i) / 5 ≡ back g r = omega arith in
-    let e : w * 5 * 5 ^ length r ≡ w * 5 ^ suc (length r) = mul-assoc w 5 (5 ^ length r) ∙ ap (λ x. w * x) (mul-comm 5 (5 ^ length r) ∙ sym (pow-suc 5 (length r))) in
+    let e : w * 5 * 5 ^ length r ≡ w * 5 ^ suc (length r) =
+    mul-assoc w 5 (5 ^ length r) ∙ ap (λ x. w * x) (mul-comm 5 (5 ^ length r) ∙ sym (pow-suc 5 (length r))) in
     rw (lt-ltb g (5 * back g r + i) (omega arith), d) (climb k g c (w * 5) r (proper-tail h) (omega arith) ∙ ap (λ x. c % x) e)
 
 code-lt : (q : Pos) → Proper q → (c d : ℕ) → c < d → codeFrom c q < d * 5 ^ length q
@@ -56,7 +57,8 @@ code-lt [] h c d l = rw (mul-one d) l
 code-lt (i ∷ q) h c d l =
     let u = proper-head h in
     let w = code-lt q (proper-tail h) (5 * c + i) (d * 5) (omega arith) in
-    let e : d * 5 * 5 ^ length q ≡ d * 5 ^ suc (length q) = mul-assoc d 5 (5 ^ length q) ∙ ap (λ x. d * x) (mul-comm 5 (5 ^ length q) ∙ sym (pow-suc 5 (length q))) in
+    let e : d * 5 * 5 ^ length q ≡ d * 5 ^ suc (length q) =
+    mul-assoc d 5 (5 ^ length q) ∙ ap (λ x. d * x) (mul-comm 5 (5 ^ length q) ∙ sym (pow-suc 5 (length q))) in
     rw (← e) w
 
 rev-append : (p q : Pos) → rev (p ++ q) ≡ rev q ++ rev p
@@ -69,7 +71,8 @@ rev-rev (i ∷ p) = rev-append (rev p) (i ∷ []) ∙ ap (λ x. i ∷ x) (rev-re
 
 proper-rev : (p : Pos) → Proper p → Proper (rev p)
 proper-rev [] h = proper-nil
-proper-rev (i ∷ p) h = proper-append (rev p) (i ∷ []) (proper-rev p (proper-tail h)) (proper-cons (proper-head h .0) (proper-head h .1) proper-nil)
+proper-rev (i ∷ p) h =
+    proper-append (rev p) (i ∷ []) (proper-rev p (proper-tail h)) (proper-cons (proper-head h .0) (proper-head h .1) proper-nil)
 
 length-rev : (p : Pos) → length (rev p) ≡ length p
 length-rev [] = refl
@@ -88,10 +91,12 @@ under-is G q h l =
     ∙ mul-add-mod-self-right (code G) (5 ^ length q) (code q) ∙ mod-eq-of-lt s
 
 -- a goal lifted in words is the goal lifted
-pub lift-is : (shapes : List Term) (G q : Pos) (g : GoalWords) → g .an < 78125 → decode (g .an) ≡ G ++ q → Proper q → length q ≤ 7 → goalOf shapes (liftW (code G) g) ≡ liftGoal (bare shapes) G (goalOf shapes g)
+pub lift-is : (shapes : List Term) (G q : Pos) (g : GoalWords) → g .an < codesEnd → decode (g .an) ≡ G ++ q → Proper q → length q ≤ 7
+    → goalMeant shapes (liftW (code G) g) ≡ liftGoal (bare shapes) G (goalMeant shapes g)
 lift-is shapes G q g small e h l =
     let a : g .an ≡ code (G ++ q) = sym (code-of 7 (g .an) small) ∙ ap code e in
-    let p : decode (underCode (code G) (g .an)) ≡ q = ap (λ x. decode (underCode (code G) x)) a ∙ ap decode (under-is G q h l) ∙ decode-proper q h l in
+    let p : decode (underCode (code G) (g .an)) ≡ q =
+    ap (λ x. decode (underCode (code G) x)) a ∙ ap decode (under-is G q h l) ∙ decode-proper q h l in
     let S = select (g .mask) (dom (shapeAt shapes (g .sh))) in
     ap (λ x. record { shape = g .sh; ann = x; obs = map (λ r. x ++ r) S }) p
     ∙ ap₂ (λ x y. record { shape = g .sh; ann = x; obs = y })

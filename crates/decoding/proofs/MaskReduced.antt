@@ -24,7 +24,8 @@ use Rattle.term.specs.Places.{dom, doms}
 use Rattle.term.specs.Terms.{count, Term, blank, node, Terms, tnil, tcons, span, spans}
 use Rattle.term.proofs.Subterms.{length-dom, length-doms}
 
-pub select-split {ℓ} : {A : Type ℓ} (xs ys : List A) (h low n : ℕ) → length xs ≡ n → low < 2 ^ n → select (h * 2 ^ n + low) (xs ++ ys) ≡ select low xs ++ select h ys
+pub select-split {ℓ} : {A : Type ℓ} (xs ys : List A) (h low n : ℕ) → length xs ≡ n → low < 2 ^ n
+    → select (h * 2 ^ n + low) (xs ++ ys) ≡ select low xs ++ select h ys
 select-split xs ys h low n e l = rw (← e) (select-append xs ys h low (rw e l))
 
 -- the first of a list alone
@@ -74,7 +75,8 @@ args-select P i (tcons (node f us) ts) =
     let l : 1 < 2 ^ suc (spans us) = omega (arith, pow-suc 2 (spans us)) in
     ap (λ qs. (P ++ (i ∷ [])) ∷ qs) (args-select P (suc i) ts)
     ∙ ap (map (λ q. P ++ q)) (sym (
-    select-split (map (λ p. i ∷ p) (dom (node f us))) (doms ts (suc i)) (roots ts) 1 (suc (spans us)) (length-map (dom (node f us)) (λ p. i ∷ p) ∙ length-dom (node f us)) l
+    select-split (map (λ p. i ∷ p) (dom (node f us))) (doms ts (suc i)) (roots ts) 1 (suc (spans us))
+    (length-map (dom (node f us)) (λ p. i ∷ p) ∙ length-dom (node f us)) l
     ∙ ap (λ qs. qs ++ select (roots ts) (doms ts (suc i))) (select-one (i ∷ []) (map (λ p. i ∷ p) (doms us 1)))))
 
 -- ---- the mask in three parts
@@ -102,7 +104,8 @@ module _ (m r sp z : ℕ) (one : m / 2 ^ r % 2 ^ suc sp ≡ 1) (small : z < 2 ^ 
 
   pub after-is : maskAfter m r (z * 2 ^ suc r) ≡ (high * 2 ^ suc sp + z * 2) * 2 ^ r + low
   after-is =
-      let k : z * 2 ^ suc r ≡ z * 2 * 2 ^ r + 0 = ap (λ x. z * x) (pow-suc 2 r ∙ mul-comm (2 ^ r) 2) ∙ sym (mul-assoc z 2 (2 ^ r)) ∙ sym (add-zero (z * 2 * 2 ^ r)) in
+      let k : z * 2 ^ suc r ≡ z * 2 * 2 ^ r + 0 =
+      ap (λ x. z * x) (pow-suc 2 r ∙ mul-comm (2 ^ r) 2) ∙ sym (mul-assoc z 2 (2 ^ r)) ∙ sym (add-zero (z * 2 * 2 ^ r)) in
       let b : 2 ^ r ≡ 1 * 2 ^ r + 0 = sym (add-zero (1 * 2 ^ r) ∙ one-mul (2 ^ r)) in
       let x : bitXor m (2 ^ r) ≡ high * 2 ^ sp * 2 * 2 ^ r + low =
       ap₂ bitXor (mask-is ∙ ap (λ y. (y + 1) * 2 ^ r + low) even) b
@@ -132,14 +135,16 @@ gather-append f (x ∷ xs) ys = ap (λ zs. f x ++ zs) (gather-append f xs ys) �
 
 module _ (a : Pos) (new : List Pos) where
   -- nothing to swap
-  pub swap-none : (p : Pos) (xs : List Pos) → ((q : Pos) → q ∈ xs → same p q ≡ false) → gather (swapped (a ++ p) new) (map (λ q. a ++ q) xs) ≡ map (λ q. a ++ q) xs
+  pub swap-none : (p : Pos) (xs : List Pos) → ((q : Pos) → q ∈ xs → same p q ≡ false)
+      → gather (swapped (a ++ p) new) (map (λ q. a ++ q) xs) ≡ map (λ q. a ++ q) xs
   swap-none p [] h = refl
   swap-none p (x ∷ xs) h = rw (same-append a p x, h x (here refl)) (ap (λ ys. (a ++ x) ∷ ys) (swap-none p xs (λ q i. h q (there i))))
 
   -- a mask in three parts: what stands left of a node, at and under it, right of it
   pub select-three : (L U R : List Pos) (h x low r n : ℕ) → length L ≡ r → length U ≡ n → low < 2 ^ r → x < 2 ^ n
       → select ((h * 2 ^ n + x) * 2 ^ r + low) (L ++ (U ++ R)) ≡ select low L ++ (select x U ++ select h R)
-  select-three L U R h x low r n e d l k = select-split L (U ++ R) (h * 2 ^ n + x) low r e l ∙ ap (λ qs. select low L ++ qs) (select-split U R h x n d k)
+  select-three L U R h x low r n e d l k =
+      select-split L (U ++ R) (h * 2 ^ n + x) low r e l ∙ ap (λ qs. select low L ++ qs) (select-split U R h x n d k)
 
   pub swap-at : (u : Term) (p : Pos) (L R : List Pos) (m r : ℕ) → length L ≡ r
       → ((q : Pos) → q ∈ L → same p q ≡ false) → ((q : Pos) → q ∈ R → same p q ≡ false)
@@ -168,11 +173,14 @@ module _ (a : Pos) (new : List Pos) where
       ∙ select-three L U R hi 1 lo r (suc sp) c len lt (omega (arith, pow-suc 2 sp, pos))
       ∙ ap (λ qs. select lo L ++ (qs ++ select hi R)) (select-one (p ++ []) (map (λ q. p ++ q) (below u))) in
       let C : map f (map (λ q. p ++ q) (select z (below u))) ≡ new =
-      map-map f (λ q. p ++ q) (select z (below u)) ∙ map-same (λ q. a ++ (p ++ q)) (λ q. (a ++ p) ++ q) (select z (below u)) (λ q m. sym (append-assoc a p q)) ∙ sym is in
+      map-map f (λ q. p ++ q) (select z (below u))
+      ∙ map-same (λ q. a ++ (p ++ q)) (λ q. (a ++ p) ++ q) (select z (below u)) (λ q m. sym (append-assoc a p q))
+      ∙ sym is in
       let D : sw (a ++ (p ++ [])) ≡ new = rw (append-nil p, same-refl (a ++ p)) refl in
       ap (map f) A
       ∙ map-append f (select lo L) (map (λ q. p ++ q) (select z (below u)) ++ select hi R)
-      ∙ ap (λ qs. map f (select lo L) ++ qs) (map-append f (map (λ q. p ++ q) (select z (below u))) (select hi R) ∙ ap (λ qs. qs ++ map f (select hi R)) C)
+      ∙ ap (λ qs. map f (select lo L) ++ qs)
+      (map-append f (map (λ q. p ++ q) (select z (below u))) (select hi R) ∙ ap (λ qs. qs ++ map f (select hi R)) C)
       ∙ sym (
       ap (λ qs. gather sw (map f qs)) B
       ∙ ap (gather sw) (map-append f (select lo L) ((p ++ []) ∷ select hi R))
@@ -187,5 +195,7 @@ module _ (a : Pos) (new : List Pos) where
       → new ≡ map (λ q. (a ++ o .at) ++ q) (select (roots (kidsIn (o .under))) (below (o .under)))
       → map (λ q. a ++ q) (select (maskAfter m r (roots (kidsIn (o .under)) * 2 ^ suc r)) (dom t)) ≡ gather (swapped (a ++ o .at) new) (map (λ q. a ++ q) (select m (dom t)))
   swap-mask t r m o one is =
-      let s : dom t ≡ o .left ++ (map (λ q. o .at ++ q) ([] ∷ below (o .under)) ++ o .right) = o .split ∙ ap (λ d. o .left ++ (map (λ q. o .at ++ q) d ++ o .right)) (dom-below (o .under)) in
-      rw s (swap-at (o .under) (o .at) (o .left) (o .right) m r (o .count) (o .not-left) (o .not-right) (ap (λ k. m / 2 ^ r % 2 ^ k) (sym (span-below (o .under))) ∙ one) is)
+      let s : dom t ≡ o .left ++ (map (λ q. o .at ++ q) ([] ∷ below (o .under)) ++ o .right) =
+      o .split ∙ ap (λ d. o .left ++ (map (λ q. o .at ++ q) d ++ o .right)) (dom-below (o .under)) in
+      rw s
+      (swap-at (o .under) (o .at) (o .left) (o .right) m r (o .count) (o .not-left) (o .not-right) (ap (λ k. m / 2 ^ r % 2 ^ k) (sym (span-below (o .under))) ∙ one) is)

@@ -27,7 +27,8 @@ abbrev pub Lone : ℕ → Term → Type 0
 Lone m t = (p b : Pos) → p ∈ select m (dom t) → (p ++ b) ∈ select m (dom t) → b ≡ []
 
 -- a part of the list, with its part of the mask
-part : {A : Type 0} (xs ys zs : List A) (m : ℕ) {y : A} → y ∈ select (m / 2 ^ length xs % 2 ^ length ys) ys → y ∈ select m (xs ++ (ys ++ zs))
+part : {A : Type 0} (xs ys zs : List A) (m : ℕ) {y : A} → y ∈ select (m / 2 ^ length xs % 2 ^ length ys) ys
+    → y ∈ select m (xs ++ (ys ++ zs))
 part xs ys zs m {y} i =
     let h = m / 2 ^ length xs in
     let a : m ≡ h * 2 ^ length xs + m % 2 ^ length xs = sym (split m (length xs)) in
@@ -86,14 +87,18 @@ lone-apart t m r o lone bit =
     let s = span-below u in
     let p : 2 ^ span u ≡ 2 * 2 ^ length (below u) = ap (λ k. 2 ^ k) s ∙ pow-succ' 2 (length (below u)) in
     let q = split (m / 2 ^ r) (span u) in
-    let e : m / 2 ^ r / 2 ^ span u * (2 * 2 ^ length (below u)) + m / 2 ^ r % 2 ^ span u ≡ m / 2 ^ r = ap (λ k. m / 2 ^ r / 2 ^ span u * k + m / 2 ^ r % 2 ^ span u) (sym p) ∙ q in
+    let e : m / 2 ^ r / 2 ^ span u * (2 * 2 ^ length (below u)) + m / 2 ^ r % 2 ^ span u ≡ m / 2 ^ r =
+    ap (λ k. m / 2 ^ r / 2 ^ span u * k + m / 2 ^ r % 2 ^ span u) (sym p) ∙ q in
     let odd = parity (m / 2 ^ r) (m / 2 ^ r / 2 ^ span u) (2 ^ length (below u)) (m / 2 ^ r % 2 ^ span u) e ∙ bit in
     one-left (o .at) u (m / 2 ^ r % 2 ^ span u) (mod-lt (m / 2 ^ r) (pow-pos (span u))) odd
     (λ b i j. lone (o .at ++ []) b (up (o .at ++ []) i) (rw (append-assoc (o .at) [] b) (up (o .at ++ b) j)))
   where
     up : (y : Pos) → y ∈ select (m / 2 ^ r % 2 ^ span (o .under)) (map (λ q. o .at ++ q) (dom (o .under))) → y ∈ select m (dom t)
     up y i =
-        let n : length (map (λ q. o .at ++ q) (dom (o .under))) ≡ span (o .under) = length-map (dom (o .under)) (λ q. o .at ++ q) ∙ length-dom (o .under) in
-        let c : m / 2 ^ length (o .left) % 2 ^ length (map (λ q. o .at ++ q) (dom (o .under))) ≡ m / 2 ^ r % 2 ^ span (o .under) = ap₂ (λ a b. m / 2 ^ a % 2 ^ b) (o .count) n in
-        let w : y ∈ select (m / 2 ^ length (o .left) % 2 ^ length (map (λ q. o .at ++ q) (dom (o .under)))) (map (λ q. o .at ++ q) (dom (o .under))) = rw c i in
+        let n : length (map (λ q. o .at ++ q) (dom (o .under))) ≡ span (o .under) =
+        length-map (dom (o .under)) (λ q. o .at ++ q) ∙ length-dom (o .under) in
+        let c : m / 2 ^ length (o .left) % 2 ^ length (map (λ q. o .at ++ q) (dom (o .under))) ≡ m / 2 ^ r % 2 ^ span (o .under) =
+        ap₂ (λ a b. m / 2 ^ a % 2 ^ b) (o .count) n in
+        let w : y ∈ select (m / 2 ^ length (o .left) % 2 ^ length (map (λ q. o .at ++ q) (dom (o .under)))) (map (λ q. o .at ++ q) (dom (o .under))) =
+        rw c i in
         rw (o .split) (part (o .left) (map (λ q. o .at ++ q) (dom (o .under))) (o .right) m w)

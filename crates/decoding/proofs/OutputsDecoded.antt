@@ -34,7 +34,7 @@ use Rattle.automaton.proofs.Bounds.{ann-small}
 use Rattle.goals.specs.GoalWords.{GoalWords, pad, labelCode}
 use Rattle.goals.specs.WordStages.{reduct, withMask, announces, annKey, outputsW}
 use Rattle.decoding.specs.WordMachine.{announcementW}
-use Rattle.decoding.specs.Decoding.{select, shapeAt, goalOf, stateOf}
+use Rattle.decoding.specs.Decoding.{select, shapeAt, goalMeant, stateMeant, codesEnd}
 use Rattle.decoding.specs.GoodStates.{Ready, settingOf}
 use Rattle.decoding.proofs.PaddedCodes.{code-before}
 use Rattle.decoding.proofs.Selecting.{select-zero, select-none}
@@ -46,34 +46,42 @@ pub pad-same : (p q : Pos) → Small p → Small q → eqb (pad (code p)) (pad (
 pad-same p q sp sq = go (same p q) refl
   where
     not-both : pad (code p) ≡ pad (code q) → Before p q ⊎ ((p ≡ q) ⊎ Before q p) → p ≡ q
-    not-both e (inl b) = absurd (false≢true (sym (ltb-irrefl (pad (code q))) ∙ ap (λ x. ltb x (pad (code q))) (sym e) ∙ code-before p q (sp .digits) (sq .digits) (sp .short) (sq .short) ∙ b))
+    not-both e (inl b) =
+        absurd (false≢true (sym (ltb-irrefl (pad (code q))) ∙ ap (λ x. ltb x (pad (code q))) (sym e) ∙ code-before p q (sp .digits) (sq .digits) (sp .short) (sq .short) ∙ b))
     not-both e (inr (inl d)) = d
-    not-both e (inr (inr b)) = absurd (false≢true (sym (ltb-irrefl (pad (code q))) ∙ ap (λ x. ltb (pad (code q)) x) (sym e) ∙ code-before q p (sq .digits) (sp .digits) (sq .short) (sp .short) ∙ b))
+    not-both e (inr (inr b)) =
+        absurd (false≢true (sym (ltb-irrefl (pad (code q))) ∙ ap (λ x. ltb (pad (code q)) x) (sym e) ∙ code-before q p (sq .digits) (sp .digits) (sq .short) (sp .short) ∙ b))
 
     go : (b : Bool) → same p q ≡ b → eqb (pad (code p)) (pad (code q)) ≡ b
     go true e = eq-eqb _ _ (ap (λ x. pad (code x)) (same-is p q e))
     go false e = ne-eqb _ _ (λ z. let d : p ≡ q = not-both z (before-total p q) in false≢true (sym e ∙ rw d (same-refl q)))
 
-pub ann-before : (g h : GoalWords) → g .sh < 16 → h .sh < 16 → g .an < 78125 → h .an < 78125 → Small (decode (g .an)) → Small (decode (h .an))
+pub ann-before : (g h : GoalWords) → g .sh < 16 → h .sh < 16 → g .an < codesEnd → h .an < codesEnd → Small (decode (g .an))
+    → Small (decode (h .an))
     → ltb (annKey g) (annKey h) ≡ annBefore (announcementW g) (announcementW h)
 ann-before g h sg sh cg ch pg ph =
     let a : pad (g .an) ≡ pad (code (decode (g .an))) = ap pad (sym (code-decode (g .an) cg)) in
     let b : pad (h .an) ≡ pad (code (decode (h .an))) = ap pad (sym (code-decode (h .an) ch)) in
     key-order (pad (g .an)) (pad (h .an)) (g .sh) (h .sh) sg sh
     ∙ ap₂ (λ x y. ltb x y || (eqb x y && ltb (g .sh) (h .sh))) a b
-    ∙ ap₂ (λ x y. x || (y && ltb (g .sh) (h .sh))) (code-before (decode (g .an)) (decode (h .an)) (pg .digits) (ph .digits) (pg .short) (ph .short)) (pad-same (decode (g .an)) (decode (h .an)) pg ph)
+    ∙ ap₂ (λ x y. x || (y && ltb (g .sh) (h .sh)))
+    (code-before (decode (g .an)) (decode (h .an)) (pg .digits) (ph .digits) (pg .short) (ph .short))
+    (pad-same (decode (g .an)) (decode (h .an)) pg ph)
 
 -- ---- the goals
-pub mask-nil : (shapes : List Term) (g : GoalWords) (x : ℕ) → x < 2 ^ span (shapeAt shapes (g .sh)) → isNil (goalOf shapes (withMask g x) .obs) ≡ eqb x 0
+pub mask-nil : (shapes : List Term) (g : GoalWords) (x : ℕ) → x < 2 ^ span (shapeAt shapes (g .sh))
+    → isNil (goalMeant shapes (withMask g x) .obs) ≡ eqb x 0
 mask-nil shapes g x l = go (eqb x 0) refl
   where
     full : (ys : List Pos) → (ys ≡ [] → ⊥) → isNil (map (λ q. decode (g .an) ++ q) ys) ≡ false
     full [] n = absurd (n refl)
     full (y ∷ ys) n = refl
 
-    go : (b : Bool) → eqb x 0 ≡ b → isNil (goalOf shapes (withMask g x) .obs) ≡ b
+    go : (b : Bool) → eqb x 0 ≡ b → isNil (goalMeant shapes (withMask g x) .obs) ≡ b
     go true e = rw (eqb-is x 0 e, select-zero (dom (shapeAt shapes (g .sh)))) refl
-    go false e = full (select x (dom (shapeAt shapes (g .sh)))) (λ z. false≢true (sym e ∙ eq-eqb x 0 (select-none x (dom (shapeAt shapes (g .sh))) (rw (length-dom (shapeAt shapes (g .sh))) l) z)))
+    go false e =
+        full (select x (dom (shapeAt shapes (g .sh))))
+        (λ z. false≢true (sym e ∙ eq-eqb x 0 (select-none x (dom (shapeAt shapes (g .sh))) (rw (length-dom (shapeAt shapes (g .sh))) l) z)))
 
 module _ (shapes : List Term) (tab : List ℕ) (c : ℕ) (P : Pos) (f k : ℕ) where
   abbrev ends : Goal Pos → Bool
@@ -81,25 +89,25 @@ module _ (shapes : List Term) (tab : List ℕ) (c : ℕ) (P : Pos) (f k : ℕ) w
 
   one-is : (g : GoalWords) (x : ℕ) → Reduct shapes g P f k x → (rest : List (Goal Pos))
       → map announcementW (cond (eqb x 0) (g ∷ []) []) ++ map announcement (filter ends (map (reduced (bare shapes) P k) rest))
-      ≡ map announcement (filter ends (map (reduced (bare shapes) P k) (cond (bare shapes .expects f P (goalOf shapes g)) (goalOf shapes g ∷ rest) rest)))
+      ≡ map announcement (filter ends (map (reduced (bare shapes) P k) (cond (bare shapes .expects f P (goalMeant shapes g)) (goalMeant shapes g ∷ rest) rest)))
   one-is g x (missed e n) rest = rw (e, n) refl
   one-is g x (cut l y is) rest =
-      let e : isNil (reduced (bare shapes) P k (goalOf shapes g) .obs) ≡ eqb x 0 = ap isNil (sym is) ∙ mask-nil shapes g x l in
+      let e : isNil (reduced (bare shapes) P k (goalMeant shapes g) .obs) ≡ eqb x 0 = ap isNil (sym is) ∙ mask-nil shapes g x l in
       rw (y, e) (go (eqb x 0))
     where
       go : (b : Bool)
           → map announcementW (cond b (g ∷ []) []) ++ map announcement (filter ends (map (reduced (bare shapes) P k) rest))
-          ≡ map announcement (cond b (reduced (bare shapes) P k (goalOf shapes g) ∷ filter ends (map (reduced (bare shapes) P k) rest)) (filter ends (map (reduced (bare shapes) P k) rest)))
+          ≡ map announcement (cond b (reduced (bare shapes) P k (goalMeant shapes g) ∷ filter ends (map (reduced (bare shapes) P k) rest)) (filter ends (map (reduced (bare shapes) P k) rest)))
       go true = refl
       go false = refl
 
   pub announced-is : (gs : List GoalWords) → ((g : GoalWords) → g ∈ gs → Reduct shapes g P f k (reduct tab c f g))
-      → map announcementW (gather (announces tab c f) gs) ≡ map announcement (filter ends (map (reduced (bare shapes) P k) (filter (bare shapes .expects f P) (stateOf shapes gs))))
+      → map announcementW (gather (announces tab c f) gs) ≡ map announcement (filter ends (map (reduced (bare shapes) P k) (filter (bare shapes .expects f P) (stateMeant shapes gs))))
   announced-is [] h = refl
   announced-is (g ∷ gs) h =
       map-append announcementW (announces tab c f g) (gather (announces tab c f) gs)
       ∙ ap (λ l. map announcementW (announces tab c f g) ++ l) (announced-is gs (λ y m. h y (there m)))
-      ∙ one-is g (reduct tab c f g) (h g (here refl)) (filter (bare shapes .expects f P) (stateOf shapes gs))
+      ∙ one-is g (reduct tab c f g) (h g (here refl)) (filter (bare shapes .expects f P) (stateMeant shapes gs))
 
 announced-within : (tab : List ℕ) (c f : ℕ) (gs : List GoalWords) → gather (announces tab c f) gs ⊆ gs
 announced-within tab c f gs g m = on-gather (announces tab c f) gs m λ h i j. go h i (eqb (reduct tab c f h) 0) j
@@ -117,17 +125,21 @@ module _ {ar tab : List ℕ} {n : ℕ} (r : Ready ar tab n) (gs : List GoalWords
   shape-low g m = let a = good-fine r gs good g m .shape in let b = r .count in let c = r .few-shapes in omega arith
 
   pub announces-small : (g : GoalWords) → g ∈ gs → Small (decode (g .an))
-  announces-small g m = ann-small (settingOf r) (stateOf (r .shapes) gs) (good .sound .goals) (goalOf (r .shapes) g) (map-in (goalOf (r .shapes)) m)
+  announces-small g m =
+      ann-small (settingOf r) (stateMeant (r .shapes) gs) (good .sound .goals) (goalMeant (r .shapes) g) (map-in (goalMeant (r .shapes)) m)
 
-  pub outputs-is : (f k : ℕ) → getElem? ar f ≡ some k → map announcementW (outputsW tab (labelCode tab gs) f gs) ≡ outputs (bare (r .shapes)) (stateOf (r .shapes) gs) f k
+  pub outputs-is : (f k : ℕ) → getElem? ar f ≡ some k
+      → map announcementW (outputsW tab (labelCode tab gs) f gs) ≡ outputs (bare (r .shapes)) (stateMeant (r .shapes) gs) f k
   unfolding outputsW
   outputs-is f k a =
       sort-map-in announcementW (λ g h. ltb (annKey g) (annKey h)) annBefore (gather (announces tab c f) gs)
       (λ g h i j.
       let u = announced-within tab c f gs g i in
       let v = announced-within tab c f gs h j in
-      ann-before g h (shape-low g u) (shape-low h v) (good .bounded .code g u) (good .bounded .code h v) (announces-small g u) (announces-small h v))
-      ∙ ap (sort annBefore) (announced-is (r .shapes) tab c (label (bare (r .shapes)) (stateOf (r .shapes) gs)) f k gs (λ g m. reduct-for r gs good f k a g m))
+      ann-before g h (shape-low g u) (shape-low h v) (good .bounded .code g u) (good .bounded .code h v) (announces-small g u)
+      (announces-small h v))
+      ∙ ap (sort annBefore)
+      (announced-is (r .shapes) tab c (label (bare (r .shapes)) (stateMeant (r .shapes) gs)) f k gs (λ g m. reduct-for r gs good f k a g m))
     where
       c : ℕ
       c = labelCode tab gs

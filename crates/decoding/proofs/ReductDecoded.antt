@@ -26,13 +26,14 @@ use Rattle.term.specs.Terms.{count, Term, blank, node, Terms, span}
 use Rattle.term.proofs.Subterms.{length-dom}
 use Rattle.automaton.specs.Bare.{bare, owed, argsOf, headsOf, args}
 use Rattle.automaton.specs.Goals.{reduced}
-use Rattle.decoding.specs.Decoding.{select, roots, shapeAt, goalOf, TableOf}
+use Rattle.decoding.specs.Decoding.{select, roots, shapeAt, goalMeant, TableOf}
 use Rattle.goals.specs.GoalWords.{GoalWords, nodeAt, symOf, kidsOf, maskAfter}
-use Rattle.goals.specs.WordStages.{reduct, withMask}
+use Rattle.goals.specs.WordStages.{reduct, withMask, unexpected}
 use Rattle.decoding.proofs.ShapeNodes.{Node, node-of, kidsIn, headWord}
 use Rattle.decoding.proofs.MaskReduced.{below, args-select, swap-mask, span-below, roots-below, swapped}
 use Rattle.decoding.proofs.Selecting.{select-at}
 use Rattle.decoding.proofs.GoalDecoded.{Fine, Found, lacks, found, finds, node-pos}
+use Rattle.kinds.specs.Limits.{blankWord}
 
 pub kids-fit : (t : Term) (r : ℕ) (o : Node t r) → roots (kidsIn (o .under)) * 2 ^ suc r < 2 ^ span t
 kids-fit t r o =
@@ -52,48 +53,54 @@ after-fit t m r o h =
 
 -- x is the mask after reducing by f, a symbol of k children, at P
 pub data Reduct (shapes : List Term) (g : GoalWords) (P : Pos) (f k x : ℕ) : Type 0 where
-  missed : x ≡ 65536 → bare shapes .expects f P (goalOf shapes g) ≡ false → Reduct shapes g P f k x
-  cut : x < 2 ^ span (shapeAt shapes (g .sh)) → bare shapes .expects f P (goalOf shapes g) ≡ true
-      → goalOf shapes (withMask g x) .obs ≡ reduced (bare shapes) P k (goalOf shapes g) .obs → Reduct shapes g P f k x
+  missed : x ≡ unexpected → bare shapes .expects f P (goalMeant shapes g) ≡ false → Reduct shapes g P f k x
+  cut : x < 2 ^ span (shapeAt shapes (g .sh)) → bare shapes .expects f P (goalMeant shapes g) ≡ true
+      → goalMeant shapes (withMask g x) .obs ≡ reduced (bare shapes) P k (goalMeant shapes g) .obs → Reduct shapes g P f k x
 
 -- another symbol stands there
 not-head : (f : ℕ) (u : Term) → (headWord u ≡ f → ⊥) → headsOf f (some u) ≡ false
 not-head f (blank w) ne = refl
 not-head f (node h ts) ne = ne-eqb h f ne
 
-module _ (shapes : List Term) (tab : List ℕ) (tables : (s : ℕ) → s < length shapes → TableOf tab s (shapeAt shapes s)) (g : GoalWords) (fine : Fine shapes g)
+module _ (shapes : List Term) (tab : List ℕ) (tables : (s : ℕ) → s < length shapes → TableOf tab s (shapeAt shapes s)) (g : GoalWords)
+    (fine : Fine shapes g)
     (P : Pos) (proper : Proper P) (short : length P ≤ 7)
-    (f k : ℕ) (symbol : f < 65535) (arity : (p : Pos) (ts : Terms) → sub (shapeAt shapes (g .sh)) p ≡ some (node f ts) → count ts ≡ k)
-    (blanks : (p : Pos) (w : ℕ) → sub (shapeAt shapes (g .sh)) p ≡ some (blank w) → 65535 ≤ w) where
+    (f k : ℕ) (symbol : f < blankWord) (arity : (p : Pos) (ts : Terms) → sub (shapeAt shapes (g .sh)) p ≡ some (node f ts) → count ts ≡ k)
+    (blanks : (p : Pos) (w : ℕ) → sub (shapeAt shapes (g .sh)) p ≡ some (blank w) → blankWord ≤ w) where
   abbrev T : Term
   T = shapeAt shapes (g .sh)
 
   abbrev N : ℕ
   N = nodeAt tab (g .sh) (g .an) (g .mask) (code P)
 
-  owes-at : (i : ℕ) → i < length (dom T) → g .mask / 2 ^ i % 2 ≡ 1 → decode (g .an) ++ getD (dom T) i [] ≡ P → any (same P) (goalOf shapes g .obs) ≡ true
+  owes-at : (i : ℕ) → i < length (dom T) → g .mask / 2 ^ i % 2 ≡ 1 → decode (g .an) ++ getD (dom T) i [] ≡ P
+      → any (same P) (goalMeant shapes g .obs) ≡ true
   owes-at i l b w =
       any-map (λ q. decode (g .an) ++ q) (same P) (select (g .mask) (dom T))
       ∙ any-of (λ q. same P (decode (g .an) ++ q)) (select-at (g .mask) i (dom T) [] l b) (ap (same P) w ∙ same-refl P)
 
-  owed-at : (p : Pos) → decode (g .an) ++ p ≡ P → owed shapes (goalOf shapes g) P ≡ sub T p
-  owed-at p w = rw (at-getD shapes (g .sh) (blank 65535) (fine .shape), ← w, strip-append (decode (g .an)) p) refl
+  owed-at : (p : Pos) → decode (g .an) ++ p ≡ P → owed shapes (goalMeant shapes g) P ≡ sub T p
+  owed-at p w = rw (at-getD shapes (g .sh) (blank blankWord) (fine .shape), ← w, strip-append (decode (g .an)) p) refl
 
-  at-node : (i : ℕ) (o : Node T i) (u : Term) → o .under ≡ u → N ≡ i → (i ≡ 16 → ⊥) → any (same P) (goalOf shapes g .obs) ≡ true → owed shapes (goalOf shapes g) P ≡ some u
-      → decode (g .an) ++ o .at ≡ P → g .mask / 2 ^ i % 2 ≡ 1 → symOf tab (g .sh) i ≡ headWord u → kidsOf tab (g .sh) i ≡ roots (kidsIn (o .under)) * 2 ^ suc i
+  at-node : (i : ℕ) (o : Node T i) (u : Term) → o .under ≡ u → N ≡ i → (i ≡ 16 → ⊥) → any (same P) (goalMeant shapes g .obs) ≡ true
+      → owed shapes (goalMeant shapes g) P ≡ some u
+      → decode (g .an) ++ o .at ≡ P → g .mask / 2 ^ i % 2 ≡ 1 → symOf tab (g .sh) i ≡ headWord u
+      → kidsOf tab (g .sh) i ≡ roots (kidsIn (o .under)) * 2 ^ suc i
       → Dec (headWord u ≡ f) → Reduct shapes g P f k (reduct tab (code P) f g)
-  at-node i o u ou n ne h ow w b sy ki (no d) = missed (rw (n, ne-eqb i 16 ne, sy, ne-eqb (headWord u) f d) refl) (rw (h, ow) (not-head f u d))
+  at-node i o u ou n ne h ow w b sy ki (no d) =
+      missed (rw (n, ne-eqb i 16 ne, sy, ne-eqb (headWord u) f d) refl) (rw (h, ow) (not-head f u d))
   at-node i o (blank v) ou n ne h ow w b sy ki (yes d) = let z = blanks (o .at) v (o .is ∙ ap some ou) in absurd (omega arith)
   at-node i o (node f′ ts) ou n ne h ow w b sy ki (yes d) =
-      let re : reduct tab (code P) f g ≡ maskAfter (g .mask) i (roots (kidsIn (o .under)) * 2 ^ suc i) = rw (n, ne-eqb i 16 ne, sy, eq-eqb f′ f d, ki) refl in
-      let new = argsOf P k (owed shapes (goalOf shapes g) P) in
+      let re : reduct tab (code P) f g ≡ maskAfter (g .mask) i (roots (kidsIn (o .under)) * 2 ^ suc i) =
+      rw (n, ne-eqb i 16 ne, sy, eq-eqb f′ f d, ki) refl in
+      let new = argsOf P k (owed shapes (goalMeant shapes g) P) in
       let is : new ≡ map (λ q. (decode (g .an) ++ o .at) ++ q) (select (roots (kidsIn (o .under))) (below (o .under))) =
       ap (argsOf P k) ow
       ∙ ap (λ c. args P 1 c ts) (sym (arity (o .at) ts (o .is ∙ ap some ou ∙ ap (λ h. some (node h ts)) d)))
       ∙ args-select P 1 ts
       ∙ rw (w, ou) refl in
       rw re (cut (after-fit T (g .mask) i o (fine .bits)) (rw (h, ow) (eq-eqb f′ f d))
-      (swap-mask (decode (g .an)) new T i (g .mask) o (fine .apart i o b) is ∙ ap (λ Q. gather (swapped Q new) (goalOf shapes g .obs)) w))
+      (swap-mask (decode (g .an)) new T i (g .mask) o (fine .apart i o b) is ∙ ap (λ Q. gather (swapped Q new) (goalMeant shapes g .obs)) w))
 
   pub reduct-is : Reduct shapes g P f k (reduct tab (code P) f g)
   reduct-is = go (finds shapes tab tables g fine P proper short)
@@ -107,4 +114,5 @@ module _ (shapes : List Term) (tab : List ℕ) (tables : (s : ℕ) → s < lengt
           let w′ : decode (g .an) ++ o .at ≡ P = ap (λ q. decode (g .an) ++ q) (sym (node-pos T i o)) ∙ w in
           let c = fine .low in
           at-node i o (o .under) refl (x ∙ zero-add i) (λ e. omega (arith, s, c, e)) (owes-at i l b w) (owed-at (o .at) w′ ∙ o .is) w′ b
-          (A .syms i s ∙ o .word) (A .kids i s ∙ o .mask 0 ∙ ap (λ k. roots (kidsIn (o .under)) * 2 ^ suc k) (zero-add i)) (ℕ-discrete (headWord (o .under)) f)
+          (A .syms i s ∙ o .word) (A .kids i s ∙ o .mask 0 ∙ ap (λ k. roots (kidsIn (o .under)) * 2 ^ suc k) (zero-add i))
+          (ℕ-discrete (headWord (o .under)) f)

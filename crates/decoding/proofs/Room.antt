@@ -9,7 +9,7 @@ use lib.Dec.{eqb, ltb}
 use lib.ListN.{length, length-append, length-map}
 use Rattle.kinds.specs.Lists.{gather, range}
 use Rattle.goals.specs.GoalWords.{GoalWords, Low, flat, nodeAt, symOf, kidsOf, maskAfter}
-use Rattle.goals.specs.WordStages.{stays, moves, reduct, goesOn, withMask, freshW, freshesW, bornW, derivW}
+use Rattle.goals.specs.WordStages.{stays, moves, reduct, goesOn, withMask, freshW, freshesW, bornW, derivW, unexpected}
 use Rattle.kinds.proofs.Members.{length-range}
 use Rattle.deriving.proofs.DeriveLaws.{flat-append}
 
@@ -21,16 +21,18 @@ flat-length (g ∷ gs) = let e = flat-length gs in omega (arith, e)
 module _ (tab : List ℕ) (n c f k : ℕ) where
   -- a goal stays or moves on, or is gone
   one-of : (g : GoalWords) → length (stays tab c g) + length (moves tab c f g) ≤ 1
-  one-of g = go (eqb (nodeAt tab (g .sh) (g .an) (g .mask) c) 16) (cond (eqb (symOf tab (g .sh) (nodeAt tab (g .sh) (g .an) (g .mask) c)) f) (maskAfter (g .mask) (nodeAt tab (g .sh) (g .an) (g .mask) c) (kidsOf tab (g .sh) (nodeAt tab (g .sh) (g .an) (g .mask) c))) 65536)
+  one-of g =
+      go (eqb (nodeAt tab (g .sh) (g .an) (g .mask) c) 16)
+      (cond (eqb (symOf tab (g .sh) (nodeAt tab (g .sh) (g .an) (g .mask) c)) f) (maskAfter (g .mask) (nodeAt tab (g .sh) (g .an) (g .mask) c) (kidsOf tab (g .sh) (nodeAt tab (g .sh) (g .an) (g .mask) c))) unexpected)
     where
       short : (x : ℕ) (a b : Bool) → length (cond {A = List GoalWords} a [] (cond b (withMask g x ∷ []) [])) ≤ 1
       short x true b = omega arith
       short x false true = omega arith
       short x false false = omega arith
 
-      go : (b : Bool) (x : ℕ) → length (cond {A = List GoalWords} b (g ∷ []) []) + length (goesOn (cond b 65536 x) g) ≤ 1
+      go : (b : Bool) (x : ℕ) → length (cond {A = List GoalWords} b (g ∷ []) []) + length (goesOn (cond b unexpected x) g) ≤ 1
       go true x = omega arith
-      go false x = let s = short x (eqb x 0) (ltb x 65536) in omega (arith, s)
+      go false x = let s = short x (eqb x 0) (ltb x unexpected) in omega (arith, s)
 
   kept : (gs : List GoalWords) → length (gather (stays tab c) gs) + length (gather (moves tab c f) gs) ≤ length gs
   kept [] = omega arith

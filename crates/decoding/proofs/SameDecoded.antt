@@ -22,7 +22,7 @@ use Rattle.kinds.specs.Lists.{any, all, same}
 use Rattle.kinds.specs.Positions.{Pos, code, strip, decode}
 use Rattle.decoding.proofs.GoalDecoded.{Fine}
 use Rattle.decoding.proofs.Selecting.{select-sub}
-use Rattle.decoding.specs.Decoding.{select, shapeAt, goalOf, stateOf}
+use Rattle.decoding.specs.Decoding.{select, shapeAt, goalMeant, stateMeant}
 use Rattle.goals.specs.GoalWords.{GoalWords}
 use Rattle.goals.specs.WordStages.{sameW, amongW, withinW, sameStateW}
 use Rattle.term.specs.Places.{dom}
@@ -81,7 +81,8 @@ select-inj (x ∷ xs) m k d lm lk f g =
         go (no a) (no b) = omega (arith, a, b)
 
 -- each obligation of the one is the other's
-into : (a : Pos) (xs ys : List Pos) → all (λ o. any (same o) (map (λ q. a ++ q) ys)) (map (λ q. a ++ q) xs) ≡ true → (q : Pos) → q ∈ xs → q ∈ ys
+into : (a : Pos) (xs ys : List Pos) → all (λ o. any (same o) (map (λ q. a ++ q) ys)) (map (λ q. a ++ q) xs) ≡ true → (q : Pos) → q ∈ xs
+    → q ∈ ys
 into a xs ys h q i =
     on-any (same (a ++ q)) (map (λ q. a ++ q) ys) (all-at (λ o. any (same o) (map (λ q. a ++ q) ys)) h (map-in (λ q. a ++ q) i)) λ o j e.
     on-map (λ q. a ++ q) ys j λ r k d.
@@ -93,50 +94,67 @@ has-self o xs i = any-of (same o) i (same-refl o)
 
 same-self : (shapes : List Term) (g : Goal Pos) → sameGoal (bare shapes) g g ≡ true
 same-self shapes g =
-    both (both (both (eq-eqb (g .shape) (g .shape) refl) (same-refl (g .ann))) (all-of (λ o. any (same o) (g .obs)) (g .obs) (λ o i. has-self o (g .obs) i))) (all-of (λ o. any (same o) (g .obs)) (g .obs) (λ o i. has-self o (g .obs) i))
+    both
+    (both (both (eq-eqb (g .shape) (g .shape) refl) (same-refl (g .ann))) (all-of (λ o. any (same o) (g .obs)) (g .obs) (λ o i. has-self o (g .obs) i)))
+    (all-of (λ o. any (same o) (g .obs)) (g .obs) (λ o i. has-self o (g .obs) i))
 
 module _ (shapes : List Term) where
   -- two goals are the same exactly if their words are
-  pub same-goal-is : (g h : GoalWords) → Fine shapes g → Fine shapes h → sameW g h ≡ sameGoal (bare shapes) (goalOf shapes g) (goalOf shapes h)
+  pub same-goal-is : (g h : GoalWords) → Fine shapes g → Fine shapes h
+      → sameW g h ≡ sameGoal (bare shapes) (goalMeant shapes g) (goalMeant shapes h)
   same-goal-is g h fg fh = bool-ext _ _ there-and back
     where
       words : g .sh ≡ h .sh → g .an ≡ h .an → g .mask ≡ h .mask → g ≡ h
       words a b c = λ i. record { sh = a i; an = b i; mask = c i }
 
-      there-and : sameW g h ≡ true → sameGoal (bare shapes) (goalOf shapes g) (goalOf shapes h) ≡ true
+      there-and : sameW g h ≡ true → sameGoal (bare shapes) (goalMeant shapes g) (goalMeant shapes h) ≡ true
       there-and e =
           let r = and-r (eqb (g .sh) (h .sh)) e in
-          rw (words (eqb-is (g .sh) (h .sh) (and-l _ e)) (eqb-is (g .an) (h .an) (and-l _ r)) (eqb-is (g .mask) (h .mask) (and-r (eqb (g .an) (h .an)) r))) (same-self shapes (goalOf shapes h))
+          rw
+          (words (eqb-is (g .sh) (h .sh) (and-l _ e)) (eqb-is (g .an) (h .an) (and-l _ r)) (eqb-is (g .mask) (h .mask) (and-r (eqb (g .an) (h .an)) r)))
+          (same-self shapes (goalMeant shapes h))
 
       masks : g .sh ≡ h .sh → g .an ≡ h .an
-          → all (λ o. any (same o) (goalOf shapes h .obs)) (goalOf shapes g .obs) ≡ true → all (λ o. any (same o) (goalOf shapes g .obs)) (goalOf shapes h .obs) ≡ true → g .mask ≡ h .mask
+          → all (λ o. any (same o) (goalMeant shapes h .obs)) (goalMeant shapes g .obs) ≡ true
+          → all (λ o. any (same o) (goalMeant shapes g .obs)) (goalMeant shapes h .obs) ≡ true → g .mask ≡ h .mask
       masks a b c d =
           let ps = dom (shapeAt shapes (h .sh)) in
-          let c′ : all (λ o. any (same o) (map (λ q. decode (h .an) ++ q) (select (h .mask) ps))) (map (λ q. decode (h .an) ++ q) (select (g .mask) ps)) ≡ true = rw (a, b) at c in
-          let d′ : all (λ o. any (same o) (map (λ q. decode (h .an) ++ q) (select (g .mask) ps))) (map (λ q. decode (h .an) ++ q) (select (h .mask) ps)) ≡ true = rw (a, b) at d in
+          let c′ : all (λ o. any (same o) (map (λ q. decode (h .an) ++ q) (select (h .mask) ps))) (map (λ q. decode (h .an) ++ q) (select (g .mask) ps)) ≡ true =
+          rw (a, b) at c in
+          let d′ : all (λ o. any (same o) (map (λ q. decode (h .an) ++ q) (select (g .mask) ps))) (map (λ q. decode (h .an) ++ q) (select (h .mask) ps)) ≡ true =
+          rw (a, b) at d in
           let l : g .mask < 2 ^ span (shapeAt shapes (h .sh)) = rw a at (fg .bits) in
-          select-inj ps (g .mask) (h .mask) (dom-distinct (shapeAt shapes (h .sh))) (rw (length-dom (shapeAt shapes (h .sh))) l) (rw (length-dom (shapeAt shapes (h .sh))) (fh .bits))
+          select-inj ps (g .mask) (h .mask) (dom-distinct (shapeAt shapes (h .sh))) (rw (length-dom (shapeAt shapes (h .sh))) l)
+          (rw (length-dom (shapeAt shapes (h .sh))) (fh .bits))
           (into (decode (h .an)) (select (g .mask) ps) (select (h .mask) ps) c′)
           (into (decode (h .an)) (select (h .mask) ps) (select (g .mask) ps) d′)
 
-      back : sameGoal (bare shapes) (goalOf shapes g) (goalOf shapes h) ≡ true → sameW g h ≡ true
+      back : sameGoal (bare shapes) (goalMeant shapes g) (goalMeant shapes h) ≡ true → sameW g h ≡ true
       back e =
           let e₁ = and-l _ e in
           let e₂ = and-l _ e₁ in
           let a = eqb-is (g .sh) (h .sh) (and-l _ e₂) in
-          let b : g .an ≡ h .an = sym (code-of 7 (g .an) (fg .small)) ∙ ap code (same-is (decode (g .an)) (decode (h .an)) (and-r (eqb (g .sh) (h .sh)) e₂)) ∙ code-of 7 (h .an) (fh .small) in
-          let m = masks a b (and-r (eqb (g .sh) (h .sh) && same (decode (g .an)) (decode (h .an))) e₁) (and-r (eqb (g .sh) (h .sh) && same (decode (g .an)) (decode (h .an)) && all (λ o. any (same o) (goalOf shapes h .obs)) (goalOf shapes g .obs)) e) in
+          let b : g .an ≡ h .an =
+          sym (code-of 7 (g .an) (fg .small))
+          ∙ ap code (same-is (decode (g .an)) (decode (h .an)) (and-r (eqb (g .sh) (h .sh)) e₂))
+          ∙ code-of 7 (h .an) (fh .small) in
+          let m =
+          masks a b (and-r (eqb (g .sh) (h .sh) && same (decode (g .an)) (decode (h .an))) e₁)
+          (and-r (eqb (g .sh) (h .sh) && same (decode (g .an)) (decode (h .an)) && all (λ o. any (same o) (goalMeant shapes h .obs)) (goalMeant shapes g .obs)) e) in
           both (eq-eqb _ _ a) (both (eq-eqb _ _ b) (eq-eqb _ _ m))
 
-  among-is : (g : GoalWords) (hs : List GoalWords) → Fine shapes g → ((h : GoalWords) → h ∈ hs → Fine shapes h) → amongW g hs ≡ any (sameGoal (bare shapes) (goalOf shapes g)) (stateOf shapes hs)
+  among-is : (g : GoalWords) (hs : List GoalWords) → Fine shapes g → ((h : GoalWords) → h ∈ hs → Fine shapes h)
+      → amongW g hs ≡ any (sameGoal (bare shapes) (goalMeant shapes g)) (stateMeant shapes hs)
   unfolding amongW
   among-is g [] fg fh = refl
   among-is g (h ∷ hs) fg fh = ap₂ (λ a b. a || b) (same-goal-is g h fg (fh h (here refl))) (among-is g hs fg (λ k i. fh k (there i)))
 
-  within-is : (gs hs : List GoalWords) → ((g : GoalWords) → g ∈ gs → Fine shapes g) → ((h : GoalWords) → h ∈ hs → Fine shapes h) → withinW gs hs ≡ all (λ g. any (sameGoal (bare shapes) g) (stateOf shapes hs)) (stateOf shapes gs)
+  within-is : (gs hs : List GoalWords) → ((g : GoalWords) → g ∈ gs → Fine shapes g) → ((h : GoalWords) → h ∈ hs → Fine shapes h)
+      → withinW gs hs ≡ all (λ g. any (sameGoal (bare shapes) g) (stateMeant shapes hs)) (stateMeant shapes gs)
   unfolding withinW
   within-is [] hs fg fh = refl
   within-is (g ∷ gs) hs fg fh = ap₂ (λ a b. a && b) (among-is g hs (fg g (here refl)) fh) (within-is gs hs (λ k i. fg k (there i)) fh)
 
-  pub same-state-is : (gs hs : List GoalWords) → ((g : GoalWords) → g ∈ gs → Fine shapes g) → ((h : GoalWords) → h ∈ hs → Fine shapes h) → sameStateW gs hs ≡ sameState (bare shapes) (stateOf shapes gs) (stateOf shapes hs)
+  pub same-state-is : (gs hs : List GoalWords) → ((g : GoalWords) → g ∈ gs → Fine shapes g) → ((h : GoalWords) → h ∈ hs → Fine shapes h)
+      → sameStateW gs hs ≡ sameState (bare shapes) (stateMeant shapes gs) (stateMeant shapes hs)
   same-state-is gs hs fg fh = ap₂ (λ a b. a && b) (within-is gs hs fg fh) (within-is hs gs fh fg)

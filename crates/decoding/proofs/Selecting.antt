@@ -20,14 +20,16 @@ module _ {ℓ} {A : Type ℓ} where
   select-zero [] = refl
   select-zero (x ∷ xs) = select-zero xs
 
-  pub select-append : (xs ys : List A) (h low : ℕ) → low < 2 ^ length xs → select (h * 2 ^ length xs + low) (xs ++ ys) ≡ select low xs ++ select h ys
+  pub select-append : (xs ys : List A) (h low : ℕ) → low < 2 ^ length xs
+      → select (h * 2 ^ length xs + low) (xs ++ ys) ≡ select low xs ++ select h ys
   unfolding select
   select-append [] ys h low l = let e : h * 1 + low ≡ h = omega arith in ap (λ m. select m ys) e
   select-append (x ∷ xs) ys h low l =
       rw (block-half h (length xs) low, block-odd h (length xs) low)
       (go (eqb (low % 2) 1) (select-append xs ys h (low / 2) (omega (arith, pow-suc 2 (length xs)))))
     where
-      go : (b : Bool) → select (h * 2 ^ length xs + low / 2) (xs ++ ys) ≡ select (low / 2) xs ++ select h ys → cond b (x ∷ select (h * 2 ^ length xs + low / 2) (xs ++ ys)) (select (h * 2 ^ length xs + low / 2) (xs ++ ys)) ≡ cond b (x ∷ select (low / 2) xs) (select (low / 2) xs) ++ select h ys
+      go : (b : Bool) → select (h * 2 ^ length xs + low / 2) (xs ++ ys) ≡ select (low / 2) xs ++ select h ys
+          → cond b (x ∷ select (h * 2 ^ length xs + low / 2) (xs ++ ys)) (select (h * 2 ^ length xs + low / 2) (xs ++ ys)) ≡ cond b (x ∷ select (low / 2) xs) (select (low / 2) xs) ++ select h ys
       go true e = ap (λ zs. x ∷ zs) e
       go false e = e
 
@@ -59,7 +61,8 @@ module _ {ℓ} {A : Type ℓ} where
   select-none m [] h e = omega arith
   select-none m (x ∷ xs) h e = go (eqb (m % 2) 1) refl e (λ i. select-none (m / 2) xs (omega (arith, pow-suc 2 (length xs))) i)
     where
-      go : (b : Bool) → eqb (m % 2) 1 ≡ b → cond b (x ∷ select (m / 2) xs) (select (m / 2) xs) ≡ [] → (select (m / 2) xs ≡ [] → m / 2 ≡ 0) → m ≡ 0
+      go : (b : Bool) → eqb (m % 2) 1 ≡ b → cond b (x ∷ select (m / 2) xs) (select (m / 2) xs) ≡ [] → (select (m / 2) xs ≡ [] → m / 2 ≡ 0)
+          → m ≡ 0
       go true t i k = let z : _≡_ {A = ℕ} 0 1 = cc in absurd (omega arith)
       go false t i k = let n : m % 2 ≡ 1 → ⊥ = λ o. false≢true (sym t ∙ eq-eqb _ _ o) in let z = k i in omega (arith, n)
 
@@ -69,6 +72,7 @@ module _ {ℓ κ} {A : Type ℓ} {B : Type κ} (f : A → B) where
   select-map m [] = refl
   select-map m (x ∷ xs) = go (eqb (m % 2) 1) (select-map (m / 2) xs)
     where
-      go : (b : Bool) → select (m / 2) (map f xs) ≡ map f (select (m / 2) xs) → cond b (f x ∷ select (m / 2) (map f xs)) (select (m / 2) (map f xs)) ≡ map f (cond b (x ∷ select (m / 2) xs) (select (m / 2) xs))
+      go : (b : Bool) → select (m / 2) (map f xs) ≡ map f (select (m / 2) xs)
+          → cond b (f x ∷ select (m / 2) (map f xs)) (select (m / 2) (map f xs)) ≡ map f (cond b (x ∷ select (m / 2) xs) (select (m / 2) xs))
       go true e = ap (λ zs. f x ∷ zs) e
       go false e = e

@@ -42,7 +42,8 @@ mutual
 
   pub length-kidss : (b : ℕ) (ts : Terms) → length (kidMaskss b ts) ≡ spans ts
   length-kidss b tnil = refl
-  length-kidss b (tcons t ts) = length-append (kidMasks b t) (kidMaskss (b + span t) ts) ∙ ap₂ (λ x y. x + y) (length-kids b t) (length-kidss (b + span t) ts)
+  length-kidss b (tcons t ts) =
+      length-append (kidMasks b t) (kidMaskss (b + span t) ts) ∙ ap₂ (λ x y. x + y) (length-kids b t) (length-kidss (b + span t) ts)
 
 -- an earlier child's positions
 pub doms-later : (ts : Terms) (i k : ℕ) (p q : Pos) → k < i → q ∈ doms ts i → same (k ∷ p) q ≡ false
@@ -97,8 +98,10 @@ in-first t ts i r h o = record {
       ap (λ ps. map (λ p. i ∷ p) ps ++ doms ts (suc i)) (o .split)
       ∙ ap (λ ps. ps ++ doms ts (suc i)) (map-append (λ p. i ∷ p) (o .left) (map (λ q. o .at ++ q) (dom (o .under)) ++ o .right))
       ∙ append-assoc (map (λ p. i ∷ p) (o .left)) _ (doms ts (suc i))
-      ∙ ap (λ ps. map (λ p. i ∷ p) (o .left) ++ (ps ++ doms ts (suc i))) (map-append (λ p. i ∷ p) (map (λ q. o .at ++ q) (dom (o .under))) (o .right))
-      ∙ ap (λ ps. map (λ p. i ∷ p) (o .left) ++ ps) (append-assoc (map (λ p. i ∷ p) (map (λ q. o .at ++ q) (dom (o .under)))) (map (λ p. i ∷ p) (o .right)) (doms ts (suc i)))
+      ∙ ap (λ ps. map (λ p. i ∷ p) (o .left) ++ (ps ++ doms ts (suc i)))
+      (map-append (λ p. i ∷ p) (map (λ q. o .at ++ q) (dom (o .under))) (o .right))
+      ∙ ap (λ ps. map (λ p. i ∷ p) (o .left) ++ ps)
+      (append-assoc (map (λ p. i ∷ p) (map (λ q. o .at ++ q) (dom (o .under)))) (map (λ p. i ∷ p) (o .right)) (doms ts (suc i)))
       ∙ ap (λ ps. map (λ p. i ∷ p) (o .left) ++ (ps ++ (map (λ p. i ∷ p) (o .right) ++ doms ts (suc i)))) (map-map (λ p. i ∷ p) (λ q. o .at ++ q) (dom (o .under)));
   count = length-map (o .left) (λ p. i ∷ p) ∙ o .count;
   is = o .is;

@@ -18,7 +18,8 @@ module _ (ar ws ss : List ℕ) where
   unfolding entriesFrom
   entries-at zero k i h = absurd (omega arith)
   entries-at (suc n) k zero h = ap (entryW ar ws ss) (sym (add-zero k))
-  entries-at (suc n) k (suc i) h = let e : k + 1 + i ≡ k + suc i = omega arith in entries-at n (k + 1) i (omega arith) ∙ ap (entryW ar ws ss) e
+  entries-at (suc n) k (suc i) h =
+      let e : k + 1 + i ≡ k + suc i = omega arith in entries-at n (k + 1) i (omega arith) ∙ ap (entryW ar ws ss) e
 
   front : (l vs : List ℕ) (k : ℕ) → length vs ≤ length l → k < length vs → getD (sets l 0 vs) k 0 ≡ getD vs k 0
   front l vs k h i = ap (λ xs. getD xs k 0) (sets-eq vs l 0 (omega arith)) ∙ List·getD-append vs (drop (0 + length vs) l) 0 k i
@@ -26,4 +27,6 @@ module _ (ar ws ss : List ℕ) where
   pub filled-is : (l : List ℕ) (n k : ℕ) → n ≤ length l → k < n → getD (sets l 0 (entriesFrom ar ws ss 0 n)) k 0 ≡ entryW ar ws ss k
   filled-is l n k h i =
       let e = entries-length n 0 in
-      front l (entriesFrom ar ws ss 0 n) k (omega (arith, e, h)) (omega (arith, e, i)) ∙ entries-at n 0 k i ∙ ap (entryW ar ws ss) (zero-add k)
+      front l (entriesFrom ar ws ss 0 n) k (omega (arith, e, h)) (omega (arith, e, i))
+      ∙ entries-at n 0 k i
+      ∙ ap (entryW ar ws ss) (zero-add k)

@@ -14,6 +14,7 @@ use Rattle.decoding.proofs.ShapeNodes.{length-kids}
 use Rattle.tables.specs.ShapeTables.{wordAt, spanAt, kidsFrom, kidsAt}
 use Rattle.tables.proofs.TableLaws.{kids-there, kids-on, kids-off}
 use Rattle.decoding.proofs.TableSeek.{Stands, Standss, span-is}
+use Rattle.kinds.specs.Limits.{blankWord}
 
 spread : (R n b c : ℕ) → (R * 2 ^ n + b) * 2 ^ c ≡ R * 2 ^ (c + n) + b * 2 ^ c
 spread R n b c = rw (pow-add 2 c n) (ring R (2 ^ n) b (2 ^ c))
@@ -21,8 +22,9 @@ spread R n b c = rw (pow-add 2 c n) (ring R (2 ^ n) b (2 ^ c))
     ring : (R P b Q : ℕ) → (R * P + b) * Q ≡ R * (Q * P) + b * Q
     ring R P b Q = omega arith
 
-module _ (ar ws : List ℕ) (few-symbols : length ar ≤ 65535) (st : ℕ) where
-  pub kids-terms : (ts : Terms) (e k c m : ℕ) → e ≡ c + spans ts → spans ts ≤ k → Standss ws (st + c) ts → Fitss ar 65535 ts → spans ts ≤ 16 → m < 65536 → kidsFrom ar ws st e k c m ≡ (m + roots ts * 2 ^ c) % 65536
+module _ (ar ws : List ℕ) (few-symbols : length ar ≤ blankWord) (st : ℕ) where
+  pub kids-terms : (ts : Terms) (e k c m : ℕ) → e ≡ c + spans ts → spans ts ≤ k → Standss ws (st + c) ts → Fitss ar blankWord ts
+      → spans ts ≤ 16 → m < 65536 → kidsFrom ar ws st e k c m ≡ (m + roots ts * 2 ^ c) % 65536
   kids-terms tnil e k c m x l s q b h = kids-there ar ws st e k c m (omega arith) ∙ rw (zero-mul (2 ^ c)) (omega arith)
   kids-terms (tcons (blank w) ts) e k c m x l s q b h =
       let n = span-is ar ws few-symbols (blank w) (st + c) (s .0) (q .0) (omega arith) in
@@ -37,10 +39,12 @@ module _ (ar ws : List ℕ) (few-symbols : length ar ≤ 65535) (st : ℕ) where
       let a = q .0 .0 in let d = s .0 .0 in
       kids-on ar ws st e k c m (omega arith) (omega arith) (rw d a)
       ∙ ap (λ u. kidsFrom ar ws st e (k - 1) (c + u) ((m + 2 ^ c) % 65536)) n
-      ∙ kids-terms ts e (k - 1) (c + span (node f us)) ((m + 2 ^ c) % 65536) (omega arith) (omega arith) (rw z at (s .1)) (q .1) (omega arith) (omega arith)
+      ∙ kids-terms ts e (k - 1) (c + span (node f us)) ((m + 2 ^ c) % 65536) (omega arith) (omega arith) (rw z at (s .1)) (q .1)
+      (omega arith) (omega arith)
       ∙ (let y = spread (roots ts) (span (node f us)) 1 c in omega (arith, y))
 
-  kids-here : (t : Term) (c : ℕ) → Stands ws (st + c) t → Fits ar 65535 t → span t ≤ 16 → kidsAt ar ws st c ≡ getD (kidMasks c t) 0 0 % 65536
+  kids-here : (t : Term) (c : ℕ) → Stands ws (st + c) t → Fits ar blankWord t → span t ≤ 16
+      → kidsAt ar ws st c ≡ getD (kidMasks c t) 0 0 % 65536
   kids-here (blank w) c s q b =
       let n = span-is ar ws few-symbols (blank w) (st + c) s q b in
       ap (λ u. kidsFrom ar ws st (c + u) 16 (c + 1) 0) n ∙ kids-there ar ws st (c + 1) 16 (c + 1) 0 (omega arith) ∙ omega arith
@@ -53,7 +57,8 @@ module _ (ar ws : List ℕ) (few-symbols : length ar ≤ 65535) (st : ℕ) where
       ∙ rw e (omega arith)
 
   mutual
-    pub kids-node : (t : Term) (c r : ℕ) → r < span t → Stands ws (st + c) t → Fits ar 65535 t → span t ≤ 16 → kidsAt ar ws st (c + r) ≡ getD (kidMasks c t) r 0 % 65536
+    pub kids-node : (t : Term) (c r : ℕ) → r < span t → Stands ws (st + c) t → Fits ar blankWord t → span t ≤ 16
+        → kidsAt ar ws st (c + r) ≡ getD (kidMasks c t) r 0 % 65536
     kids-node (blank w) c zero h s q b = ap (kidsAt ar ws st) (add-zero c) ∙ kids-here (blank w) c s q b
     kids-node (blank w) c (suc r) h s q b = absurd (omega arith)
     kids-node (node f ts) c zero h s q b = ap (kidsAt ar ws st) (add-zero c) ∙ kids-here (node f ts) c s q b
@@ -62,7 +67,8 @@ module _ (ar ws : List ℕ) (few-symbols : length ar ≤ 65535) (st : ℕ) where
         let e : c + suc r ≡ suc c + r = omega arith in
         ap (kidsAt ar ws st) e ∙ kids-nodes ts (suc c) r (omega arith) (rw z at (s .1)) (q .2) (omega arith)
 
-    pub kids-nodes : (ts : Terms) (c r : ℕ) → r < spans ts → Standss ws (st + c) ts → Fitss ar 65535 ts → spans ts ≤ 16 → kidsAt ar ws st (c + r) ≡ getD (kidMaskss c ts) r 0 % 65536
+    pub kids-nodes : (ts : Terms) (c r : ℕ) → r < spans ts → Standss ws (st + c) ts → Fitss ar blankWord ts → spans ts ≤ 16
+        → kidsAt ar ws st (c + r) ≡ getD (kidMaskss c ts) r 0 % 65536
     kids-nodes tnil c r h s q b = absurd (omega arith)
     kids-nodes (tcons t ts) c r h s q b =
         go (decLt r (span t)) (λ y. kids-node t c r y (s .0) (q .0) (omega arith))
@@ -71,9 +77,11 @@ module _ (ar ws : List ℕ) (few-symbols : length ar ≤ 65535) (st : ℕ) where
         go : Dec (r < span t) → (r < span t → kidsAt ar ws st (c + r) ≡ getD (kidMasks c t) r 0 % 65536)
             → (span t ≤ r → kidsAt ar ws st (c + span t + (r - span t)) ≡ getD (kidMaskss (c + span t) ts) (r - span t) 0 % 65536)
             → kidsAt ar ws st (c + r) ≡ getD (kidMasks c t ++ kidMaskss (c + span t) ts) r 0 % 65536
-        go (yes y) f g = f y ∙ ap (λ u. u % 65536) (sym (List·getD-append (kidMasks c t) (kidMaskss (c + span t) ts) 0 r (rw (length-kids c t) y)))
+        go (yes y) f g =
+            f y ∙ ap (λ u. u % 65536) (sym (List·getD-append (kidMasks c t) (kidMaskss (c + span t) ts) 0 r (rw (length-kids c t) y)))
         go (no y) f g =
             let e : c + r ≡ c + span t + (r - span t) = omega arith in
             let d : r ≡ span t + (r - span t) = omega arith in
             ap (kidsAt ar ws st) e ∙ g (omega arith)
-            ∙ ap (λ u. u % 65536) (sym (ap (λ u. getD (kidMasks c t ++ kidMaskss (c + span t) ts) u 0) (d ∙ ap (λ u. u + (r - span t)) (sym (length-kids c t))) ∙ getD-append-add (kidMasks c t) (kidMaskss (c + span t) ts) (r - span t) 0))
+            ∙ ap (λ u. u % 65536)
+            (sym (ap (λ u. getD (kidMasks c t ++ kidMaskss (c + span t) ts) u 0) (d ∙ ap (λ u. u + (r - span t)) (sym (length-kids c t))) ∙ getD-append-add (kidMasks c t) (kidMaskss (c + span t) ts) (r - span t) 0))

@@ -1,4 +1,10 @@
--- The one decoding: codes to positions, words to goals; and what the tables say of the shapes.
+-- Inside: the one decoding, codes to positions and words to goals; and what the tables say of the shapes.
+--   codesEnd                past the codes of seven digits
+--   select                  the elements whose bits are set in a mask
+--   solid roots kidMasks    the masks of children that are no blanks
+--   shapeAt                 a shape by its number
+--   goalMeant stateMeant    the goal, and the state, that words mean
+--   TableOf                 the tables say a shape's nodes: positions, powers, words and children
 use mathlib.Core.List.{List, [], _∷_, _++_, map}
 use mathlib.Core.Bool.{Bool, true, false, cond}
 use mathlib.Core.Path.{_≡_}
@@ -10,6 +16,11 @@ use Rattle.term.specs.Places.{dom}
 use Rattle.kinds.specs.Positions.{Pos, code, decode}
 use Rattle.automaton.specs.Goals.{Goal, State}
 use Rattle.goals.specs.GoalWords.{GoalWords, codeOf, powOf, symOf, kidsOf, sizeOf}
+pub use Rattle.kinds.specs.Limits.{blankWord}
+
+-- past the codes of seven digits
+abbrev pub codesEnd : ℕ
+codesEnd = 78125
 
 -- the elements whose bits are set, the first one's bit lowest
 unfoldable pub select {ℓ} : {A : Type ℓ} → ℕ → List A → List A
@@ -36,14 +47,14 @@ abbrev mutual
   kidMaskss r (tcons t ts) = kidMasks r t ++ kidMaskss (r + span t) ts
 
 abbrev pub shapeAt : List Term → ℕ → Term
-shapeAt shapes s = getD shapes s (blank 65535)
+shapeAt shapes s = getD shapes s (blank blankWord)
 
-abbrev pub goalOf : List Term → GoalWords → Goal Pos
-goalOf shapes g =
+abbrev pub goalMeant : List Term → GoalWords → Goal Pos
+goalMeant shapes g =
     record { shape = g .sh; ann = decode (g .an); obs = map (λ r. decode (g .an) ++ r) (select (g .mask) (dom (shapeAt shapes (g .sh)))) }
 
-abbrev pub stateOf : List Term → List GoalWords → State Pos
-stateOf shapes gs = map (goalOf shapes) gs
+abbrev pub stateMeant : List Term → List GoalWords → State Pos
+stateMeant shapes gs = map (goalMeant shapes) gs
 
 -- the words of shape s in the tables
 pub record TableOf (tab : List ℕ) (s : ℕ) (t : Term) : Type 0 where

@@ -1,4 +1,4 @@
--- What building knows of its tables and of each state that it meets.
+-- Inside: what building knows of its tables and of each state that it meets.
 --   Ready       the tables are those of 1 to 16 shapes within the limits, for symbols within the limits
 --   settingOf   the setting of the theory that they are
 --   GoodState   the words of a state: at most 32 goals, each in its one form, that decode to goals that are sound
@@ -16,7 +16,7 @@ use Rattle.folio.proofs.ShapesFound.{solid-node}
 use Rattle.automaton.specs.Walking.{Setting}
 use Rattle.automaton.proofs.Sound.{SoundState}
 use Rattle.goals.specs.GoalWords.{GoalWords, Tabled}
-use Rattle.decoding.specs.Decoding.{shapeAt, stateOf, TableOf}
+use Rattle.decoding.specs.Decoding.{shapeAt, stateMeant, TableOf, codesEnd}
 
 pub record Ready (ar tab : List ℕ) (n : ℕ) : Type 0 where
   pub shapes : List Term
@@ -44,7 +44,7 @@ settingOf {ar} r = record {
 
 pub record GoodState (ar tab : List ℕ) (n : ℕ) (gs : List GoalWords) : Type 0 where
   pub ready : Ready ar tab n
-  pub sound : SoundState (settingOf ready) (stateOf (ready .shapes) gs)
+  pub sound : SoundState (settingOf ready) (stateMeant (ready .shapes) gs)
   pub few : length gs ≤ 32
-  pub code : (g : GoalWords) → g ∈ gs → g .an < 78125
+  pub code : (g : GoalWords) → g ∈ gs → g .an < codesEnd
   pub mask : (g : GoalWords) → g ∈ gs → g .mask < 2 ^ span (shapeAt (ready .shapes) (g .sh))

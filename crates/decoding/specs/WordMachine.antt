@@ -1,7 +1,8 @@
--- The construction on words, as numbering and layout take it; and the states met, as scratch holds them.
+-- Inside: the construction on words, as numbering and layout take it; and the states met, as scratch holds them.
 --   announcementW   a goal's announcement
 --   words           for tables and n shapes
---   stateIn         state i of scratch: 128 counts of goals, then 96 words a state
+--   placeIn         the states in scratch: 128 counts of goals, then 96 words a state; statesWords: of all
+--   stateIn         state i of scratch
 --   statesIn        the first m states
 --   Kept            what code asks of scratch that holds m states
 use mathlib.Core.List.{List, map}
@@ -12,7 +13,7 @@ use Rattle.kinds.specs.Positions.{decode}
 use Rattle.automaton.specs.Goals.{Announcement}
 use Rattle.automaton.specs.Exploring.{Construction}
 use Rattle.goals.specs.GoalWords.{GoalWords, goalsFrom, Low, labelCode}
-use Rattle.goals.specs.WordStages.{freshesW, derivW, sameStateW, leastCode, liftW, classesW, outputsW}
+use Rattle.goals.specs.WordStages.{freshesW, derivW, sameStateW, leastCode, liftW, classesW, outputsW, displacementW, liftedW}
 
 abbrev pub announcementW : GoalWords → Announcement
 announcementW g = record { shape = g .sh; at = decode (g .an) }
@@ -24,18 +25,26 @@ words tab n = record {
   outputs = λ gs f k. map announcementW (outputsW tab (labelCode tab gs) f gs);
   classes = λ gs f k. classesW tab (derivW tab n (labelCode tab gs) f k gs);
   size = length;
-  gcp = λ gs. decode (leastCode 65535 gs);
-  lift = λ gs. map (liftW (leastCode 65535 gs)) gs;
+  gcp = λ gs. decode (displacementW gs);
+  lift = liftedW;
   same = sameStateW;
 }
 
+-- where state i begins
+abbrev pub placeIn : ℕ → ℕ
+placeIn i = 128 + 96 * i
+
+-- the words of 128 counts and as many states
+abbrev pub statesWords : ℕ
+statesWords = 12416
+
 abbrev pub stateIn : List ℕ → ℕ → List GoalWords
-stateIn sc i = goalsFrom sc (128 + 96 * i) (getD sc i 0)
+stateIn sc i = goalsFrom sc (placeIn i) (getD sc i 0)
 
 unfoldable pub statesIn : List ℕ → ℕ → List (List GoalWords)
 statesIn sc m = map (stateIn sc) (range 0 m)
 
 pub record Kept (sc : List ℕ) (m : ℕ) : Type 0 where
-  pub long : 12416 ≤ length sc
+  pub long : statesWords ≤ length sc
   pub few : m ≤ 128
   pub counts : (i : ℕ) → i < m → getD sc i 0 ≤ 32

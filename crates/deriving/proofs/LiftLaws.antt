@@ -8,18 +8,25 @@ use native.Mathlib.Nat.{pow-suc, mod-le}
 use borrow.Author.Tests.{lt-ltb, le-ltb}
 use lib.Dec.{ltb}
 use lib.ListN.{length, getD}
+use lib.Seq.{sets}
 use Rattle.goals.specs.GoalWords.{GoalWords, goalAt, goalsFrom, flat}
-use Rattle.goals.specs.WordStages.{leastCode, underFrom, underCode, liftW}
+use Rattle.goals.specs.WordStages.{leastCode, underFrom, underCode, liftW, displacementW}
+use Rattle.deriving.specs.Passes.{Lifts}
 use Rattle.goals.proofs.GoalLaws.{goals-next, goals-end, sub-one}
 
 module _ (ws : List ℕ) (at k best : ℕ) where
-  pub least-next : 0 < k → getD ws (at + 1) 0 < best → leastCode best (goalsFrom ws at k) ≡ leastCode (getD ws (at + 1) 0) (goalsFrom ws (at + 3) (k - 1))
+  pub least-next : 0 < k → getD ws (at + 1) 0 < best
+      → leastCode best (goalsFrom ws at k) ≡ leastCode (getD ws (at + 1) 0) (goalsFrom ws (at + 3) (k - 1))
   unfolding leastCode
-  least-next h l = ap (leastCode best) (goals-next ws at k h) ∙ ap (λ t. leastCode (cond t (getD ws (at + 1) 0) best) (goalsFrom ws (at + 3) (k - 1))) (lt-ltb (getD ws (at + 1) 0) best l)
+  least-next h l =
+      ap (leastCode best) (goals-next ws at k h)
+      ∙ ap (λ t. leastCode (cond t (getD ws (at + 1) 0) best) (goalsFrom ws (at + 3) (k - 1))) (lt-ltb (getD ws (at + 1) 0) best l)
 
   pub least-keep : 0 < k → best ≤ getD ws (at + 1) 0 → leastCode best (goalsFrom ws at k) ≡ leastCode best (goalsFrom ws (at + 3) (k - 1))
   unfolding leastCode
-  least-keep h l = ap (leastCode best) (goals-next ws at k h) ∙ ap (λ t. leastCode (cond t (getD ws (at + 1) 0) best) (goalsFrom ws (at + 3) (k - 1))) (le-ltb (getD ws (at + 1) 0) best l)
+  least-keep h l =
+      ap (leastCode best) (goals-next ws at k h)
+      ∙ ap (λ t. leastCode (cond t (getD ws (at + 1) 0) best) (goalsFrom ws (at + 3) (k - 1))) (le-ltb (getD ws (at + 1) 0) best l)
 
   pub least-end : k ≤ 0 → leastCode best (goalsFrom ws at k) ≡ best
   unfolding leastCode
@@ -61,10 +68,15 @@ rem-le c w = mod-le c w
 abbrev pub lifted : ℕ → List ℕ → ℕ → ℕ → List ℕ
 lifted c ws at k = flat (map (liftW c) (goalsFrom ws at k))
 
-pub lifted-next : (c : ℕ) (ws : List ℕ) (at k : ℕ) → 0 < k → lifted c ws at k ≡ getD ws at 0 ∷ underCode c (getD ws (at + 1) 0) ∷ getD ws (at + 2) 0 ∷ lifted c ws (at + 3) (k - 1)
+pub lifted-next : (c : ℕ) (ws : List ℕ) (at k : ℕ) → 0 < k
+    → lifted c ws at k ≡ getD ws at 0 ∷ underCode c (getD ws (at + 1) 0) ∷ getD ws (at + 2) 0 ∷ lifted c ws (at + 3) (k - 1)
 unfolding flat
 lifted-next c ws at k h = ap (λ gs. flat (map (liftW c) gs)) (goals-next ws at k h)
 
 pub lifted-end : (c : ℕ) (ws : List ℕ) (at k : ℕ) → k ≤ 0 → lifted c ws at k ≡ []
 unfolding flat
 lifted-end c ws at k h = ap (λ gs. flat (map (liftW c) gs)) (goals-end ws at k h)
+
+pub lifts : (gs : List GoalWords) (top : ℕ) (old new : List ℕ) → top ≡ displacementW gs → new ≡ sets old 0 (flat (map (liftW top) gs))
+    → Lifts gs top old new
+lifts gs top old new t e = (t, e ∙ ap (λ x. sets old 0 (flat (map (liftW x) gs))) t)

@@ -43,7 +43,8 @@ module _ (tab : List ℕ) (row : List Bool) (ws : List ℕ) (n best j : ℕ) whe
       let e : 3 * j + 3 ≡ 3 * (j + 1) = omega arith in
       goals-next ws (3 * j) (n - j) (omega arith) ∙ rw (d, e) refl
 
-  pub first-on : j < n → j < length row → getD row j false ≡ true → firstFrom tab row ws n best j ≡ firstFrom tab row ws n (firstCode best (owedBy tab (goalAt ws (3 * j)))) (j + 1)
+  pub first-on : j < n → j < length row → getD row j false ≡ true
+      → firstFrom tab row ws n best j ≡ firstFrom tab row ws n (firstCode best (owedBy tab (goalAt ws (3 * j)))) (j + 1)
   unfolding pickedW
   first-on h l e =
       ap₂ (λ r gs. firstCode best (gather (owedBy tab) (pickedW r gs))) (drop-cons row j false l) (along h)
@@ -56,9 +57,12 @@ module _ (tab : List ℕ) (row : List Bool) (ws : List ℕ) (n best j : ℕ) whe
 
   pub first-end : n ≤ j → firstFrom tab row ws n best j ≡ best
   unfolding firstCode
-  first-end h = ap (λ gs. firstCode best (gather (owedBy tab) (pickedW (drop j row) gs))) (goals-end ws (3 * j) (n - j) (omega arith)) ∙ ap (λ gs. firstCode best (gather (owedBy tab) gs)) (picked-none (drop j row))
+  first-end h =
+      ap (λ gs. firstCode best (gather (owedBy tab) (pickedW (drop j row) gs))) (goals-end ws (3 * j) (n - j) (omega arith))
+      ∙ ap (λ gs. firstCode best (gather (owedBy tab) gs)) (picked-none (drop j row))
 
-pub first-all : (tab : List ℕ) (row : List Bool) (ws : List ℕ) (n best : ℕ) → firstCode best (gather (owedBy tab) (pickedW row (goalsFrom ws 0 n))) ≡ firstFrom tab row ws n best 0
+pub first-all : (tab : List ℕ) (row : List Bool) (ws : List ℕ) (n best : ℕ)
+    → firstCode best (gather (owedBy tab) (pickedW row (goalsFrom ws 0 n))) ≡ firstFrom tab row ws n best 0
 first-all tab row ws n best = rw (sub-zero n) refl
 
 -- no later than where it began
@@ -67,7 +71,8 @@ unfolding firstCode
 first-pad best [] = omega arith
 first-pad best (c ∷ cs) = go (decLt (pad c) (pad best)) (first-pad c cs) (first-pad best cs)
   where
-    go : Dec (pad c < pad best) → pad (firstCode c cs) ≤ pad c → pad (firstCode best cs) ≤ pad best → pad (firstCode (cond (ltb (pad c) (pad best)) c best) cs) ≤ pad best
+    go : Dec (pad c < pad best) → pad (firstCode c cs) ≤ pad c → pad (firstCode best cs) ≤ pad best
+        → pad (firstCode (cond (ltb (pad c) (pad best)) c best) cs) ≤ pad best
     go (yes h) i k = let e : pad (firstCode c cs) ≤ pad best = omega arith in rw (lt-ltb (pad c) (pad best) h) e
     go (no h) i k = rw (le-ltb (pad c) (pad best) (omega (arith, h))) k
 
@@ -78,9 +83,16 @@ pad-word c h = go (decLt c 5) (decLt c 25) (decLt c 125) (decLt c 625) (decLt c 
     go (yes a) _ _ _ _ = rw (lt-ltb c 5 a) (omega arith)
     go (no a) (yes b) _ _ _ = rw (le-ltb c 5 (omega (arith, a)), lt-ltb c 25 b) (omega arith)
     go (no a) (no b) (yes d) _ _ = rw (le-ltb c 5 (omega (arith, a)), le-ltb c 25 (omega (arith, b)), lt-ltb c 125 d) (omega arith)
-    go (no a) (no b) (no d) (yes e) _ = rw (le-ltb c 5 (omega (arith, a)), le-ltb c 25 (omega (arith, b)), le-ltb c 125 (omega (arith, d)), lt-ltb c 625 e) (omega arith)
-    go (no a) (no b) (no d) (no e) (yes f) = rw (le-ltb c 5 (omega (arith, a)), le-ltb c 25 (omega (arith, b)), le-ltb c 125 (omega (arith, d)), le-ltb c 625 (omega (arith, e)), lt-ltb c 3125 f) (omega arith)
-    go (no a) (no b) (no d) (no e) (no f) = rw (le-ltb c 5 (omega (arith, a)), le-ltb c 25 (omega (arith, b)), le-ltb c 125 (omega (arith, d)), le-ltb c 625 (omega (arith, e)), le-ltb c 3125 (omega (arith, f))) h
+    go (no a) (no b) (no d) (yes e) _ =
+        rw (le-ltb c 5 (omega (arith, a)), le-ltb c 25 (omega (arith, b)), le-ltb c 125 (omega (arith, d)), lt-ltb c 625 e) (omega arith)
+    go (no a) (no b) (no d) (no e) (yes f) =
+        rw
+        (le-ltb c 5 (omega (arith, a)), le-ltb c 25 (omega (arith, b)), le-ltb c 125 (omega (arith, d)), le-ltb c 625 (omega (arith, e)), lt-ltb c 3125 f)
+        (omega arith)
+    go (no a) (no b) (no d) (no e) (no f) =
+        rw
+        (le-ltb c 5 (omega (arith, a)), le-ltb c 25 (omega (arith, b)), le-ltb c 125 (omega (arith, d)), le-ltb c 625 (omega (arith, e)), le-ltb c 3125 (omega (arith, f)))
+        h
 
 pub key-of : (tab : List ℕ) (gs : List GoalWords) → classKey tab gs ≡ pad (firstCode 65535 (gather (owedBy tab) gs))
 unfolding classKey
@@ -124,7 +136,9 @@ pub record Listed (p : ℕ → Bool) (key : ℕ → ℕ) (n : ℕ) (l₀ l : Lis
   pub is : sets l₀ 0 (keyed p key 0 n) ≡ sets l k (keyed p key i (n - i))
 
 pub listed-begin : (p : ℕ → Bool) (key : ℕ → ℕ) (n : ℕ) (l : List ℕ) → Listed p key n l l 0 0
-listed-begin p key n l = let e = keyed-all p key n in record { below = omega arith; few = omega arith; long = refl; count = omega (arith, ap length e); is = ap (sets l 0) e }
+listed-begin p key n l =
+    let e = keyed-all p key n in
+    record { below = omega arith; few = omega arith; long = refl; count = omega (arith, ap length e); is = ap (sets l 0) e }
 
 module _ {p : ℕ → Bool} {key : ℕ → ℕ} {n : ℕ} {l₀ l : List ℕ} {k i : ℕ} (s : Listed p key n l₀ l k i) where
   pub listed-on : i < n → p i ≡ true → (v : ℕ) → v ≡ 128 * key i + i → Listed p key n l₀ (set l k v) (k + 1) (i + 1)
@@ -147,7 +161,8 @@ module _ {p : ℕ → Bool} {key : ℕ → ℕ} {n : ℕ} {l₀ l : List ℕ} {k
       let f = s .few in
       record { below = omega arith; few = omega arith; long = s .long; count = omega (arith, ap length o); is = s .is ∙ ap (sets l k) o }
 
-  pub listed-end : n ≤ i → n ≤ length l₀ → (l′ : List ℕ) → l′ ≡ sets l 0 (sort ltb (take k l)) → (k ≡ length (keyed p key 0 n)) × (l′ ≡ sets l₀ 0 (sort ltb (keyed p key 0 n)))
+  pub listed-end : n ≤ i → n ≤ length l₀ → (l′ : List ℕ) → l′ ≡ sets l 0 (sort ltb (take k l))
+      → (k ≡ length (keyed p key 0 n)) × (l′ ≡ sets l₀ 0 (sort ltb (keyed p key 0 n)))
   listed-end h room l′ e =
       let o = keyed-end p key n i h in
       let z : k ≡ length (keyed p key 0 n) = let c = s .count in omega (arith, ap length o) in
@@ -157,9 +172,12 @@ module _ {p : ℕ → Bool} {key : ℕ → ℕ} {n : ℕ} {l₀ l : List ℕ} {k
 -- each is 128 times the key of a place and that place
 pub keyed-place : (p : ℕ → Bool) (key : ℕ → ℕ) (i k x : ℕ) → x ∈ keyed p key i k → (j : ℕ) × (i ≤ j) × (j < i + k) × (x ≡ 128 * key j + j)
 unfolding keyed
-keyed-place p key i (suc k) x m = go (p i) (λ h. let r = keyed-place p key (suc i) k x h in let a = r .1 in let b = r .2 in (r .0, omega arith, omega arith, r .3)) m
+keyed-place p key i (suc k) x m =
+    go (p i) (λ h. let r = keyed-place p key (suc i) k x h in let a = r .1 in let b = r .2 in (r .0, omega arith, omega arith, r .3)) m
   where
-    go : (b : Bool) → (x ∈ keyed p key (suc i) k → (j : ℕ) × (i ≤ j) × (j < i + suc k) × (x ≡ 128 * key j + j)) → x ∈ cond b ((128 * key i + i) ∷ keyed p key (suc i) k) (keyed p key (suc i) k) → (j : ℕ) × (i ≤ j) × (j < i + suc k) × (x ≡ 128 * key j + j)
+    go : (b : Bool) → (x ∈ keyed p key (suc i) k → (j : ℕ) × (i ≤ j) × (j < i + suc k) × (x ≡ 128 * key j + j))
+        → x ∈ cond b ((128 * key i + i) ∷ keyed p key (suc i) k) (keyed p key (suc i) k)
+        → (j : ℕ) × (i ≤ j) × (j < i + suc k) × (x ≡ 128 * key j + j)
     go true rest (here e) = (i, omega arith, omega arith, e)
     go true rest (there h) = rest h
     go false rest h = rest h
@@ -198,7 +216,8 @@ module _ {A : Type 0} (at : ℕ → A) (key : A → ℕ) where
   insert-item i h (x ∷ xs) past =
       let r = past x (here refl) in
       let j = r .0 in
-      let e : by (named x) (at i) ≡ ltb x (item i) = rw (r .3, named-item j (r .2)) (sym (item-before (key (at i)) (key (at j)) i j (r .1) (r .2))) in
+      let e : by (named x) (at i) ≡ ltb x (item i) =
+      rw (r .3, named-item j (r .2)) (sym (item-before (key (at i)) (key (at j)) i j (r .1) (r .2))) in
       rw e (go (ltb x (item i)) (insert-item i h xs (λ y m. past y (there m))))
     where
       go : (b : Bool) → map named (insert ltb (item i) xs) ≡ insert by (at i) (map named xs)
@@ -215,7 +234,9 @@ module _ {A : Type 0} (at : ℕ → A) (key : A → ℕ) where
   sort-keyed p i (suc k) h = go (p i) (sort-keyed p (suc i) k (omega arith))
     where
       past : Past (suc i) (sort ltb (keyed p (λ j. key (at j)) (suc i) k))
-      past x m = let r = keyed-place p (λ j. key (at j)) (suc i) k x (in-sort ltb (keyed p (λ j. key (at j)) (suc i) k) m) in let b = r .2 in (r .0, r .1, omega arith, r .3)
+      past x m =
+          let r = keyed-place p (λ j. key (at j)) (suc i) k x (in-sort ltb (keyed p (λ j. key (at j)) (suc i) k) m) in
+          let b = r .2 in (r .0, r .1, omega arith, r .3)
 
       go : (b : Bool) → map named (sort ltb (keyed p (λ j. key (at j)) (suc i) k)) ≡ sort by (passing p (suc i) k)
           → map named (sort ltb (cond b (item i ∷ keyed p (λ j. key (at j)) (suc i) k) (keyed p (λ j. key (at j)) (suc i) k))) ≡ sort by (cond b (at i ∷ []) [] ++ passing p (suc i) k)

@@ -1,4 +1,4 @@
--- Places in the order of a key, and then of their own number, as numbers that sort so: 128 times the key and the place.
+-- Inside: places in the order of a key, and then of their own number, as numbers that sort so: 128 times the key and the place.
 --   keyed       the k places from i on that pass
 --   leadItems   the rows that begin a class, by the class's first obligation position
 --   outItems    the goals that are announced, by position and then shape

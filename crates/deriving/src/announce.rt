@@ -6,12 +6,10 @@ use kinds::Position;
 use kinds::Symbol;
 ghost use mathlib.Core.Path.{_≡_};
 ghost use Prim.Native.Nat.{ℕ, _+_, _*_, _<_, _≤_};
-ghost use lib.Dec.{ltb};
 ghost use lib.ListN.{length};
-ghost use lib.Seq.{sets};
-ghost use Rattle.kinds.specs.Lists.{sort};
-ghost use Rattle.goals.specs.GoalWords.{Tabled};
-ghost use Rattle.deriving.specs.Orders.{goalOn, outItems};
+ghost use Rattle.goals.specs.GoalWords.{Stored};
+ghost use Rattle.deriving.specs.Orders.{outItems};
+ghost use Rattle.deriving.specs.Passes.{Arranged};
 
 // The goals of a state that a symbol at its label reduces to nothing, by position and then shape: for each 128 times the key that sorts so,
 // and its place in the state. Answers how many.
@@ -24,9 +22,8 @@ pub fn outputs(
     symbol: Symbol,
     items: &mut [u32],
 ) -> usize
-    requires { ⌜ Tabled (now tab) × (n ≤ 96) × (at + 3 * n ≤ length (now ws)) × ((j : ℕ) → j < n → (goalOn (now ws) at j) .sh < 16) × (n ≤ length (now items)) ⌝ }
-    ensures count { λ k. ⌜ k ≡ length (outItems (now (tab .entry)) (now (ws .entry)) at (root .0) (symbol .0) n) ⌝ }
-    ensures wrote { λ k. ⌜ now (items .exit) ≡ sets (now (items .entry)) 0 (sort ltb (outItems (now (tab .entry)) (now (ws .entry)) at (root .0) (symbol .0) n)) ⌝ }
+    requires { ⌜ Stored (now tab) (now ws) at n × (n ≤ length (now items)) ⌝ }
+    ensures { λ k. ⌜ Arranged (outItems (now (tab .entry)) (now (ws .entry)) at (root .0) (symbol .0) n) k (now (items .entry)) (now (items .exit)) ⌝ }
 {
     let mut k = 0;
     let mut j = 0;

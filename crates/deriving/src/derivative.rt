@@ -1,4 +1,5 @@
 use goals::Goal;
+use goals::UNEXPECTED;
 use goals::obligations::mask_after;
 use goals::obligations::node_at;
 use goals::words::goal_at;
@@ -9,24 +10,23 @@ use kinds::Symbol;
 ghost use mathlib.Core.Path.{_≡_};
 ghost use Prim.Native.Nat.{ℕ, _+_, _*_, _<_, _≤_};
 ghost use lib.ListN.{length};
-ghost use lib.Seq.{sets};
-ghost use Rattle.kinds.specs.Lists.{gather};
-ghost use Rattle.goals.specs.GoalWords.{Tabled, goalsFrom, Low, flat};
-ghost use Rattle.goals.specs.GoalKinds.{wordsOf};
+ghost use Rattle.goals.specs.GoalWords.{Tabled, goalsFrom, flat, Stored};
+ghost use Rattle.goals.specs.GoalKinds.{asWords};
 ghost use Rattle.goals.specs.WordStages.{stays, moves, reduct, goesOn, freshesW, bornW, derivW};
+ghost use Rattle.deriving.specs.Passes.{passed, Puts, PutsFirst, Derivable};
 
-// A goal's mask after reducing at a position by a symbol; 65536 where the symbol is not expected there.
+// A goal's mask after reducing at a position by a symbol; UNEXPECTED where the symbol is not expected there.
 pub fn reduce(tab: &[u16], g: Goal, root: Position, symbol: Symbol) -> u32
     requires { ⌜ Tabled (now tab) × (g .shape .0 < 16) ⌝ }
-    ensures { λ x. ⌜ x ≡ reduct (now (tab .entry)) (root .0) (symbol .0) (wordsOf g) ⌝ }
+    ensures { λ x. ⌜ x ≡ reduct (now (tab .entry)) (root .0) (symbol .0) (asWords g) ⌝ }
 {
     let s = g.shape.0 as usize;
     let r = node_at(tab, g, root);
     if r == 16 {
-        return 65536;
+        return UNEXPECTED;
     }
     if tab[768 + (16 * s + r)] != symbol.0 {
-        return 65536;
+        return UNEXPECTED;
     }
     mask_after(g.mask, r, tab[1024 + (16 * s + r)]) as u32
 }
@@ -41,9 +41,8 @@ fn put_staying(
     out: &mut [u16],
     to: usize,
 ) -> usize
-    requires { ⌜ Tabled (now tab) × (n ≤ 96) × (at + 3 * n ≤ length (now ws)) × Low (goalsFrom (now ws) at n) × (to + length (flat (gather (stays (now tab) (root .0)) (goalsFrom (now ws) at n))) ≤ length (now out)) ⌝ }
-    ensures next { λ r. ⌜ r ≡ to + length (flat (gather (stays (now (tab .entry)) (root .0)) (goalsFrom (now (ws .entry)) at n))) ⌝ }
-    ensures wrote { λ r. ⌜ now (out .exit) ≡ sets (now (out .entry)) to (flat (gather (stays (now (tab .entry)) (root .0)) (goalsFrom (now (ws .entry)) at n))) ⌝ }
+    requires { ⌜ Stored (now tab) (now ws) at n × (to + length (passed (stays (now tab) (root .0)) (now ws) at n) ≤ length (now out)) ⌝ }
+    ensures { λ r. ⌜ Puts (passed (stays (now (tab .entry)) (root .0)) (now (ws .entry)) at n) to r (now (out .entry)) (now (out .exit)) ⌝ }
 {
     let mut next = to;
     let mut here = at;
@@ -71,9 +70,8 @@ fn put_moving(
     out: &mut [u16],
     to: usize,
 ) -> usize
-    requires { ⌜ Tabled (now tab) × (n ≤ 96) × (at + 3 * n ≤ length (now ws)) × Low (goalsFrom (now ws) at n) × (to + length (flat (gather (moves (now tab) (root .0) (symbol .0)) (goalsFrom (now ws) at n))) ≤ length (now out)) ⌝ }
-    ensures next { λ r. ⌜ r ≡ to + length (flat (gather (moves (now (tab .entry)) (root .0) (symbol .0)) (goalsFrom (now (ws .entry)) at n))) ⌝ }
-    ensures wrote { λ r. ⌜ now (out .exit) ≡ sets (now (out .entry)) to (flat (gather (moves (now (tab .entry)) (root .0) (symbol .0)) (goalsFrom (now (ws .entry)) at n))) ⌝ }
+    requires { ⌜ Stored (now tab) (now ws) at n × (to + length (passed (moves (now tab) (root .0) (symbol .0)) (now ws) at n) ≤ length (now out)) ⌝ }
+    ensures { λ r. ⌜ Puts (passed (moves (now (tab .entry)) (root .0) (symbol .0)) (now (ws .entry)) at n) to r (now (out .entry)) (now (out .exit)) ⌝ }
 {
     let mut next = to;
     let mut here = at;
@@ -90,14 +88,13 @@ fn put_moving(
 
 // One goal with mask x, where that is a mask and not empty.
 fn put_moved(out: &mut [u16], to: usize, g: Goal, x: u32) -> usize
-    requires { ⌜ to + length (flat (goesOn x (wordsOf g))) ≤ length (now out) ⌝ }
-    ensures next { λ r. ⌜ r ≡ to + length (flat (goesOn x (wordsOf g))) ⌝ }
-    ensures wrote { λ r. ⌜ now (out .exit) ≡ sets (now (out .entry)) to (flat (goesOn x (wordsOf g))) ⌝ }
+    requires { ⌜ to + length (flat (goesOn x (asWords g))) ≤ length (now out) ⌝ }
+    ensures { λ r. ⌜ Puts (flat (goesOn x (asWords g))) to r (now (out .entry)) (now (out .exit)) ⌝ }
 {
     if x == 0 {
         return to;
     }
-    if 65536 <= x {
+    if UNEXPECTED <= x {
         return to;
     }
     put_goal(
@@ -115,8 +112,7 @@ fn put_moved(out: &mut [u16], to: usize, g: Goal, x: u32) -> usize
 // The fresh goals of n shapes at a position, from `to` on; answers the place after them.
 pub fn put_fresh(out: &mut [u16], to: usize, n: usize, at: Position) -> usize
     requires { ⌜ (n ≤ 16) × (to + length (flat (freshesW n (at .0))) ≤ length (now out)) ⌝ }
-    ensures next { λ r. ⌜ r ≡ to + length (flat (freshesW n (at .0))) ⌝ }
-    ensures wrote { λ r. ⌜ now (out .exit) ≡ sets (now (out .entry)) to (flat (freshesW n (at .0))) ⌝ }
+    ensures { λ r. ⌜ Puts (flat (freshesW n (at .0))) to r (now (out .entry)) (now (out .exit)) ⌝ }
 {
     let mut next = to;
     let mut j = 0;
@@ -139,8 +135,7 @@ pub fn put_fresh(out: &mut [u16], to: usize, n: usize, at: Position) -> usize
 // The fresh goals of n shapes at each of the k children of a position, from `to` on; answers the place after them.
 fn put_born(out: &mut [u16], to: usize, n: usize, root: Position, k: u16) -> usize
     requires { ⌜ (n ≤ 16) × (5 * root .0 + k ≤ 65535) × (to + length (flat (bornW n (root .0) k)) ≤ length (now out)) ⌝ }
-    ensures next { λ r. ⌜ r ≡ to + length (flat (bornW n (root .0) k)) ⌝ }
-    ensures wrote { λ r. ⌜ now (out .exit) ≡ sets (now (out .entry)) to (flat (bornW n (root .0) k)) ⌝ }
+    ensures { λ r. ⌜ Puts (flat (bornW n (root .0) k)) to r (now (out .entry)) (now (out .exit)) ⌝ }
 {
     let mut next = to;
     let mut i = 0;
@@ -163,9 +158,8 @@ pub fn derive(
     k: u16,
     out: &mut [u16],
 ) -> usize
-    requires { ⌜ Tabled (now tab) × (goals ≤ 96) × (at + 3 * goals ≤ length (now ws)) × Low (goalsFrom (now ws) at goals) × (n ≤ 16) × (5 * root .0 + k ≤ 65535) × (length (flat (derivW (now tab) n (root .0) (symbol .0) k (goalsFrom (now ws) at goals))) ≤ length (now out)) ⌝ }
-    ensures next { λ r. ⌜ r ≡ length (flat (derivW (now (tab .entry)) n (root .0) (symbol .0) k (goalsFrom (now (ws .entry)) at goals))) ⌝ }
-    ensures wrote { λ r. ⌜ now (out .exit) ≡ sets (now (out .entry)) 0 (flat (derivW (now (tab .entry)) n (root .0) (symbol .0) k (goalsFrom (now (ws .entry)) at goals))) ⌝ }
+    requires { ⌜ Stored (now tab) (now ws) at goals × Derivable (now tab) n (root .0) (symbol .0) k (goalsFrom (now ws) at goals) (now out) ⌝ }
+    ensures { λ r. ⌜ PutsFirst (flat (derivW (now (tab .entry)) n (root .0) (symbol .0) k (goalsFrom (now (ws .entry)) at goals))) r (now (out .entry)) (now (out .exit)) ⌝ }
 {
     let one = put_staying(tab, ws, at, goals, root, out, 0);
     let two = put_moving(tab, ws, at, goals, root, symbol, out, one);

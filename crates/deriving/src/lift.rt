@@ -1,4 +1,5 @@
 use goals::Goal;
+use goals::NOWHERE;
 use goals::words::goal_at;
 use goals::words::put_goal;
 use kinds::Position;
@@ -9,9 +10,20 @@ ghost use lib.ListN.{length};
 ghost use lib.Seq.{sets};
 ghost use Rattle.goals.specs.GoalWords.{goalsFrom, flat};
 ghost use Rattle.goals.specs.WordStages.{leastCode, underCode, liftW};
+ghost use Rattle.deriving.specs.Passes.{Lifts};
+
+// A class of k goals, lifted by its displacement, into `lifted`; answers the displacement.
+pub fn lift_class(class: &[u16], k: usize, lifted: &mut [u16]) -> Position
+    requires { ⌜ (k ≤ 96) × (3 * k ≤ length (now class)) × (3 * k ≤ length (now lifted)) ⌝ }
+    ensures { λ r. ⌜ Lifts (goalsFrom (now (class .entry)) 0 k) (r .0) (now (lifted .entry)) (now (lifted .exit)) ⌝ }
+{
+    let top = least(class, 0, k, NOWHERE);
+    put_lifted(class, 0, k, top, lifted);
+    top
+}
 
 // The position of the least code among `best` and those that n goals from `at` on announce.
-pub fn least(ws: &[u16], at: usize, n: usize, best: Position) -> Position
+fn least(ws: &[u16], at: usize, n: usize, best: Position) -> Position
     requires { ⌜ (n ≤ 96) × (at + 3 * n ≤ length (now ws)) ⌝ }
     ensures { λ r. ⌜ r .0 ≡ leastCode (best .0) (goalsFrom (now (ws .entry)) at n) ⌝ }
 {
@@ -29,7 +41,7 @@ pub fn least(ws: &[u16], at: usize, n: usize, best: Position) -> Position
 }
 
 // What is left of a position below another.
-pub fn under(top: Position, place: Position) -> Position
+fn under(top: Position, place: Position) -> Position
     ensures { λ r. ⌜ r .0 ≡ underCode (top .0) (place .0) ⌝ }
 {
     let mut up = place.0 as u32;
@@ -47,7 +59,7 @@ pub fn under(top: Position, place: Position) -> Position
 }
 
 // A class of n goals from `at` on, lifted by a position, into `out`.
-pub fn put_lifted(ws: &[u16], at: usize, n: usize, top: Position, out: &mut [u16])
+fn put_lifted(ws: &[u16], at: usize, n: usize, top: Position, out: &mut [u16])
     requires { ⌜ (n ≤ 96) × (at + 3 * n ≤ length (now ws)) × (3 * n ≤ length (now out)) ⌝ }
     ensures { λ r. ⌜ now (out .exit) ≡ sets (now (out .entry)) 0 (flat (map (liftW (top .0)) (goalsFrom (now (ws .entry)) at n))) ⌝ }
 {

@@ -1,52 +1,49 @@
 use classes::members::put_class;
-use classes::order::class_order;
-use classes::square::dependency;
-use deriving::announce::outputs;
-use deriving::derivative::derive;
 use deriving::derivative::put_fresh;
-use deriving::lift::least;
-use deriving::lift::put_lifted;
+use deriving::lift::lift_class;
 use goals::obligations::label;
 use kinds::Position;
 use kinds::Reason;
 use kinds::State;
 use kinds::Symbol;
+use states::DERIVED_WORDS;
 use states::Explored;
-use states::Met;
+use states::Going;
+use states::STATE_WORDS;
+use states::STATES;
 use states::keeping::add_state;
 use states::keeping::find_state;
-ghost use mathlib.Core.Path.{_≡_};
-ghost use mathlib.Core.List.{List, [], map};
-ghost use Prim.Native.Nat.{ℕ, _+_, _*_, _%_, _<_, _≤_};
-ghost use lib.ListN.{length, getD, drop};
+use states::parting::part;
+ghost use mathlib.Core.List.{List, []};
+ghost use Prim.Native.Nat.{ℕ, _<_, _≤_};
+ghost use lib.ListN.{length};
 ghost use Rattle.automaton.specs.Exploring.{Block, meet as meets-one, meets, row, explored};
-ghost use Rattle.goals.specs.GoalWords.{labelCode};
-ghost use Rattle.goals.specs.WordStages.{outputsW};
-ghost use Rattle.decoding.specs.WordMachine.{words as machine, stateIn, statesIn, Kept};
+ghost use Rattle.decoding.specs.WordMachine.{words as machine, stateIn, statesIn, statesWords, Kept};
 ghost use Rattle.decoding.specs.GoodStates.{Ready};
-ghost use Rattle.classes.specs.Squares.{Square};
 ghost use Rattle.deriving.specs.Orders.{classAt};
-ghost use Rattle.states.specs.Meeting.{AllGood, MetIs, RowIs, ExploredIs};
+ghost use Rattle.states.specs.Meeting.{Held, Behind, MetIs, SymbolIs, RowIs, ExploredIs};
+ghost use Rattle.states.specs.Parting.{OnSymbol, Named, classesBy};
+ghost use Rattle.classes.specs.Squares.{Squared};
 
 // Meets the states in the order of their numbers; scratch then holds them. Answers how many there are and how many words their blocks take.
-pub fn explore(tab: &[u16], arity: &[u8], shapes: usize, scratch: &mut [u16]) -> Explored
-    requires { ⌜ Ready (now arity) (now tab) shapes × (12416 ≤ length (now scratch)) ⌝ }
-    ensures is { λ r. ⌜ ExploredIs r (now (arity .entry)) (now (tab .entry)) shapes (now (scratch .exit)) (explored (machine (now (tab .entry)) shapes) (now (arity .entry))) ⌝ }
-    ensures behind { λ r. ⌜ drop 12416 (now (scratch .exit)) ≡ drop 12416 (now (scratch .entry)) ⌝ }
+pub fn explore(tab: &[u16], symbols: &[u8], shapes: usize, scratch: &mut [u16]) -> Explored
+    requires { ⌜ Ready (now symbols) (now tab) shapes × (statesWords ≤ length (now scratch)) ⌝ }
+    ensures is { λ r. ⌜ ExploredIs r (now (symbols .entry)) (now (tab .entry)) shapes (now (scratch .exit)) (explored (machine (now (tab .entry)) shapes) (now (symbols .entry))) ⌝ }
+    ensures behind { λ r. ⌜ Behind (now (scratch .entry)) (now (scratch .exit)) ⌝ }
 {
-    let mut first = [0u16; 96];
-    put_fresh(&mut first, 0, shapes, Position(0));
+    let mut first = [0u16; STATE_WORDS];
+    put_fresh(&mut first, 0, shapes, Position::ROOT);
     add_state(scratch, 0, &first, shapes);
     let mut m = 1;
     let mut words = 0;
     let mut i = 0;
     while i < m {
-        match explore_state(tab, arity, shapes, scratch, m, State(i as u16)) {
-            Met::On(states, more) => {
+        match explore_state(tab, symbols, shapes, scratch, m, State(i as u16)) {
+            Going::On(states, more) => {
                 m = states;
                 words += more;
             }
-            Met::Stopped(reason) => {
+            Going::Stopped(reason) => {
                 return Explored::Stopped(reason, State(i as u16));
             }
         }
@@ -58,26 +55,26 @@ pub fn explore(tab: &[u16], arity: &[u8], shapes: usize, scratch: &mut [u16]) ->
 // One of m states on each symbol in turn.
 fn explore_state(
     tab: &[u16],
-    arity: &[u8],
+    symbols: &[u8],
     shapes: usize,
     scratch: &mut [u16],
     m: usize,
     state: State,
-) -> Met
-    requires { ⌜ Kept (now scratch) m × (state .0 < m) × AllGood (now arity) (now tab) shapes (statesIn (now scratch) m) ⌝ }
-    ensures is { λ r. ⌜ ((bs : List Block) → RowIs r (now (arity .entry)) (now (tab .entry)) shapes (now (scratch .exit)) (state .0) bs (row (machine (now (tab .entry)) shapes) (state .0) (stateIn (now (scratch .entry)) (state .0)) 0 (now (arity .entry)) (statesIn (now (scratch .entry)) m) bs)) ⌝ }
-    ensures behind { λ r. ⌜ drop 12416 (now (scratch .exit)) ≡ drop 12416 (now (scratch .entry)) ⌝ }
+) -> Going
+    requires { ⌜ Held (now symbols) (now tab) shapes (now scratch) m × (state .0 < m) ⌝ }
+    ensures is { λ r. ⌜ ((bs : List Block) → RowIs r (now (symbols .entry)) (now (tab .entry)) shapes (now (scratch .exit)) (state .0) bs (row (machine (now (tab .entry)) shapes) (state .0) (stateIn (now (scratch .entry)) (state .0)) 0 (now (symbols .entry)) (statesIn (now (scratch .entry)) m) bs)) ⌝ }
+    ensures behind { λ r. ⌜ Behind (now (scratch .entry)) (now (scratch .exit)) ⌝ }
 {
     let i = state.0 as usize;
     let n = scratch[i] as usize;
-    let c = label(tab, scratch, 128 + 96 * i, n) as u16;
+    let c = label(tab, scratch, STATES + STATE_WORDS * i, n) as u16;
     let mut states = m;
     let mut words = 0;
     let mut f = 0;
-    while f < arity.len() {
+    while f < symbols.len() {
         match explore_symbol(
             tab,
-            arity,
+            symbols,
             shapes,
             scratch,
             states,
@@ -85,52 +82,59 @@ fn explore_state(
             Position(c),
             Symbol(f as u16),
         ) {
-            Met::On(all, more) => {
+            Going::On(all, more) => {
                 states = all;
                 words += more;
             }
-            Met::Stopped(reason) => return Met::Stopped(reason),
+            Going::Stopped(reason) => return Going::Stopped(reason),
         }
         f += 1;
     }
-    Met::On(states, words)
+    Going::On(states, words)
 }
 
 // One of m states, with its label, on a symbol.
 fn explore_symbol(
     tab: &[u16],
-    arity: &[u8],
+    symbols: &[u8],
     shapes: usize,
     scratch: &mut [u16],
     m: usize,
     state: State,
     root: Position,
     symbol: Symbol,
-) -> Met
-    requires { ⌜ Kept (now scratch) m × (state .0 < m) × AllGood (now arity) (now tab) shapes (statesIn (now scratch) m) × (root .0 ≡ labelCode (now tab) (stateIn (now scratch) (state .0))) × (symbol .0 < length (now arity)) ⌝ }
-    ensures is { λ r. ⌜ MetIs r (now (scratch .exit)) (2 + 2 * length (outputsW (now (tab .entry)) (root .0) (symbol .0) (stateIn (now (scratch .entry)) (state .0)))) (meets (machine (now (tab .entry)) shapes) (statesIn (now (scratch .entry)) m) (machine (now (tab .entry)) shapes .classes (stateIn (now (scratch .entry)) (state .0)) (symbol .0) (getD (now (arity .entry)) (symbol .0) 0))) ⌝ }
-    ensures behind { λ r. ⌜ drop 12416 (now (scratch .exit)) ≡ drop 12416 (now (scratch .entry)) ⌝ }
+) -> Going
+    requires { ⌜ Kept (now scratch) m × OnSymbol (now symbols) (now tab) shapes (now scratch) (state .0) (root .0) (symbol .0) ⌝ }
+    ensures is { λ r. ⌜ SymbolIs r (now (symbols .entry)) (now (tab .entry)) shapes (now (scratch .entry)) m (state .0) (symbol .0) (now (scratch .exit)) ⌝ }
+    ensures behind { λ r. ⌜ Behind (now (scratch .entry)) (now (scratch .exit)) ⌝ }
 {
-    let mut goals = [0u16; 288];
+    let mut out = [0u32; 96];
+    let mut goals = [0u16; DERIVED_WORDS];
     let mut dep = [[false; 96]; 96];
     let mut order = [0u32; 96];
-    let mut out = [0u32; 96];
-    let i = state.0 as usize;
-    let k = arity[symbol.0 as usize] as u16;
-    let at = 128 + 96 * i;
-    let n = scratch[i] as usize;
-    let outs = outputs(tab, scratch, at, n, root, symbol, &mut out);
-    let d = derive(tab, scratch, at, n, shapes, root, symbol, k, &mut goals) / 3;
-    dependency(tab, &goals, d, &mut dep);
-    let classes = class_order(tab, &goals, d, &dep, &mut order);
+    let parts = part(
+        tab,
+        symbols,
+        shapes,
+        scratch,
+        state,
+        root,
+        symbol,
+        &mut out,
+        &mut goals,
+        &mut dep,
+        &mut order,
+    );
+    let classes = parts.classes;
+    let base = 2 + 2 * parts.announced;
     meet_all(
         scratch,
         m,
         &goals,
-        d,
+        parts.goals,
         &dep,
         &order[0..classes],
-        2 + 2 * outs,
+        base,
     )
 }
 
@@ -143,25 +147,25 @@ fn meet_all(
     dep: &[[bool; 96]; 96],
     order: &[u32],
     base: usize,
-) -> Met
-    requires { ⌜ Kept (now scratch) m × (n ≤ 96) × (3 * n ≤ length (now goals)) × Square 96 (now dep) × (length (now order) ≤ 96) × ((j : ℕ) → j < length (now order) → getD (now order) j 0 % 128 < 96) × (base ≤ 1000) ⌝ }
-    ensures is { λ r. ⌜ MetIs r (now (scratch .exit)) base (meets (machine [] 0) (statesIn (now (scratch .entry)) m) (map (λ x. classAt (now (dep .entry)) (now (goals .entry)) n (x % 128)) (now (order .entry)))) ⌝ }
-    ensures behind { λ r. ⌜ drop 12416 (now (scratch .exit)) ≡ drop 12416 (now (scratch .entry)) ⌝ }
+) -> Going
+    requires { ⌜ Kept (now scratch) m × Squared (now goals) n (now dep) × Named 96 (now order) × (base ≤ 1000) ⌝ }
+    ensures is { λ r. ⌜ MetIs r (now (scratch .exit)) base (meets (machine [] 0) (statesIn (now (scratch .entry)) m) (classesBy (now (dep .entry)) (now (goals .entry)) n (now (order .entry)))) ⌝ }
+    ensures behind { λ r. ⌜ Behind (now (scratch .entry)) (now (scratch .exit)) ⌝ }
 {
     let mut states = m;
     let mut words = base;
     let mut j = 0;
     while j < order.len() {
         match meet(scratch, states, goals, n, dep, (order[j] % 128) as usize) {
-            Met::On(all, more) => {
+            Going::On(all, more) => {
                 states = all;
                 words += more;
             }
-            Met::Stopped(reason) => return Met::Stopped(reason),
+            Going::Stopped(reason) => return Going::Stopped(reason),
         }
         j += 1;
     }
-    Met::On(states, words)
+    Going::On(states, words)
 }
 
 // The class that row r begins: a state met before, or a new one.
@@ -172,25 +176,24 @@ fn meet(
     n: usize,
     dep: &[[bool; 96]; 96],
     r: usize,
-) -> Met
-    requires { ⌜ Kept (now scratch) m × (n ≤ 96) × (3 * n ≤ length (now goals)) × Square 96 (now dep) × (r < 96) ⌝ }
+) -> Going
+    requires { ⌜ Kept (now scratch) m × Squared (now goals) n (now dep) × (r < 96) ⌝ }
     ensures is { λ a. ⌜ MetIs a (now (scratch .exit)) 0 (meets-one (machine [] 0) (statesIn (now (scratch .entry)) m) (classAt (now (dep .entry)) (now (goals .entry)) n r)) ⌝ }
-    ensures behind { λ a. ⌜ drop 12416 (now (scratch .exit)) ≡ drop 12416 (now (scratch .entry)) ⌝ }
+    ensures behind { λ a. ⌜ Behind (now (scratch .entry)) (now (scratch .exit)) ⌝ }
 {
-    let mut class = [0u16; 288];
+    let mut class = [0u16; DERIVED_WORDS];
     let k = put_class(dep, r, goals, n, &mut class) / 3;
     if 32 < k {
-        return Met::Stopped(Reason::ManyGoals);
+        return Going::Stopped(Reason::ManyGoals);
     }
-    let mut lifted = [0u16; 96];
-    let top = least(&class, 0, k, Position(65535));
-    put_lifted(&class, 0, k, top, &mut lifted);
+    let mut lifted = [0u16; STATE_WORDS];
+    lift_class(&class, k, &mut lifted);
     if find_state(scratch, m, &lifted, k) < m {
-        return Met::On(m, 2);
+        return Going::On(m, 2);
     }
-    if m == 128 {
-        return Met::Stopped(Reason::ManyStates);
+    if m == STATES {
+        return Going::Stopped(Reason::ManyStates);
     }
     add_state(scratch, m, &lifted, k);
-    Met::On(m + 1, 2)
+    Going::On(m + 1, 2)
 }

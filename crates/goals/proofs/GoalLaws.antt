@@ -1,5 +1,5 @@
 -- The word definitions along a loop's turn.
-use native.Mathlib.Nat.{mul-le-mul, sub-zero}
+use native.Mathlib.Nat.{mul-le-mul, sub-zero, zero-add}
 use Prim.Native.Nat.{ℕ, zero, suc, _+_, _-_, _*_, _/_, _%_, _^_, _<_, _≤_}
 use mathlib.Core.Path.{_≡_, refl, ap, sym, _∙_}
 use mathlib.Core.List.{List, [], _∷_, _++_, append-assoc}
@@ -11,7 +11,7 @@ use lib.Dec.{eqb, ltb}
 use lib.ListN.{length, getD, take, drop, set, drop-of-length-le}
 use lib.Seq.{sets, sets-eq, take-append-seam}
 use Rattle.kinds.proofs.ListLaws.{from}
-use Rattle.goals.specs.GoalWords.{owedFrom, owedCodes, nodeFrom, codeAt, firstCode, pad, goalAt, goalsFrom, Low, rootCodes}
+use Rattle.goals.specs.GoalWords.{GoalWords, owedFrom, owedCodes, nodeFrom, codeAt, firstCode, pad, goalAt, goalsFrom, Low, Stored, rootCodes}
 use Rattle.goals.specs.WordStages.{hasCode, sharing}
 use Rattle.goals.specs.Sharing.{firstShared, pick, isAt}
 use Rattle.goals.specs.declared.Shared.the-variants.{At, Nothing}
@@ -41,7 +41,8 @@ module _ (tab : List ℕ) (s a : ℕ) where
     node-here zero r m h e g = absurd (omega arith)
     node-here (suc k) r m h e g = rw (eq-eqb _ _ e, eq-eqb _ _ g)
 
-    pub node-other : (k r m : ℕ) → 0 < k → m % 2 ≡ 1 → (codeAt tab s a r ≡ c → ⊥) → nodeFrom tab s a c k r m ≡ nodeFrom tab s a c (k - 1) (r + 1) (m / 2)
+    pub node-other : (k r m : ℕ) → 0 < k → m % 2 ≡ 1 → (codeAt tab s a r ≡ c → ⊥)
+        → nodeFrom tab s a c k r m ≡ nodeFrom tab s a c (k - 1) (r + 1) (m / 2)
     unfolding nodeFrom
     node-other zero r m h e g = absurd (omega arith)
     node-other (suc k) r m h e g = rw (eq-eqb _ _ e, ne-eqb _ _ g, sub-one k, add-one r)
@@ -86,11 +87,13 @@ module _ (a b : List ℕ) (i : ℕ) where
 module _ (cs : List ℕ) (i best : ℕ) where
   pub best-next : i < length cs → pad (getD cs i 0) < pad best → firstCode best (drop i cs) ≡ firstCode (getD cs i 0) (drop (i + 1) cs)
   unfolding firstCode
-  best-next h l = ap (firstCode best) (from cs i h) ∙ ap (λ (t : Bool). firstCode (cond t (getD cs i 0) best) (drop (i + 1) cs)) (lt-ltb _ _ l)
+  best-next h l =
+      ap (firstCode best) (from cs i h) ∙ ap (λ (t : Bool). firstCode (cond t (getD cs i 0) best) (drop (i + 1) cs)) (lt-ltb _ _ l)
 
   pub best-keep : i < length cs → pad best ≤ pad (getD cs i 0) → firstCode best (drop i cs) ≡ firstCode best (drop (i + 1) cs)
   unfolding firstCode
-  best-keep h l = ap (firstCode best) (from cs i h) ∙ ap (λ (t : Bool). firstCode (cond t (getD cs i 0) best) (drop (i + 1) cs)) (le-ltb _ _ l)
+  best-keep h l =
+      ap (firstCode best) (from cs i h) ∙ ap (λ (t : Bool). firstCode (cond t (getD cs i 0) best) (drop (i + 1) cs)) (le-ltb _ _ l)
 
   pub best-end : length cs ≤ i → firstCode best (drop i cs) ≡ best
   unfolding firstCode
@@ -111,7 +114,9 @@ owed-short tab s a (suc k) r m = go (eqb (m % 2) 1) (owedFrom tab s a k (suc r) 
 
 -- what was written from 0 on is the front
 pub front : (l vs : List ℕ) (n : ℕ) → length vs ≤ length l → n ≡ length vs → take (n - 0) (drop 0 (sets l 0 vs)) ≡ vs
-front l vs n h e = rw (sub-zero, e, sets-eq vs l 0 (omega arith)) (ap (take (length vs)) (append-assoc [] vs _) ∙ take-append-seam vs (drop (0 + length vs) l))
+front l vs n h e =
+    rw (sub-zero, e, sets-eq vs l 0 (omega arith))
+    (ap (take (length vs)) (append-assoc [] vs _) ∙ take-append-seam vs (drop (0 + length vs) l))
 
 -- goals along the words
 pub goals-next : (ws : List ℕ) (at k : ℕ) → 0 < k → goalsFrom ws at k ≡ goalAt ws at ∷ goalsFrom ws (at + 3) (k - 1)
@@ -127,19 +132,48 @@ goals-end ws at (suc k) h = absurd (omega arith)
 pub low-next : (ws : List ℕ) (at k : ℕ) → 0 < k → Low (goalsFrom ws at k) → (getD ws at 0 < 16) × Low (goalsFrom ws (at + 3) (k - 1))
 low-next ws at k h l = rw (goals-next ws at k h) at l
 
+-- goal a of k
+pub goals-length : (ws : List ℕ) (at k : ℕ) → length (goalsFrom ws at k) ≡ k
+unfolding goalsFrom
+goals-length ws at zero = refl
+goals-length ws at (suc k) = ap suc (goals-length ws (at + 3) k)
+
+pub goals-at : (ws : List ℕ) (at k a : ℕ) (d : GoalWords) → a < k → getD (goalsFrom ws at k) a d ≡ goalAt ws (at + 3 * a)
+unfolding goalsFrom
+goals-at ws at zero a d h = absurd (omega arith)
+goals-at ws at (suc k) zero d h = let e : at + 3 * 0 ≡ at = omega arith in ap (goalAt ws) (sym e)
+goals-at ws at (suc k) (suc a) d h =
+    let e : at + 3 + 3 * a ≡ at + 3 * suc a = omega arith in goals-at ws (at + 3) k a d (omega arith) ∙ ap (goalAt ws) e
+
+-- each goal's shape
+pub low-at : (ws : List ℕ) (at n j : ℕ) → Low (goalsFrom ws at n) → j < n → goalAt ws (at + 3 * j) .sh < 16
+unfolding goalsFrom
+low-at ws at zero j l h = absurd (omega arith)
+low-at ws at (suc n) zero l h = let e : at + 3 * 0 ≡ at = omega arith in rw e (l .0)
+low-at ws at (suc n) (suc j) l h =
+    let e : at + 3 * suc j ≡ at + 3 + 3 * j = omega arith in rw e (low-at ws (at + 3) n j (l .1) (omega arith))
+
+pub stored-low : {tab ws : List ℕ} {at n : ℕ} → Stored tab ws at n → (j : ℕ) → j < n → goalAt ws (at + 3 * j) .sh < 16
+stored-low {ws = ws} {at} {n} s j h = low-at ws at n j (s .low) h
+
+pub stored-first : {tab ws : List ℕ} {n : ℕ} → Stored tab ws 0 n → (j : ℕ) → j < n → goalAt ws (3 * j) .sh < 16
+stored-first s j h = rw (zero-add (3 * j)) at (stored-low s j h)
+
 pub first-append : (b : ℕ) (xs ys : List ℕ) → firstCode b (xs ++ ys) ≡ firstCode (firstCode b xs) ys
 unfolding firstCode
 first-append b [] ys = refl
 first-append b (x ∷ xs) ys = first-append (cond (ltb (pad x) (pad b)) x b) xs ys
 
 module _ (tab ws : List ℕ) (at k best : ℕ) where
-  pub label-on : 0 < k → getD ws (at + 1) 0 ≡ 0 → firstCode best (rootCodes tab (goalsFrom ws at k)) ≡ firstCode (firstCode best (owedCodes tab (getD ws at 0) 0 (getD ws (at + 2) 0))) (rootCodes tab (goalsFrom ws (at + 3) (k - 1)))
+  pub label-on : 0 < k → getD ws (at + 1) 0 ≡ 0
+      → firstCode best (rootCodes tab (goalsFrom ws at k)) ≡ firstCode (firstCode best (owedCodes tab (getD ws at 0) 0 (getD ws (at + 2) 0))) (rootCodes tab (goalsFrom ws (at + 3) (k - 1)))
   unfolding rootCodes
   label-on h e =
       ap (λ gs. firstCode best (rootCodes tab gs)) (goals-next ws at k h)
       ∙ rw (e) (first-append best (owedCodes tab (getD ws at 0) 0 (getD ws (at + 2) 0)) (rootCodes tab (goalsFrom ws (at + 3) (k - 1))))
 
-  pub label-off : 0 < k → (getD ws (at + 1) 0 ≡ 0 → ⊥) → firstCode best (rootCodes tab (goalsFrom ws at k)) ≡ firstCode best (rootCodes tab (goalsFrom ws (at + 3) (k - 1)))
+  pub label-off : 0 < k → (getD ws (at + 1) 0 ≡ 0 → ⊥)
+      → firstCode best (rootCodes tab (goalsFrom ws at k)) ≡ firstCode best (rootCodes tab (goalsFrom ws (at + 3) (k - 1)))
   unfolding rootCodes
   label-off h e = ap (λ gs. firstCode best (rootCodes tab gs)) (goals-next ws at k h) ∙ rw (ne-eqb _ _ e)
 
@@ -150,7 +184,9 @@ module _ (tab ws : List ℕ) (at k best : ℕ) where
 pub node-low : (tab : List ℕ) (s a c k r m : ℕ) → r + k ≤ 16 → nodeFrom tab s a c k r m ≤ 16
 unfolding nodeFrom
 node-low tab s a c zero r m h = omega arith
-node-low tab s a c (suc k) r m h = go (eqb (m % 2) 1) (eqb (codeAt tab s a r) c) (nodeFrom tab s a c k (suc r) (m / 2)) (node-low tab s a c k (suc r) (m / 2) (omega arith))
+node-low tab s a c (suc k) r m h =
+    go (eqb (m % 2) 1) (eqb (codeAt tab s a r) c) (nodeFrom tab s a c k (suc r) (m / 2))
+    (node-low tab s a c k (suc r) (m / 2) (omega arith))
   where
     go : (t u : Bool) (x : ℕ) → x ≤ 16 → cond t (cond u r x) x ≤ 16
     go true true x l = omega arith

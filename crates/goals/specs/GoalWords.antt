@@ -1,4 +1,4 @@
--- Goals as three words, and the tables of the shapes that they lean on.
+-- Inside: goals as three words, and the tables of the shapes that they lean on.
 --   GoalWords     shape number, code of the announcement position, mask of the open nodes of the shape
 --   codeOf …      the five tables, 16 shapes by 16 nodes each: code of a node's position, five to the power of its depth, span, word, mask of the children that are no blanks
 --   Tabled        what code asks of the tables
@@ -8,7 +8,9 @@
 --   maskAfter     the mask without a node, with its children that are no blanks
 --   pad           a code padded to six digits; firstCode: the first in document order
 --   goalsFrom     the goals that words hold; flat: the words of goals
---   labelCode     the label's code, 65,535 where no goal announces at the root
+--   noCode        65,535: past every code, for none
+--   labelCode     the label's code, noCode where no goal announces at the root
+--   Stored        what code asks of n goals in words
 use mathlib.Core.List.{List, [], _∷_, _++_}
 use mathlib.Core.Bool.{Bool, cond}
 use Prim.Native.Nat.{ℕ, zero, suc, _+_, _*_, _/_, _%_, _^_, _≤_, _<_}
@@ -77,7 +79,8 @@ maskAfter m r k = bitOr (bitXor m (2 ^ r)) k
 -- a code of at most six digits, padded to six
 abbrev pub pad : ℕ → ℕ
 pad c =
-    cond (ltb c 5) (c * 3125) (cond (ltb c 25) (c * 625) (cond (ltb c 125) (c * 125) (cond (ltb c 625) (c * 25) (cond (ltb c 3125) (c * 5) c))))
+    cond (ltb c 5) (c * 3125)
+    (cond (ltb c 25) (c * 625) (cond (ltb c 125) (c * 125) (cond (ltb c 625) (c * 25) (cond (ltb c 3125) (c * 5) c))))
 
 -- the first in document order
 unfoldable pub firstCode : ℕ → List ℕ → ℕ
@@ -100,13 +103,23 @@ abbrev pub Low : List GoalWords → Type 0
 Low [] = Unit {0}
 Low (g ∷ gs) = (g .sh < 16) × Low gs
 
+-- n goals in words from `at` on, of shapes that the tables have
+pub record Stored (tab ws : List ℕ) (at n : ℕ) : Type 0 where
+  pub tabled : Tabled tab
+  pub few : n ≤ 96
+  pub room : at + 3 * n ≤ length ws
+  pub low : Low (goalsFrom ws at n)
+
 unfoldable pub rootCodes : List ℕ → List GoalWords → List ℕ
 rootCodes tab [] = []
 rootCodes tab (g ∷ gs) = let rest = rootCodes tab gs in cond (eqb (g .an) 0) (owedBy tab g ++ rest) rest
 
--- the label's code; 65535 where no goal announces at the root
+-- past every code: no label, no announcement
+abbrev pub noCode : ℕ
+noCode = 65535
+
 abbrev pub labelCode : List ℕ → List GoalWords → ℕ
-labelCode tab gs = firstCode 65535 (rootCodes tab gs)
+labelCode tab gs = firstCode noCode (rootCodes tab gs)
 
 -- the words of goals
 unfoldable pub flat : List GoalWords → List ℕ

@@ -1,4 +1,6 @@
--- The first element of a list that stands in another.
+-- Inside: the first element of a list that stands in another.
+--   firstShared   that element, or none
+--   isAt          whether there is one
 use Prim.Native.Nat.{ℕ}
 use mathlib.Core.List.{List, [], _∷_}
 use mathlib.Core.Bool.{Bool, true, false, cond, _||_}

@@ -1,9 +1,9 @@
--- The stages of the construction on goals of three words. Each is the construction's own under the decoding of Decoding.
+-- Inside: the stages of the construction on goals of three words. Each is the construction's own under the decoding of Decoding.
 --   derivW       the derivative: what stays, what moves on, what is born
 --   sameStateW   equality of states
 --   depW         direct dependency: a shared code; closedW: the square of it, closed
 --   leastCode    the shortest announcement, in a class the greatest common prefix
---   liftW        a goal lifted: only its announcement changes
+--   liftW        a goal lifted: only its announcement changes; displacementW, liftedW: of a class
 --   classesW     the classes, by the padded code of their first obligation position
 --   outputsW     the goals that are announced, by padded code and then shape
 use mathlib.Core.List.{List, [], _∷_, _++_, map}
@@ -13,24 +13,28 @@ use lib.Dec.{eqb, ltb}
 use lib.ListN.{length}
 use Rattle.kinds.specs.Lists.{gather, range, sort}
 use Rattle.automaton.specs.Classes.{Square, close, rowsFrom, picked}
-use Rattle.goals.specs.GoalWords.{GoalWords, symOf, kidsOf, owedBy, nodeAt, maskAfter, pad, firstCode}
+use Rattle.goals.specs.GoalWords.{GoalWords, symOf, kidsOf, owedBy, nodeAt, maskAfter, pad, noCode, firstCode}
 
 -- what a goal puts into the derivative at code c by symbol f: itself, where it has no open node there
 abbrev pub stays : List ℕ → ℕ → GoalWords → List GoalWords
 stays tab c g = cond (eqb (nodeAt tab (g .sh) (g .an) (g .mask) c) 16) (g ∷ []) []
 
--- its mask after reducing; 65536 where f is not expected at c
+-- past every mask: the symbol is not expected
+abbrev pub unexpected : ℕ
+unexpected = 65536
+
+-- its mask after reducing; unexpected where f is not expected at c
 abbrev pub reduct : List ℕ → ℕ → ℕ → GoalWords → ℕ
 reduct tab c f g =
     let r = nodeAt tab (g .sh) (g .an) (g .mask) c in
-    cond (eqb r 16) 65536 (cond (eqb (symOf tab (g .sh) r) f) (maskAfter (g .mask) r (kidsOf tab (g .sh) r)) 65536)
+    cond (eqb r 16) unexpected (cond (eqb (symOf tab (g .sh) r) f) (maskAfter (g .mask) r (kidsOf tab (g .sh) r)) unexpected)
 
 abbrev pub withMask : GoalWords → ℕ → GoalWords
 withMask g x = record { sh = g .sh; an = g .an; mask = x }
 
 -- or itself reduced, where something is open still
 abbrev pub goesOn : ℕ → GoalWords → List GoalWords
-goesOn x g = cond (eqb x 0) [] (cond (ltb x 65536) (withMask g x ∷ []) [])
+goesOn x g = cond (eqb x 0) [] (cond (ltb x unexpected) (withMask g x ∷ []) [])
 
 abbrev pub moves : List ℕ → ℕ → ℕ → GoalWords → List GoalWords
 moves tab c f g = goesOn (reduct tab c f g) g
@@ -94,6 +98,13 @@ underCode g c = underFrom 7 g c c 1
 abbrev pub liftW : ℕ → GoalWords → GoalWords
 liftW c g = record { sh = g .sh; an = underCode c (g .an); mask = g .mask }
 
+-- a class's displacement, and the class lifted by it
+abbrev pub displacementW : List GoalWords → ℕ
+displacementW gs = leastCode noCode gs
+
+abbrev pub liftedW : List GoalWords → List GoalWords
+liftedW gs = map (liftW (displacementW gs)) gs
+
 -- the goals that a row says yes to
 unfoldable pub pickedW : List Bool → List GoalWords → List GoalWords
 pickedW bs gs = picked bs gs
@@ -104,7 +115,7 @@ closedW tab gs = close (range 0 (length gs)) (map (λ g. map (depW tab g) gs) gs
 
 -- what a class is ordered by
 unfoldable pub classKey : List ℕ → List GoalWords → ℕ
-classKey tab gs = pad (firstCode 65535 (gather (owedBy tab) gs))
+classKey tab gs = pad (firstCode noCode (gather (owedBy tab) gs))
 
 abbrev pub classBeforeW : List ℕ → List GoalWords → List GoalWords → Bool
 classBeforeW tab a b = ltb (classKey tab a) (classKey tab b)

@@ -4,6 +4,15 @@ use kinds::Shape;
 pub mod words; // a goal as three words
 pub mod obligations; // what a goal owes, and a state's label
 
+// Past every code: no label, no announcement.
+pub const NO_CODE: u32 = 65535;
+
+// No position.
+pub const NOWHERE: Position = Position(65535);
+
+// Past every mask: the symbol is not expected.
+pub const UNEXPECTED: u32 = 65536;
+
 // A shape awaited: what it announces, and a mask of its nodes that are open.
 pub struct Goal {
     pub shape: Shape,

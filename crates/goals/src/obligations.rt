@@ -1,4 +1,5 @@
 use crate::Goal;
+use crate::NO_CODE;
 use crate::Shared;
 use crate::words::goal_at;
 use kinds::Position;
@@ -6,8 +7,8 @@ ghost use mathlib.Core.Path.{_≡_};
 ghost use Prim.Native.Nat.{ℕ, _+_, _*_, _<_, _≤_};
 ghost use lib.ListN.{length};
 ghost use lib.Seq.{sets};
-ghost use Rattle.goals.specs.GoalWords.{Tabled, codeAt, owedBy, nodeAt, maskAfter, pad, firstCode, goalsFrom, Low, labelCode};
-ghost use Rattle.goals.specs.GoalKinds.{wordsOf};
+ghost use Rattle.goals.specs.GoalWords.{Tabled, codeAt, owedBy, nodeAt, maskAfter, pad, firstCode, goalsFrom, Stored, labelCode};
+ghost use Rattle.goals.specs.GoalKinds.{asWords};
 ghost use Rattle.goals.specs.Sharing.{firstShared};
 
 // A code of at most six digits, padded with zeros to six.
@@ -44,8 +45,8 @@ pub fn code_at(tab: &[u16], g: Goal, r: usize) -> u32
 // The codes of a goal's obligations, in document order, into `out`; answers how many.
 pub fn owed(tab: &[u16], g: Goal, out: &mut [u32]) -> usize
     requires { ⌜ Tabled (now tab) × (g .shape .0 < 16) × (16 ≤ length (now out)) ⌝ }
-    ensures count { λ k. ⌜ k ≡ length (owedBy (now (tab .entry)) (wordsOf g)) ⌝ }
-    ensures wrote { λ k. ⌜ now (out .exit) ≡ sets (now (out .entry)) 0 (owedBy (now (tab .entry)) (wordsOf g)) ⌝ }
+    ensures count { λ k. ⌜ k ≡ length (owedBy (now (tab .entry)) (asWords g)) ⌝ }
+    ensures wrote { λ k. ⌜ now (out .exit) ≡ sets (now (out .entry)) 0 (owedBy (now (tab .entry)) (asWords g)) ⌝ }
 {
     let mut left = tab[512 + 16 * g.shape.0 as usize] as usize;
     let mut mask = g.mask;
@@ -116,7 +117,7 @@ pub fn common(a: &[u32], b: &[u32]) -> Shared
 // The first obligation position of one goal that is the other's too.
 pub fn share(tab: &[u16], g: Goal, h: Goal) -> Shared
     requires { ⌜ Tabled (now tab) × (g .shape .0 < 16) × (h .shape .0 < 16) ⌝ }
-    ensures { λ r. ⌜ r ≡ firstShared (owedBy (now (tab .entry)) (wordsOf g)) (owedBy (now (tab .entry)) (wordsOf h)) ⌝ }
+    ensures { λ r. ⌜ r ≡ firstShared (owedBy (now (tab .entry)) (asWords g)) (owedBy (now (tab .entry)) (asWords h)) ⌝ }
 {
     let mut xs = [0u32; 16];
     let mut ys = [0u32; 16];
@@ -143,24 +144,24 @@ pub fn first_of(cs: &[u32], best: u32) -> u32
 // The first in document order of `best` and a goal's obligations.
 pub fn first_owed(tab: &[u16], g: Goal, best: u32) -> u32
     requires { ⌜ Tabled (now tab) × (g .shape .0 < 16) ⌝ }
-    ensures { λ r. ⌜ r ≡ firstCode best (owedBy (now (tab .entry)) (wordsOf g)) ⌝ }
+    ensures { λ r. ⌜ r ≡ firstCode best (owedBy (now (tab .entry)) (asWords g)) ⌝ }
 {
     let mut xs = [0u32; 16];
     let k = owed(tab, g, &mut xs);
     first_of(&xs[0..k], best)
 }
 
-// The code of a state's label; 65535 where no goal announces at the root.
+// The code of a state's label; NO_CODE where no goal announces at the root.
 pub fn label(tab: &[u16], ws: &[u16], at: usize, n: usize) -> u32
-    requires { ⌜ Tabled (now tab) × (n ≤ 96) × (at + 3 * n ≤ length (now ws)) × Low (goalsFrom (now ws) at n) ⌝ }
+    requires { ⌜ Stored (now tab) (now ws) at n ⌝ }
     ensures { λ r. ⌜ r ≡ labelCode (now (tab .entry)) (goalsFrom (now (ws .entry)) at n) ⌝ }
 {
-    let mut best: u32 = 65535;
+    let mut best: u32 = NO_CODE;
     let mut here = at;
     let mut left = n;
     while 0 < left {
         let g = goal_at(ws, here);
-        if g.at.0 == 0 {
+        if g.at.0 == Position::ROOT.0 {
             best = first_owed(tab, g, best);
         }
         here += 3;

@@ -7,12 +7,12 @@ ghost use Prim.Native.Nat.{ℕ, _+_, _≤_};
 ghost use lib.ListN.{length};
 ghost use lib.Seq.{sets};
 ghost use Rattle.goals.specs.GoalWords.{goalAt};
-ghost use Rattle.goals.specs.GoalKinds.{goalOf};
+ghost use Rattle.goals.specs.GoalKinds.{asGoal};
 
 // The goal of the three words from `at` on.
 pub fn goal_at(ws: &[u16], at: usize) -> Goal
     requires { ⌜ at + 3 ≤ length (now ws) ⌝ }
-    ensures { λ r. ⌜ r ≡ goalOf (goalAt (now (ws .entry)) at) ⌝ }
+    ensures { λ r. ⌜ r ≡ asGoal (goalAt (now (ws .entry)) at) ⌝ }
 {
     Goal {
         shape: Shape(ws[at]),

@@ -11,3 +11,4 @@ pub mod Ordered
 pub mod Codes
 pub mod BitLaws
 pub mod KindLaws
+pub mod ChainLaws

@@ -6,3 +6,4 @@ pub mod Positions
 pub mod Bits
 pub mod Reasons
 pub mod Kinds
+pub mod Chains

@@ -2,9 +2,9 @@
 --   Clearing clearing-…            the first words zero
 --   cleared-again                  what clearing leaves depends only on the words behind
 --   same-self                      a state is the same as itself
---   Ended ended-is                 what exploring to the end tells: the plan's words, their number
+--   Ended ended-is ended-counts    what exploring to the end tells: the plan's words, their number
 --   made-stopped made-long made-plan   the plan that there is, or why there is none
---   built-bad built-short built-on     19; 23; and on
+--   built-bad built-short built-on built-made   19; 23; and on
 use mathlib.Core.Path.{_≡_, refl, ap, ap₂, sym, _∙_}
 use mathlib.Core.List.{List, [], _∷_, _++_, map}
 use mathlib.Core.Bool.{Bool, true, false, cond, _&&_, _||_}
@@ -26,15 +26,16 @@ use Rattle.kinds.specs.Members.{_∈_, here, there}
 use Rattle.kinds.proofs.ListLaws.{onto-sets}
 use Rattle.checks.specs.Again.{shapesGood}
 use Rattle.automaton.specs.Exploring.{Block, Made, refused, made, explored}
-use Rattle.automaton.specs.PlanWords.{Plan, halted, too-long, plan-of, planWords, toPlan, planned}
+use Rattle.automaton.specs.PlanWords.{Plan, halted, too-long, plan-of, toPlan, planned}
 use Rattle.automaton.specs.FinalBlocks.{allBlocks, SmallOn}
 use Rattle.automaton.proofs.BlocksAgain.{blocks-again}
 use Rattle.goals.specs.GoalWords.{GoalWords}
 use Rattle.goals.specs.WordStages.{sameW, amongW, withinW, sameStateW}
-use Rattle.decoding.specs.WordMachine.{words, statesIn, Kept}
+use Rattle.decoding.specs.WordMachine.{words, statesIn, statesWords}
 use Rattle.decoding.specs.GoodStates.{Ready}
-use Rattle.states.specs.Meeting.{AllGood, wordsOf, ExploredIs}
-use Rattle.plan.specs.Building.{BuildOutcome, cleared, size, written, planOf, buildOf, refuseBuild}
+use Rattle.states.specs.Meeting.{Held, Behind, blocksLength, allMost, AllMade, ExploredIs}
+use Rattle.writing.specs.RowWords.{planIn, Writable}
+use Rattle.plan.specs.Building.{BuildOutcome, out, scratchWords, cleared, size, written, planOf, buildOf, refuseBuild}
 use Rattle.folio.specs.Folio.{shapeTerms}
 use Rattle.plan.specs.declared.Built.{Built}
 use Rattle.plan.specs.declared.Built.the-variants as built
@@ -64,20 +65,26 @@ module _ {k : ℕ} {l₀ l : List ℕ} {i : ℕ} (s : Clearing k l₀ l i) where
       let d : length (replicate {A = ℕ} k 0) ≤ length l₀ = rw (length-replicate {A = ℕ} k 0) room in
       sym (onto-sets (replicate k 0) l₀ d ∙ s .is ∙ rw e refl)
 
-pub clearing-done : (l₀ l : List ℕ) → l ≡ onto (replicate 32768 0) l₀ → l ≡ cleared l₀
+pub clearing-done : (l₀ l : List ℕ) → l ≡ onto (replicate scratchWords 0) l₀ → l ≡ cleared l₀
 unfolding cleared
 clearing-done l₀ l e = e
 
 onto-again : (k : ℕ) (xs ys : List ℕ) → drop k xs ≡ drop k ys → onto (replicate k 0) xs ≡ onto (replicate k 0) ys
-onto-again k xs ys e = ap (λ n. replicate k 0 ++ drop n xs) (length-replicate {A = ℕ} k 0) ∙ ap (λ l. replicate k 0 ++ l) e ∙ ap (λ n. replicate k 0 ++ drop n ys) (sym (length-replicate {A = ℕ} k 0))
+onto-again k xs ys e =
+    ap (λ n. replicate k 0 ++ drop n xs) (length-replicate {A = ℕ} k 0)
+    ∙ ap (λ l. replicate k 0 ++ l) e
+    ∙ ap (λ n. replicate k 0 ++ drop n ys) (sym (length-replicate {A = ℕ} k 0))
 
-pub cleared-again : (xs ys : List ℕ) → drop 12416 xs ≡ drop 12416 ys → cleared xs ≡ cleared ys
+pub cleared-again : (xs ys : List ℕ) → Behind ys xs → cleared xs ≡ cleared ys
 unfolding cleared
-cleared-again xs ys e = onto-again 32768 xs ys (sym (drop-drop 20352 12416 xs) ∙ ap (drop 20352) e ∙ drop-drop 20352 12416 ys)
+cleared-again xs ys e =
+    onto-again scratchWords xs ys (sym (drop-drop 20352 statesWords xs) ∙ ap (drop 20352) e ∙ drop-drop 20352 statesWords ys)
 
 -- ---- a state is the same as itself
 same-goal : (g : GoalWords) → sameW g g ≡ true
-same-goal g = both {a = eqb (g .sh) (g .sh)} (is-eqb (g .sh) (g .sh) refl) (both {a = eqb (g .an) (g .an)} (is-eqb (g .an) (g .an) refl) (is-eqb (g .mask) (g .mask) refl))
+same-goal g =
+    both {a = eqb (g .sh) (g .sh)} (is-eqb (g .sh) (g .sh) refl)
+    (both {a = eqb (g .an) (g .an)} (is-eqb (g .an) (g .an) refl) (is-eqb (g .mask) (g .mask) refl))
 
 among-in : (g : GoalWords) (hs : List GoalWords) → g ∈ hs → amongW g hs ≡ true
 unfolding amongW
@@ -97,62 +104,85 @@ few-starts m k h g = mul-le-mul {n₁ = m} {m₁ = k} {n₂ = 128} {m₂ = 32} h
 
 -- ---- exploring to the end
 module _ (ar tab : List ℕ) (n : ℕ) where
-  abbrev pub planOn : List ℕ → ℕ → List ℕ
-  planOn sc m = planWords (words tab n) (length ar) n (statesIn sc m) (allBlocks (words tab n) (statesIn sc m) ar)
-
   pub record Ended (sc : List ℕ) (m w : ℕ) : Type 0 where
-    pub kept : Kept sc m
-    pub good : AllGood ar tab n (statesIn sc m)
+    pub held : Held ar tab n sc m
     pub small : (s : List GoalWords) → s ∈ statesIn sc m → SmallOn (words tab n) s 0 ar
-    pub total : 4 + m + m * length ar + w ≡ length (planOn sc m)
-    pub room : w ≤ 1280000
-    pub is : (buffer : ℕ) → planned (words tab n) ar n buffer ≡ cond (ltb buffer (length (planOn sc m)) || ltb 65535 (length (planOn sc m))) too-long (plan-of m (planOn sc m))
+    pub total : 4 + m + m * length ar + w ≡ length (planIn ar tab n sc m)
+    pub room : w ≤ allMost
+    pub is : (buffer : ℕ) → planned (words tab n) ar n buffer
+        ≡ cond (ltb buffer (length (planIn ar tab n sc m)) || ltb 65535 (length (planIn ar tab n sc m))) too-long (plan-of m (planIn ar tab n sc m))
 
-  pub ended-is : (r : Explored) (m w : ℕ) (sc : List ℕ) → r ≡ result.Made m w → ExploredIs r ar tab n sc (explored (words tab n) ar) → Ended sc m w
+  pub ended-is : (r : Explored) (m w : ℕ) (sc : List ℕ) → r ≡ result.Made m w → ExploredIs r ar tab n sc (explored (words tab n) ar)
+      → Ended sc m w
   ended-is r m w sc e x = go (rw e at x)
     where
-      go : ExploredIs (result.Made m w) ar tab n sc (explored (words tab n) ar) → Ended sc m w
+      go : AllMade m w ar tab n sc (explored (words tab n) ar) → Ended sc m w
       go t =
-          let bs = t .2 .0 in
+          let P = planIn ar tab n sc m in
           let long = states-length sc m in
-          let again = blocks-again (words tab n) same-self ar (statesIn sc m) bs (t .2 .1) in
-          let many : w ≡ wordsOf (allBlocks (words tab n) (statesIn sc m) ar) = t .2 .2 ∙ ap wordsOf (again .0) in
+          let again = blocks-again (words tab n) same-self ar (statesIn sc m) (t .blocks) (t .is) in
+          let many : w ≡ blocksLength (allBlocks (words tab n) (statesIn sc m) ar) = t .sum ∙ ap blocksLength (again .0) in
           record {
-            kept = t .0;
-            good = t .1;
+            held = t .held;
             small = again .1;
             total = sym (plan-length ar tab n sc m ∙ ap₂ (λ x y. 4 + x + x * length ar + y) long (sym many));
-            room = t .3;
-            is = λ buffer. ap (toPlan (words tab n) buffer (length ar) n) (t .2 .1 ∙ ap (made (statesIn sc m)) (again .0))
-                ∙ ap (λ x. cond (ltb buffer (length (planOn sc m)) || ltb 65535 (length (planOn sc m))) too-long (plan-of x (planOn sc m))) long;
+            room = t .small;
+            is = λ buffer. ap (toPlan (words tab n) buffer (length ar) n) (t .is ∙ ap (made (statesIn sc m)) (again .0))
+                ∙ ap (λ x. cond (ltb buffer (length P) || ltb 65535 (length P)) too-long (plan-of x P)) long;
           }
 
-  pub made-stopped : (r : Explored) (why : Reason) (at : State) (sc plan scratch : List ℕ) → r ≡ result.Stopped why at → ExploredIs r ar tab n sc (explored (words tab n) ar)
-      → (built.Stopped why at ≡ written (planned (words tab n) ar n (length plan)) plan scratch .answer) × (plan ≡ written (planned (words tab n) ar n (length plan)) plan scratch .plan)
-  made-stopped r why at sc plan scratch e x =
-      let is : planned (words tab n) ar n (length plan) ≡ halted why (at .0) = ap (toPlan (words tab n) (length plan) (length ar) n) (rw e at x) in
-      (sym (ap (λ p. written p plan scratch .answer) is), sym (ap (λ p. written p plan scratch .plan) is))
+  module _ (plan scratch : List ℕ) where
+    -- what is to be answered, and what scratch is cleared to
+    abbrev pub wanted : BuildOutcome
+    wanted = written (planned (words tab n) ar n (length plan)) plan scratch
 
-  module _ {sc : List ℕ} {m w : ℕ} (e : Ended sc m w) (plan scratch : List ℕ) (total : ℕ) (t : total ≡ 4 + m + m * length ar + w) where
-    size-is : total ≡ length (planOn sc m)
-    size-is = t ∙ e .total
+    pub made-stopped : (r : Explored) (why : Reason) (at : State) (sc : List ℕ) → r ≡ result.Stopped why at
+        → ExploredIs r ar tab n sc (explored (words tab n) ar) → Behind scratch sc
+        → out (built.Stopped why at) plan (cleared sc) ≡ wanted
+    made-stopped r why at sc e x b =
+        let is : planned (words tab n) ar n (length plan) ≡ halted why (at .0) =
+        ap (toPlan (words tab n) (length plan) (length ar) n) (rw e at x) in
+        ap (out (built.Stopped why at) plan) (cleared-again sc scratch b) ∙ sym (ap (λ p. written p plan scratch) is)
 
-    pub made-long : (length plan < total) ⊎ (65535 < total)
-        → (built.Refused LongPlan ≡ written (planned (words tab n) ar n (length plan)) plan scratch .answer) × (plan ≡ written (planned (words tab n) ar n (length plan)) plan scratch .plan)
-    made-long h =
-        let over : (ltb (length plan) (length (planOn sc m)) || ltb 65535 (length (planOn sc m))) ≡ true =
-        ⊎-elim (λ l. or-l (ltb 65535 (length (planOn sc m))) (lt-ltb (length plan) (length (planOn sc m)) (rw size-is at l)))
-        (λ l. or-r (ltb (length plan) (length (planOn sc m))) (lt-ltb 65535 (length (planOn sc m)) (rw size-is at l))) h in
-        let is : planned (words tab n) ar n (length plan) ≡ too-long = e .is (length plan) ∙ ap (λ b. cond b too-long (plan-of m (planOn sc m))) over in
-        (sym (ap (λ p. written p plan scratch .answer) is), sym (ap (λ p. written p plan scratch .plan) is))
+    module _ {sc : List ℕ} {m w : ℕ} (e : Ended sc m w) (b : Behind scratch sc) where
+      abbrev P : List ℕ
+      P = planIn ar tab n sc m
 
-    pub made-plan : total ≤ length plan → total ≤ 65535 → (plan′ : List ℕ) → plan′ ≡ sets plan 0 (planOn sc m)
-        → (built.Plan (size m total) ≡ written (planned (words tab n) ar n (length plan)) plan scratch .answer) × (plan′ ≡ written (planned (words tab n) ar n (length plan)) plan scratch .plan)
-    made-plan a b plan′ d =
-        let within : (ltb (length plan) (length (planOn sc m)) || ltb 65535 (length (planOn sc m))) ≡ false =
-        ap₂ (λ x y. x || y) (le-ltb (length plan) (length (planOn sc m)) (rw size-is at a)) (le-ltb 65535 (length (planOn sc m)) (rw size-is at b)) in
-        let is : planned (words tab n) ar n (length plan) ≡ plan-of m (planOn sc m) = e .is (length plan) ∙ ap (λ c. cond c too-long (plan-of m (planOn sc m))) within in
-        (ap (λ k. built.Plan (size m k)) size-is ∙ sym (ap (λ p. written p plan scratch .answer) is), d ∙ sym (ap (λ p. written p plan scratch .plan) is))
+      abbrev total : ℕ
+      total = 4 + m + m * length ar + w
+
+      pub made-long : (length plan < total) ⊎ (65535 < total) → out (built.Refused LongPlan) plan (cleared sc) ≡ wanted
+      made-long h =
+          let over : (ltb (length plan) (length P) || ltb 65535 (length P)) ≡ true =
+          ⊎-elim (λ l. or-l (ltb 65535 (length P)) (lt-ltb (length plan) (length P) (rw (e .total) at l)))
+          (λ l. or-r (ltb (length plan) (length P)) (lt-ltb 65535 (length P) (rw (e .total) at l))) h in
+          let is : planned (words tab n) ar n (length plan) ≡ too-long =
+          e .is (length plan) ∙ ap (λ t. cond t too-long (plan-of m P)) over in
+          ap (out (built.Refused LongPlan) plan) (cleared-again sc scratch b) ∙ sym (ap (λ p. written p plan scratch) is)
+
+      pub made-plan : total ≤ length plan → total ≤ 65535 → (plan′ : List ℕ) → plan′ ≡ sets plan 0 P
+          → out (built.Plan (size m total)) plan′ (cleared sc) ≡ wanted
+      made-plan h g plan′ d =
+          let within : (ltb (length plan) (length P) || ltb 65535 (length P)) ≡ false =
+          ap₂ (λ x y. x || y) (le-ltb (length plan) (length P) (rw (e .total) at h)) (le-ltb 65535 (length P) (rw (e .total) at g)) in
+          let is : planned (words tab n) ar n (length plan) ≡ plan-of m P =
+          e .is (length plan) ∙ ap (λ t. cond t too-long (plan-of m P)) within in
+          ap (λ k. out (built.Plan (size m k)) plan′ (cleared sc)) (e .total)
+          ∙ ap₂ (out (built.Plan (size m (length P)))) d (cleared-again sc scratch b)
+          ∙ sym (ap (λ p. written p plan scratch) is)
+
+      pub plan-writable : Ready ar tab n → total ≤ length plan → total ≤ 65535 → Writable ar tab n sc m total plan
+      plan-writable ready h g = record { ready = ready; held = e .held; small = e .small; sum = e .total; room = h; word = g }
+
+  -- no number overflows
+  pub record Counts (m w : ℕ) : Type 0 where
+    pub states : m ≤ 128
+    pub starts : m * length ar ≤ 4096
+    pub blocks : w ≤ allMost
+
+  pub ended-counts : {sc : List ℕ} {m w : ℕ} → Ended sc m w → length ar ≤ 32 → Counts m w
+  ended-counts {sc} {m} {w} e few =
+      record { states = e .held .kept .few; starts = few-starts m (length ar) (e .held .kept .few) few; blocks = e .room }
 
 -- ---- the whole
 passed : (a b : Bool) (x y z : BuildOutcome) → a ≡ true → b ≡ true → unless a x (unless b y z) ≡ z
@@ -163,17 +193,20 @@ module _ (ar ws st plan scratch : List ℕ) where
   unfolding buildOf
   built-bad e = rw e refl
 
-  pub built-short : shapesGood ar ws st ≡ true → length scratch < 32768 → buildOf ar ws st plan scratch ≡ refuseBuild ShortScratch plan scratch
+  pub built-short : shapesGood ar ws st ≡ true → length scratch < scratchWords
+      → buildOf ar ws st plan scratch ≡ refuseBuild ShortScratch plan scratch
   unfolding buildOf
-  built-short e h = rw (e, lt-leb 32768 (length scratch) h) refl
+  built-short e h = rw (e, lt-leb scratchWords (length scratch) h) refl
 
-  pub built-on : shapesGood ar ws st ≡ true → 32768 ≤ length scratch → (p : Plan) → p ≡ planOf ar (shapeTerms ar ws) (length plan) → buildOf ar ws st plan scratch ≡ written p plan scratch
+  pub built-on : shapesGood ar ws st ≡ true → scratchWords ≤ length scratch → (p : Plan) → p ≡ planOf ar (shapeTerms ar ws) (length plan)
+      → buildOf ar ws st plan scratch ≡ written p plan scratch
   unfolding buildOf
   built-on e h p d =
-      passed (shapesGood ar ws st) (leb 32768 (length scratch)) (refuseBuild BadShapes plan scratch) (refuseBuild ShortScratch plan scratch) (written (planOf ar (shapeTerms ar ws) (length plan)) plan scratch) e (le-leb 32768 (length scratch) h)
+      passed (shapesGood ar ws st) (leb scratchWords (length scratch)) (refuseBuild BadShapes plan scratch) (refuseBuild ShortScratch plan scratch)
+      (written (planOf ar (shapeTerms ar ws) (length plan)) plan scratch) e (le-leb scratchWords (length scratch) h)
       ∙ ap (λ q. written q plan scratch) (sym d)
 
-pub written-clears : (p : Plan) (plan scratch : List ℕ) → written p plan scratch .scratch ≡ cleared scratch
-written-clears (halted r i) plan scratch = refl
-written-clears too-long plan scratch = refl
-written-clears (plan-of m ws) plan scratch = refl
+  pub built-made : shapesGood ar ws st ≡ true → scratchWords ≤ length scratch → (p : Plan) → p ≡ planOf ar (shapeTerms ar ws) (length plan)
+      → (a : Built) (plan′ sc sc′ : List ℕ)
+      → out a plan′ (cleared sc) ≡ written p plan scratch → sc′ ≡ cleared sc → out a plan′ sc′ ≡ buildOf ar ws st plan scratch
+  built-made e h p d a plan′ sc sc′ w clear = ap (out a plan′) clear ∙ w ∙ sym (built-on e h p d)

@@ -1,6 +1,7 @@
 -- Building the plan: "Build: 19, 23; then 20 or 21; then 22." "A refusal writes nothing, except that 20, 21 and 22 leave the first 32,768 scratch
 -- words zero, as does success. Words past those an answer writes keep their values."
---   BuildOutcome         an answer, and the two buffers as they are then
+--   BuildOutcome         an answer, and the two buffers as they are then; out: made of these
+--   scratchWords  "scratch under 32,768 words"
 --   cleared     the first 32,768 scratch words zero, later ones as they were
 --   refuseBuild      a refusal before any work writes nothing
 --   planOf      the plan of the paper's construction for the shapes that the shape words hold
@@ -31,6 +32,9 @@ pub record BuildOutcome : Type 0 where
   pub plan : List ℕ
   pub scratch : List ℕ
 
+abbrev pub out : Built → List ℕ → List ℕ → BuildOutcome
+out a plan scratch = record { answer = a; plan = plan; scratch = scratch }
+
 abbrev pub scratchWords : ℕ
 scratchWords = 32768
 
@@ -44,12 +48,12 @@ abbrev pub stateNumber : ℕ → State
 stateNumber i = record { 0 = i }
 
 abbrev pub refuseBuild : Reason → List ℕ → List ℕ → BuildOutcome
-refuseBuild r plan scratch = record { answer = built.Refused r; plan = plan; scratch = scratch }
+refuseBuild r plan scratch = out (built.Refused r) plan scratch
 
 abbrev pub written : Plan → List ℕ → List ℕ → BuildOutcome
-written (halted r i) plan scratch = record { answer = built.Stopped r (stateNumber i); plan = plan; scratch = cleared scratch }
-written too-long plan scratch = record { answer = built.Refused LongPlan; plan = plan; scratch = cleared scratch }
-written (plan-of m ws) plan scratch = record { answer = built.Plan (size m (length ws)); plan = sets plan 0 ws; scratch = cleared scratch }
+written (halted r i) plan scratch = out (built.Stopped r (stateNumber i)) plan (cleared scratch)
+written too-long plan scratch = out (built.Refused LongPlan) plan (cleared scratch)
+written (plan-of m ws) plan scratch = out (built.Plan (size m (length ws))) (sets plan 0 ws) (cleared scratch)
 
 abbrev pub planOf : List ℕ → List Term → ℕ → Plan
 planOf ar shapes room = planned (construction (paper shapes)) ar (length shapes) room

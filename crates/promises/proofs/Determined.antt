@@ -16,6 +16,7 @@ use Rattle.kinds.proofs.Position.is_good.Reads as is-good
 use Rattle.kinds.proofs.Position.length.Reads as length
 use Rattle.kinds.proofs.number.Reads as number
 use Rattle.kinds.proofs.slices.equal.Reads as equal
+use Rattle.plan.specs.Building.{BuildOutcome}
 use Rattle.plan.proofs.building.build.Reads as build
 use Rattle.counting.proofs.marks.clashes.Reads as clashes
 use Rattle.counting.proofs.marks.matches.Reads as matches
@@ -119,7 +120,7 @@ pub open-folio-determined : (κs : _) (a : _) (r r′ : _) (e e′ : _) → open
 open-folio-determined κs a r r′ e e′ h h′ = let x = h ∙ sym h′ in (ap (λ (o : OpenOutcome). o .answer) x, ap (λ (o : OpenOutcome). o .tables .words) x, ap (λ (o : OpenOutcome). o .tables .starts) x, ap (λ (o : OpenOutcome). o .tables .score) x, ap (λ (o : OpenOutcome). o .tables .spans) x)
 
 pub build-determined : (κs : _) (a : _) (r r′ : _) (e e′ : _) → build.Learnt κs a r e → build.Learnt κs a r′ e′ → (r ≡ r′) × (now (e .1 .1 .1 .0) ≡ now (e′ .1 .1 .1 .0)) × (now (e .1 .1 .1 .1 .0) ≡ now (e′ .1 .1 .1 .1 .0))
-build-determined κs a r r′ e e′ h h′ = (h .0 ∙ sym (h′ .0), h .1 .0 ∙ sym (h′ .1 .0), h .1 .1 ∙ sym (h′ .1 .1))
+build-determined κs a r r′ e e′ h h′ = let x = h ∙ sym h′ in (ap (λ (o : BuildOutcome). o .answer) x, ap (λ (o : BuildOutcome). o .plan) x, ap (λ (o : BuildOutcome). o .scratch) x)
 
 pub start-determined : (κs : _) (a : _) (r r′ : _) (e e′ : _) → start.Learnt κs a r e → start.Learnt κs a r′ e′ → (r ≡ r′) × (now (e .1 .1 .1 .0) ≡ now (e′ .1 .1 .1 .0)) × (now (e .1 .1 .1 .1 .0) ≡ now (e′ .1 .1 .1 .1 .0)) × (now (e .1 .1 .1 .1 .1 .0) ≡ now (e′ .1 .1 .1 .1 .1 .0))
 start-determined κs a r r′ e e′ h h′ =

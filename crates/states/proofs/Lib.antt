@@ -2,4 +2,5 @@ pub mod StateLaws
 pub mod InOrder
 pub mod MeetLaws
 pub mod WordArrays
+pub mod PartLaws
 pub mod ExploreLaws

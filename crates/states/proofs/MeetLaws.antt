@@ -53,11 +53,13 @@ module _ {S : Type 0} (C : Construction S) where
       module _ (new : length ss ≤ succOf C ss k .to) where
         pub meet-full : 128 ≤ length ss → meet C ss k ≡ stopped ManyStates
         meet-full h =
-            rw (le-ltb 32 (C .size k) small) (ap (λ o. numbered o ss (C .lift k) (C .gcp k)) (found-none (C .same (C .lift k)) ss new) ∙ rw (le-leb 128 (length ss) h) refl)
+            rw (le-ltb 32 (C .size k) small)
+            (ap (λ o. numbered o ss (C .lift k) (C .gcp k)) (found-none (C .same (C .lift k)) ss new) ∙ rw (le-leb 128 (length ss) h) refl)
 
         pub meet-new : length ss < 128 → meet C ss k ≡ met (ss ++ (C .lift k ∷ [])) (record { to = length ss; by = C .gcp k } ∷ [])
         meet-new h =
-            rw (le-ltb 32 (C .size k) small) (ap (λ o. numbered o ss (C .lift k) (C .gcp k)) (found-none (C .same (C .lift k)) ss new) ∙ rw (lt-leb 128 (length ss) h) refl)
+            rw (le-ltb 32 (C .size k) small)
+            (ap (λ o. numbered o ss (C .lift k) (C .gcp k)) (found-none (C .same (C .lift k)) ss new) ∙ rw (lt-leb 128 (length ss) h) refl)
 
   -- ---- classes in turn, after successors xs
   abbrev pub onto : List Succ → Met S → Met S
@@ -71,8 +73,10 @@ module _ {S : Type 0} (C : Construction S) where
     pub meets-stop : (r : Reason) → meet C ss k ≡ stopped r → onto xs (meets C ss (k ∷ ks)) ≡ stopped r
     meets-stop r e = ap (λ m. onto xs (andThen m (λ ss₁ ys. andThen (meets C ss₁ ks) (λ ss₂ zs. met ss₂ (ys ++ zs))))) e
 
-    pub meets-on : (ss′ : List S) (ys : List Succ) → meet C ss k ≡ met ss′ ys → onto xs (meets C ss (k ∷ ks)) ≡ onto (xs ++ ys) (meets C ss′ ks)
-    meets-on ss′ ys e = ap (λ m. onto xs (andThen m (λ ss₁ ys. andThen (meets C ss₁ ks) (λ ss₂ zs. met ss₂ (ys ++ zs))))) e ∙ go (meets C ss′ ks)
+    pub meets-on : (ss′ : List S) (ys : List Succ) → meet C ss k ≡ met ss′ ys
+        → onto xs (meets C ss (k ∷ ks)) ≡ onto (xs ++ ys) (meets C ss′ ks)
+    meets-on ss′ ys e =
+        ap (λ m. onto xs (andThen m (λ ss₁ ys. andThen (meets C ss₁ ks) (λ ss₂ zs. met ss₂ (ys ++ zs))))) e ∙ go (meets C ss′ ks)
       where
         go : (m : Met S) → onto xs (andThen m (λ ss₂ zs. met ss₂ (ys ++ zs))) ≡ onto (xs ++ ys) m
         go (stopped r) = refl
@@ -101,7 +105,8 @@ module _ {S : Type 0} (C : Construction S) where
       pub run-stop : (r : Reason) → row C i (getD ss i (C .start)) 0 ar ss bs ≡ refused r i → run C ar (128 - i) i ss bs ≡ refused r i
       run-stop r e = run-next ∙ ap (λ m. thenMore m (λ ss₁ bs₁. run C ar (128 - (i + 1)) (suc i) ss₁ bs₁)) e
 
-      pub run-on : (ss′ : List S) (bs′ : List Block) → row C i (getD ss i (C .start)) 0 ar ss bs ≡ made ss′ bs′ → run C ar (128 - i) i ss bs ≡ run C ar (128 - (i + 1)) (i + 1) ss′ bs′
+      pub run-on : (ss′ : List S) (bs′ : List Block) → row C i (getD ss i (C .start)) 0 ar ss bs ≡ made ss′ bs′
+          → run C ar (128 - i) i ss bs ≡ run C ar (128 - (i + 1)) (i + 1) ss′ bs′
       run-on ss′ bs′ e = run-next ∙ ap (λ m. thenMore m (λ ss₁ bs₁. run C ar (128 - (i + 1)) (suc i) ss₁ bs₁)) e ∙ rw (add-one i) refl
 
     pub run-end : length ss ≤ i → run C ar (128 - i) i ss bs ≡ made ss bs

@@ -2,7 +2,6 @@
 --   flat-back         goals written at the start, read again
 --   flat-thirds       how many, from how many words
 --   picked-few        a row picks no more than there are
---   low-at            each goal's shape, one by one
 use mathlib.Core.Path.{_≡_, refl, ap, sym, _∙_}
 use mathlib.Core.List.{List, [], _∷_, _++_}
 use mathlib.Core.Bool.{Bool, true, false, cond}
@@ -11,15 +10,15 @@ use native.Mathlib.Omega.{arith}
 use native.Mathlib.Nat.{zero-add, add-zero}
 use lib.ListN.{length, getD}
 use lib.Seq.{sets}
-use Rattle.goals.specs.GoalWords.{GoalWords, goalAt, goalsFrom, flat, Low}
+use Rattle.goals.specs.GoalWords.{GoalWords, goalAt, goalsFrom, flat}
 use Rattle.goals.specs.WordStages.{pickedW}
-use Rattle.deriving.specs.Orders.{goalOn}
 use Rattle.decoding.proofs.Room.{flat-length}
 use Rattle.classes.proofs.SameLaws.{goals-same}
 use Rattle.states.proofs.StateLaws.{sets-in}
 
 goals-shift : (x : ℕ) (ws : List ℕ) (at k : ℕ) → goalsFrom (x ∷ ws) (suc at) k ≡ goalsFrom ws at k
-goals-shift x ws at k = goals-same (x ∷ ws) ws (suc at) at k (λ i h. let e : suc at + i ≡ suc (at + i) = omega arith in ap (λ n. getD (x ∷ ws) n 0) e)
+goals-shift x ws at k =
+    goals-same (x ∷ ws) ws (suc at) at k (λ i h. let e : suc at + i ≡ suc (at + i) = omega arith in ap (λ n. getD (x ∷ ws) n 0) e)
 
 flat-goals : (gs : List GoalWords) → goalsFrom (flat gs) 0 (length gs) ≡ gs
 unfolding flat goalsFrom
@@ -31,10 +30,12 @@ flat-goals (g ∷ gs) =
     ∙ goals-shift (g .mask) (flat gs) 0 (length gs)
     ∙ flat-goals gs)
 
-pub flat-back : (l ws : List ℕ) (gs : List GoalWords) (k : ℕ) → ws ≡ sets l 0 (flat gs) → k ≡ length gs → 3 * length gs ≤ length l → goalsFrom ws 0 k ≡ gs
+pub flat-back : (l ws : List ℕ) (gs : List GoalWords) (k : ℕ) → ws ≡ sets l 0 (flat gs) → k ≡ length gs → 3 * length gs ≤ length l
+    → goalsFrom ws 0 k ≡ gs
 flat-back l ws gs k e d h =
     ap (λ v. goalsFrom v 0 k) e ∙ ap (goalsFrom (sets l 0 (flat gs)) 0) d
-    ∙ goals-same (sets l 0 (flat gs)) (flat gs) 0 0 (length gs) (λ i g. let z = flat-length gs in ap (λ n. getD (sets l 0 (flat gs)) n 0) refl ∙ sets-in (flat gs) l 0 i (omega arith) (omega arith) ∙ ap (λ n. getD (flat gs) n 0) (sym (zero-add i)))
+    ∙ goals-same (sets l 0 (flat gs)) (flat gs) 0 0 (length gs)
+    (λ i g. let z = flat-length gs in ap (λ n. getD (sets l 0 (flat gs)) n 0) refl ∙ sets-in (flat gs) l 0 i (omega arith) (omega arith) ∙ ap (λ n. getD (flat gs) n 0) (sym (zero-add i)))
     ∙ flat-goals gs
 
 pub flat-thirds : (gs : List GoalWords) (k : ℕ) → k ≡ length (flat gs) → k / 3 ≡ length gs
@@ -49,9 +50,3 @@ picked-few (b ∷ r) (g ∷ gs) = go b (pickedW r gs) (picked-few r gs)
     go : (b : Bool) (hs : List GoalWords) → length hs ≤ length gs → length (cond b (g ∷ hs) hs) ≤ suc (length gs)
     go true hs h = omega arith
     go false hs h = omega arith
-
-pub low-at : (ws : List ℕ) (at n j : ℕ) → Low (goalsFrom ws at n) → j < n → goalOn ws at j .sh < 16
-unfolding goalsFrom
-low-at ws at zero j l h = absurd (omega arith)
-low-at ws at (suc n) zero l h = let e : at + 3 * 0 ≡ at = omega arith in rw e (l .0)
-low-at ws at (suc n) (suc j) l h = let e : at + 3 * suc j ≡ at + 3 + 3 * j = omega arith in rw e (low-at ws (at + 3) n j (l .1) (omega arith))

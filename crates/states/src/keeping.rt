@@ -1,10 +1,12 @@
+use crate::STATE_WORDS;
+use crate::STATES;
 use classes::same::same_state;
 ghost use mathlib.Core.Path.{_≡_};
 ghost use Prim.Native.Nat.{ℕ, _+_, _*_, _<_, _≤_};
 ghost use lib.ListN.{length, set, take};
 ghost use lib.Seq.{sets};
 ghost use Rattle.goals.specs.GoalWords.{goalsFrom};
-ghost use Rattle.decoding.specs.WordMachine.{statesIn, Kept};
+ghost use Rattle.decoding.specs.WordMachine.{placeIn, statesWords, statesIn, Kept};
 ghost use Rattle.states.specs.Meeting.{placeOf};
 
 // The number of the first of m states that is the state of n goals in `ws`; m where none is.
@@ -14,7 +16,14 @@ pub fn find_state(scratch: &[u16], m: usize, ws: &[u16], n: usize) -> usize
 {
     let mut i = 0;
     while i < m {
-        if same_state(ws, 0, n, scratch, 128 + 96 * i, scratch[i] as usize) {
+        if same_state(
+            ws,
+            0,
+            n,
+            scratch,
+            STATES + STATE_WORDS * i,
+            scratch[i] as usize,
+        ) {
             return i;
         }
         i += 1;
@@ -24,13 +33,13 @@ pub fn find_state(scratch: &[u16], m: usize, ws: &[u16], n: usize) -> usize
 
 // The state of n goals in `ws` as state m.
 pub fn add_state(scratch: &mut [u16], m: usize, ws: &[u16], n: usize)
-    requires { ⌜ (12416 ≤ length (now scratch)) × (m < 128) × (n ≤ 32) × (3 * n ≤ length (now ws)) ⌝ }
-    ensures { λ r. ⌜ now (scratch .exit) ≡ sets (set (now (scratch .entry)) m n) (128 + 96 * m) (take (3 * n) (now (ws .entry))) ⌝ }
+    requires { ⌜ (statesWords ≤ length (now scratch)) × (m < 128) × (n ≤ 32) × (3 * n ≤ length (now ws)) ⌝ }
+    ensures { λ r. ⌜ now (scratch .exit) ≡ sets (set (now (scratch .entry)) m n) (placeIn m) (take (3 * n) (now (ws .entry))) ⌝ }
 {
     scratch[m] = n as u16;
     let mut i = 0;
     while i < 3 * n {
-        scratch[128 + 96 * m + i] = ws[i];
+        scratch[STATES + STATE_WORDS * m + i] = ws[i];
         i += 1;
     }
 }

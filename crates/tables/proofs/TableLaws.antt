@@ -32,7 +32,8 @@ module _ (ar ws : List ℕ) where
   span-none (suc k) at zero h = refl
   span-none (suc k) at (suc need) h = absurd (omega arith)
 
-  pub span-next : (k at need : ℕ) → 0 < k → (need ≡ 0 → ⊥) → spanFrom ar ws k at need ≡ suc (spanFrom ar ws (k - 1) (at + 1) (need - 1 + getD ar (wordAt ws at) 0))
+  pub span-next : (k at need : ℕ) → 0 < k → (need ≡ 0 → ⊥)
+      → spanFrom ar ws k at need ≡ suc (spanFrom ar ws (k - 1) (at + 1) (need - 1 + getD ar (wordAt ws at) 0))
   unfolding spanFrom
   span-next zero at need h n = absurd (omega arith)
   span-next (suc k) at zero h n = absurd (n refl)
@@ -58,12 +59,14 @@ module _ (ar ws : List ℕ) (st r one : ℕ) where
   seek-there zero c v h = refl
   seek-there (suc k) c v h = rw (le-ltb c r h) refl
 
-  pub seek-down : (k c v : ℕ) → 0 < k → c < r → r < c + spanAt ar ws (st + c) → seekFrom ar ws st r one k c v ≡ seekFrom ar ws st r one (k - 1) (c + 1) ((5 * v + one) % 65536)
+  pub seek-down : (k c v : ℕ) → 0 < k → c < r → r < c + spanAt ar ws (st + c)
+      → seekFrom ar ws st r one k c v ≡ seekFrom ar ws st r one (k - 1) (c + 1) ((5 * v + one) % 65536)
   unfolding seekFrom
   seek-down zero c v h l g = absurd (omega arith)
   seek-down (suc k) c v h l g = let e : suc k - 1 ≡ k = omega arith in rw (e, lt-ltb c r l, lt-ltb r (c + spanAt ar ws (st + c)) g) refl
 
-  pub seek-on : (k c v : ℕ) → 0 < k → c < r → c + spanAt ar ws (st + c) ≤ r → seekFrom ar ws st r one k c v ≡ seekFrom ar ws st r one (k - 1) (c + spanAt ar ws (st + c)) ((v + one) % 65536)
+  pub seek-on : (k c v : ℕ) → 0 < k → c < r → c + spanAt ar ws (st + c) ≤ r
+      → seekFrom ar ws st r one k c v ≡ seekFrom ar ws st r one (k - 1) (c + spanAt ar ws (st + c)) ((v + one) % 65536)
   unfolding seekFrom
   seek-on zero c v h l g = absurd (omega arith)
   seek-on (suc k) c v h l g = let e : suc k - 1 ≡ k = omega arith in rw (e, lt-ltb c r l, le-ltb r (c + spanAt ar ws (st + c)) g) refl
@@ -79,12 +82,14 @@ module _ (ar ws : List ℕ) (st e : ℕ) where
   kids-there zero c m h = refl
   kids-there (suc k) c m h = rw (le-ltb c e h) refl
 
-  pub kids-on : (k c m : ℕ) → 0 < k → c < e → wordAt ws (st + c) < 65535 → kidsFrom ar ws st e k c m ≡ kidsFrom ar ws st e (k - 1) (c + spanAt ar ws (st + c)) ((m + 2 ^ c) % 65536)
+  pub kids-on : (k c m : ℕ) → 0 < k → c < e → wordAt ws (st + c) < 65535
+      → kidsFrom ar ws st e k c m ≡ kidsFrom ar ws st e (k - 1) (c + spanAt ar ws (st + c)) ((m + 2 ^ c) % 65536)
   unfolding kidsFrom
   kids-on zero c m h l n = absurd (omega arith)
   kids-on (suc k) c m h l n = let d : suc k - 1 ≡ k = omega arith in rw (d, lt-ltb c e l, lt-leb 65535 (wordAt ws (st + c)) n) refl
 
-  pub kids-off : (k c m : ℕ) → 0 < k → c < e → 65535 ≤ wordAt ws (st + c) → kidsFrom ar ws st e k c m ≡ kidsFrom ar ws st e (k - 1) (c + spanAt ar ws (st + c)) m
+  pub kids-off : (k c m : ℕ) → 0 < k → c < e → 65535 ≤ wordAt ws (st + c)
+      → kidsFrom ar ws st e k c m ≡ kidsFrom ar ws st e (k - 1) (c + spanAt ar ws (st + c)) m
   unfolding kidsFrom
   kids-off zero c m h l n = absurd (omega arith)
   kids-off (suc k) c m h l n = let d : suc k - 1 ≡ k = omega arith in rw (d, lt-ltb c e l, le-leb 65535 (wordAt ws (st + c)) n) refl
@@ -98,7 +103,8 @@ module _ (ar ws ss : List ℕ) where
   unfolding entryW
   entry-past k h l = rw (lt-ltb (k / 16 % 16) (length ss) h, le-ltb (k % 16) (spanAt ar ws (getD ss (k / 16 % 16) 0)) l) refl
 
-  pub entry-in : (k : ℕ) → k / 16 % 16 < length ss → k % 16 < spanAt ar ws (getD ss (k / 16 % 16) 0) → entryW ar ws ss k ≡ nodeWord ar ws (getD ss (k / 16 % 16) 0) (k / 256) (k % 16)
+  pub entry-in : (k : ℕ) → k / 16 % 16 < length ss → k % 16 < spanAt ar ws (getD ss (k / 16 % 16) 0)
+      → entryW ar ws ss k ≡ nodeWord ar ws (getD ss (k / 16 % 16) 0) (k / 256) (k % 16)
   unfolding entryW
   entry-in k h l = rw (lt-ltb (k / 16 % 16) (length ss) h, lt-ltb (k % 16) (spanAt ar ws (getD ss (k / 16 % 16) 0)) l) refl
 

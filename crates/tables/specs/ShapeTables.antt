@@ -1,4 +1,11 @@
--- The words of the five tables, each by itself, from child counts, shape words and starts.
+-- Inside: the words of the five tables, each by itself, from child counts, shape words and starts.
+--   wordAt                a word, a blank past the end
+--   spanAt                the nodes of a term, at most 16
+--   seekFrom              from node to node: down to the first child, or on to the next sibling
+--   kidsAt                the mask of a node's children that are no blanks
+--   nodeWord entryIn      a word for a node, by area; 0 where there is no such node
+--   entryW entriesFrom    the tables' words, one by one
+--   tableWords            how many there are
 use mathlib.Core.List.{List, [], _∷_, map}
 use mathlib.Core.Bool.{Bool, true, false, cond}
 use mathlib.Core.Path.{_≡_}
@@ -51,6 +58,10 @@ entryIn ar ws st x r = cond (ltb r (spanAt ar ws st)) (nodeWord ar ws st x r) 0
 -- word k of the tables: 0 where there is no such shape or node
 unfoldable pub entryW : List ℕ → List ℕ → List ℕ → ℕ → ℕ
 entryW ar ws ss k = cond (ltb (k / 16 % 16) (length ss)) (entryIn ar ws (getD ss (k / 16 % 16) 0) (k / 256) (k % 16)) 0
+
+-- the words of the five tables
+abbrev pub tableWords : ℕ
+tableWords = 1280
 
 -- n words of the tables from word k on
 unfoldable pub entriesFrom : List ℕ → List ℕ → List ℕ → ℕ → ℕ → List ℕ

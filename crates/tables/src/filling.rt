@@ -1,8 +1,9 @@
+use crate::TABLE_WORDS;
 ghost use mathlib.Core.Path.{_≡_};
 ghost use Prim.Native.Nat.{ℕ, _+_, _*_, _<_, _≤_};
 ghost use lib.ListN.{length, getD};
 ghost use lib.Seq.{sets};
-ghost use Rattle.tables.specs.ShapeTables.{wordAt, spanAt, seekFrom, kidsAt, nodeWord, entryW, entriesFrom};
+ghost use Rattle.tables.specs.ShapeTables.{wordAt, spanAt, seekFrom, kidsAt, nodeWord, entryW, tableWords, entriesFrom};
 
 fn word_at(words: &[u16], i: usize) -> u16
     ensures { λ r. ⌜ r ≡ wordAt (now (words .entry)) i ⌝ }
@@ -13,21 +14,21 @@ fn word_at(words: &[u16], i: usize) -> u16
     65535
 }
 
-fn arity_of(arity: &[u8], w: u16) -> usize
-    ensures { λ r. ⌜ r ≡ getD (now (arity .entry)) w 0 ⌝ }
+fn children_of(symbols: &[u8], w: u16) -> usize
+    ensures { λ r. ⌜ r ≡ getD (now (symbols .entry)) w 0 ⌝ }
     ensures small { λ r. ⌜ r ≤ 255 ⌝ }
 {
     let i = w as usize;
-    if i < arity.len() {
-        return arity[i] as usize;
+    if i < symbols.len() {
+        return symbols[i] as usize;
     }
     0
 }
 
 // The nodes of the term at `at`, at most 16.
-fn span_at(arity: &[u8], words: &[u16], at: usize) -> usize
+fn span_at(symbols: &[u8], words: &[u16], at: usize) -> usize
     requires { ⌜ at ≤ 100000 ⌝ }
-    ensures { λ r. ⌜ r ≡ spanAt (now (arity .entry)) (now (words .entry)) at ⌝ }
+    ensures { λ r. ⌜ r ≡ spanAt (now (symbols .entry)) (now (words .entry)) at ⌝ }
     ensures few { λ r. ⌜ r ≤ 16 ⌝ }
 {
     let mut need = 1;
@@ -37,7 +38,7 @@ fn span_at(arity: &[u8], words: &[u16], at: usize) -> usize
         if need == 0 {
             return here - at;
         }
-        let n = arity_of(arity, word_at(words, here));
+        let n = children_of(symbols, word_at(words, here));
         need = need - 1 + n;
         here += 1;
         left -= 1;
@@ -46,9 +47,9 @@ fn span_at(arity: &[u8], words: &[u16], at: usize) -> usize
 }
 
 // Node r of the shape at st: v with `one` added for each sibling passed, and five times it and one more for each step down.
-fn seek(arity: &[u8], words: &[u16], st: usize, r: usize, one: u32, v: u32) -> u32
+fn seek(symbols: &[u8], words: &[u16], st: usize, r: usize, one: u32, v: u32) -> u32
     requires { ⌜ (st ≤ 65535) × (one ≤ 1) × (v ≤ 65535) ⌝ }
-    ensures { λ x. ⌜ x ≡ seekFrom (now (arity .entry)) (now (words .entry)) st r one 16 0 v ⌝ }
+    ensures { λ x. ⌜ x ≡ seekFrom (now (symbols .entry)) (now (words .entry)) st r one 16 0 v ⌝ }
     ensures small { λ x. ⌜ x ≤ 65535 ⌝ }
 {
     let mut c = 0;
@@ -58,7 +59,7 @@ fn seek(arity: &[u8], words: &[u16], st: usize, r: usize, one: u32, v: u32) -> u
         if r <= c {
             return here;
         }
-        let n = span_at(arity, words, st + c);
+        let n = span_at(symbols, words, st + c);
         if r < c + n {
             c += 1;
             here = (5 * here + one) % 65536;
@@ -72,12 +73,12 @@ fn seek(arity: &[u8], words: &[u16], st: usize, r: usize, one: u32, v: u32) -> u
 }
 
 // The mask of the children that are no blanks, of node r of the shape at st.
-fn kids_at(arity: &[u8], words: &[u16], st: usize, r: usize) -> u64
+fn kids_at(symbols: &[u8], words: &[u16], st: usize, r: usize) -> u64
     requires { ⌜ (st ≤ 65535) × (r < 16) ⌝ }
-    ensures { λ x. ⌜ x ≡ kidsAt (now (arity .entry)) (now (words .entry)) st r ⌝ }
+    ensures { λ x. ⌜ x ≡ kidsAt (now (symbols .entry)) (now (words .entry)) st r ⌝ }
     ensures small { λ x. ⌜ x ≤ 65535 ⌝ }
 {
-    let end = r + span_at(arity, words, st + r);
+    let end = r + span_at(symbols, words, st + r);
     let mut c = r + 1;
     let mut mask: u64 = 0;
     let mut left: usize = 16;
@@ -88,55 +89,55 @@ fn kids_at(arity: &[u8], words: &[u16], st: usize, r: usize) -> u64
         if word_at(words, st + c) < 65535 {
             mask = (mask + (1u64 << c)) % 65536;
         }
-        c += span_at(arity, words, st + c);
+        c += span_at(symbols, words, st + c);
         left -= 1;
     }
     mask
 }
 
-fn node_word(arity: &[u8], words: &[u16], st: usize, x: usize, r: usize) -> u16
+fn node_word(symbols: &[u8], words: &[u16], st: usize, x: usize, r: usize) -> u16
     requires { ⌜ (st ≤ 65535) × (r < 16) ⌝ }
-    ensures { λ y. ⌜ y ≡ nodeWord (now (arity .entry)) (now (words .entry)) st x r ⌝ }
+    ensures { λ y. ⌜ y ≡ nodeWord (now (symbols .entry)) (now (words .entry)) st x r ⌝ }
 {
     if x == 0 {
-        return seek(arity, words, st, r, 1, 0) as u16;
+        return seek(symbols, words, st, r, 1, 0) as u16;
     }
     if x == 1 {
-        return seek(arity, words, st, r, 0, 1) as u16;
+        return seek(symbols, words, st, r, 0, 1) as u16;
     }
     if x == 2 {
-        return span_at(arity, words, st + r) as u16;
+        return span_at(symbols, words, st + r) as u16;
     }
     if x == 3 {
         return word_at(words, st + r);
     }
-    kids_at(arity, words, st, r) as u16
+    kids_at(symbols, words, st, r) as u16
 }
 
 // Word k of the tables.
-fn table_word(arity: &[u8], words: &[u16], starts: &[u16], k: usize) -> u16
-    ensures { λ y. ⌜ y ≡ entryW (now (arity .entry)) (now (words .entry)) (now (starts .entry)) k ⌝ }
+fn table_word(symbols: &[u8], words: &[u16], starts: &[u16], k: usize) -> u16
+    ensures { λ y. ⌜ y ≡ entryW (now (symbols .entry)) (now (words .entry)) (now (starts .entry)) k ⌝ }
 {
     let s = k / 16 % 16;
     if s < starts.len() {
         let st = starts[s] as usize;
         let r = k % 16;
-        if r < span_at(arity, words, st) {
-            return node_word(arity, words, st, k / 256, r);
+        if r < span_at(symbols, words, st) {
+            return node_word(symbols, words, st, k / 256, r);
         }
         return 0;
     }
     0
 }
 
-// The five tables: words 0 to 1279 of `tab`.
-pub fn fill_tables(arity: &[u8], words: &[u16], starts: &[u16], tab: &mut [u16])
-    requires { ⌜ 1280 ≤ length (now tab) ⌝ }
-    ensures { λ r. ⌜ now (tab .exit) ≡ sets (now (tab .entry)) 0 (entriesFrom (now (arity .entry)) (now (words .entry)) (now (starts .entry)) 0 1280) ⌝ }
+// The five tables, at the start of `tab`.
+pub fn fill_tables(symbols: &[u8], words: &[u16], starts: &[u16], tab: &mut [u16])
+    requires { ⌜ tableWords ≤ length (now tab) ⌝ }
+    ensures { λ r. ⌜ now (tab .exit) ≡ sets (now (tab .entry)) 0 (entriesFrom (now (symbols .entry)) (now (words .entry)) (now (starts .entry)) 0 tableWords) ⌝ }
 {
     let mut k = 0;
-    while k < 1280 {
-        tab[k] = table_word(arity, words, starts, k);
+    while k < TABLE_WORDS {
+        tab[k] = table_word(symbols, words, starts, k);
         k += 1;
     }
 }

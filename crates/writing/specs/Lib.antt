@@ -1,1 +1,1 @@
-pub mod FinalBlocks
+pub mod RowWords

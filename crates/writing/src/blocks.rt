@@ -1,46 +1,42 @@
 use classes::members::put_class;
-use classes::order::class_order;
-use classes::square::dependency;
-use deriving::announce::outputs;
-use deriving::derivative::derive;
-use deriving::lift::least;
-use deriving::lift::put_lifted;
+use deriving::lift::lift_class;
 use goals::obligations::label;
 use kinds::Position;
 use kinds::State;
 use kinds::Symbol;
+use states::DERIVED_WORDS;
+use states::STATE_WORDS;
+use states::STATES;
 use states::keeping::find_state;
+use states::parting::part;
 ghost use mathlib.Core.Path.{_≡_};
-ghost use mathlib.Core.List.{List, [], _∷_};
-ghost use Prim.Native.Nat.{ℕ, _+_, _*_, _%_, _<_, _≤_};
-ghost use lib.ListN.{length, getD};
+ghost use mathlib.Core.List.{[], _∷_};
+ghost use Prim.Native.Nat.{ℕ, _+_, _*_, _<_, _≤_};
+ghost use lib.ListN.{length};
 ghost use lib.Seq.{sets};
-ghost use Rattle.kinds.specs.Lists.{concat};
-ghost use Rattle.kinds.specs.Members.{_∈_};
-ghost use Rattle.automaton.specs.PlanWords.{blockWords, startsFrom, planWords};
-ghost use Rattle.goals.specs.GoalWords.{GoalWords, labelCode};
-ghost use Rattle.goals.specs.WordStages.{leastCode};
+ghost use Rattle.goals.specs.WordStages.{displacementW, liftedW};
+ghost use Rattle.deriving.specs.Orders.{classAt};
+ghost use Rattle.deriving.specs.Passes.{Puts};
+ghost use Rattle.classes.specs.Squares.{Squared};
 ghost use Rattle.decoding.specs.WordMachine.{words as machine, stateIn, statesIn, Kept};
-ghost use Rattle.decoding.specs.GoodStates.{Ready};
-ghost use Rattle.classes.specs.Squares.{Square};
-ghost use Rattle.deriving.specs.Orders.{classAt, goalOn};
-ghost use Rattle.states.specs.Meeting.{AllGood, placeOf, liftedW};
-ghost use Rattle.writing.specs.FinalBlocks.{blockOf, allBlocks, SmallOn, rowWords, pairs};
+ghost use Rattle.states.specs.Meeting.{placeOf};
+ghost use Rattle.states.specs.Parting.{OnSymbol, Named};
+ghost use Rattle.writing.specs.RowWords.{SmallOn, blockIn, planIn, outWords, succWords, SmallBy, RowWritable, RowWritten, Writable};
 
 // The plan of the m states in scratch, of `total` words.
 pub fn write_plan(
     tab: &[u16],
-    arity: &[u8],
+    symbols: &[u8],
     shapes: usize,
     scratch: &[u16],
     m: usize,
     total: usize,
     plan: &mut [u16],
 )
-    requires { ⌜ Kept (now scratch) m × AllGood (now arity) (now tab) shapes (statesIn (now scratch) m) × ((s : List GoalWords) → s ∈ statesIn (now scratch) m → SmallOn (machine (now tab) shapes) s 0 (now arity)) × Ready (now arity) (now tab) shapes × (total ≡ length (planWords (machine (now tab) shapes) (length (now arity)) shapes (statesIn (now scratch) m) (allBlocks (machine (now tab) shapes) (statesIn (now scratch) m) (now arity)))) × (total ≤ length (now plan)) × (total ≤ 65535) ⌝ }
-    ensures { λ r. ⌜ now (plan .exit) ≡ sets (now (plan .entry)) 0 (planWords (machine (now (tab .entry)) shapes) (length (now (arity .entry))) shapes (statesIn (now (scratch .entry)) m) (allBlocks (machine (now (tab .entry)) shapes) (statesIn (now (scratch .entry)) m) (now (arity .entry)))) ⌝ }
+    requires { ⌜ Writable (now symbols) (now tab) shapes (now scratch) m total (now plan) ⌝ }
+    ensures { λ r. ⌜ now (plan .exit) ≡ sets (now (plan .entry)) 0 (planIn (now (symbols .entry)) (now (tab .entry)) shapes (now (scratch .entry)) m) ⌝ }
 {
-    let k = arity.len();
+    let k = symbols.len();
     plan[0] = m as u16;
     plan[1] = k as u16;
     plan[2] = shapes as u16;
@@ -48,11 +44,11 @@ pub fn write_plan(
     let mut at = 4 + m + m * k;
     let mut i = 0;
     while i < m {
-        let c = label(tab, scratch, 128 + 96 * i, scratch[i] as usize) as u16;
+        let c = label(tab, scratch, STATES + STATE_WORDS * i, scratch[i] as usize) as u16;
         plan[4 + i] = c;
         at = write_row(
             tab,
-            arity,
+            symbols,
             shapes,
             scratch,
             m,
@@ -68,7 +64,7 @@ pub fn write_plan(
 // The blocks of a state from `at` on, and their starts; answers the place after them.
 fn write_row(
     tab: &[u16],
-    arity: &[u8],
+    symbols: &[u8],
     shapes: usize,
     scratch: &[u16],
     m: usize,
@@ -77,18 +73,17 @@ fn write_row(
     at: usize,
     plan: &mut [u16],
 ) -> usize
-    requires { ⌜ Kept (now scratch) m × (state .0 < m) × AllGood (now arity) (now tab) shapes (statesIn (now scratch) m) × SmallOn (machine (now tab) shapes) (stateIn (now scratch) (state .0)) 0 (now arity) × (root .0 ≡ labelCode (now tab) (stateIn (now scratch) (state .0))) × (4 + m + state .0 * length (now arity) + length (now arity) ≤ at) × (at + length (concat (rowWords (now tab) shapes (now scratch) m (state .0) 0 (now arity))) ≤ length (now plan)) × (at + length (concat (rowWords (now tab) shapes (now scratch) m (state .0) 0 (now arity))) ≤ 65535) ⌝ }
-    ensures next { λ r. ⌜ r ≡ at + length (concat (rowWords (now (tab .entry)) shapes (now (scratch .entry)) m (state .0) 0 (now (arity .entry)))) ⌝ }
-    ensures wrote { λ r. ⌜ now (plan .exit) ≡ sets (sets (now (plan .entry)) (4 + m + state .0 * length (now (arity .entry))) (startsFrom at (rowWords (now (tab .entry)) shapes (now (scratch .entry)) m (state .0) 0 (now (arity .entry))))) at (concat (rowWords (now (tab .entry)) shapes (now (scratch .entry)) m (state .0) 0 (now (arity .entry)))) ⌝ }
+    requires { ⌜ RowWritable (now symbols) (now tab) shapes (now scratch) m (state .0) (root .0) at (now plan) ⌝ }
+    ensures { λ r. ⌜ RowWritten (now (symbols .entry)) (now (tab .entry)) shapes (now (scratch .entry)) m (state .0) at r (now (plan .entry)) (now (plan .exit)) ⌝ }
 {
-    let starts = 4 + m + state.0 as usize * arity.len();
+    let starts = 4 + m + state.0 as usize * symbols.len();
     let mut here = at;
     let mut f = 0;
-    while f < arity.len() {
+    while f < symbols.len() {
         plan[starts + f] = here as u16;
         here = write_block(
             tab,
-            arity,
+            symbols,
             shapes,
             scratch,
             m,
@@ -106,7 +101,7 @@ fn write_row(
 // The block of a state on a symbol, from `at` on; answers the place after it.
 fn write_block(
     tab: &[u16],
-    arity: &[u8],
+    symbols: &[u8],
     shapes: usize,
     scratch: &[u16],
     m: usize,
@@ -116,31 +111,46 @@ fn write_block(
     at: usize,
     plan: &mut [u16],
 ) -> usize
-    requires { ⌜ Kept (now scratch) m × (state .0 < m) × AllGood (now arity) (now tab) shapes (statesIn (now scratch) m) × SmallOn (machine (now tab) shapes) (stateIn (now scratch) (state .0)) 0 (now arity) × (root .0 ≡ labelCode (now tab) (stateIn (now scratch) (state .0))) × (symbol .0 < length (now arity)) × (at + length (blockWords (blockOf (machine (now tab) shapes) (statesIn (now scratch) m) (stateIn (now scratch) (state .0)) (symbol .0) (getD (now arity) (symbol .0) 0))) ≤ length (now plan)) ⌝ }
-    ensures next { λ r. ⌜ r ≡ at + length (blockWords (blockOf (machine (now (tab .entry)) shapes) (statesIn (now (scratch .entry)) m) (stateIn (now (scratch .entry)) (state .0)) (symbol .0) (getD (now (arity .entry)) (symbol .0) 0))) ⌝ }
-    ensures wrote { λ r. ⌜ now (plan .exit) ≡ sets (now (plan .entry)) at (blockWords (blockOf (machine (now (tab .entry)) shapes) (statesIn (now (scratch .entry)) m) (stateIn (now (scratch .entry)) (state .0)) (symbol .0) (getD (now (arity .entry)) (symbol .0) 0))) ⌝ }
+    requires { ⌜ Kept (now scratch) m × OnSymbol (now symbols) (now tab) shapes (now scratch) (state .0) (root .0) (symbol .0) × SmallOn (machine (now tab) shapes) (stateIn (now scratch) (state .0)) 0 (now symbols) × (at + length (blockIn (now symbols) (now tab) shapes (now scratch) m (state .0) (symbol .0)) ≤ length (now plan)) ⌝ }
+    ensures { λ r. ⌜ Puts (blockIn (now (symbols .entry)) (now (tab .entry)) shapes (now (scratch .entry)) m (state .0) (symbol .0)) at r (now (plan .entry)) (now (plan .exit)) ⌝ }
 {
-    let mut goals = [0u16; 288];
+    let mut out = [0u32; 96];
+    let mut goals = [0u16; DERIVED_WORDS];
     let mut dep = [[false; 96]; 96];
     let mut order = [0u32; 96];
-    let mut out = [0u32; 96];
-    let i = state.0 as usize;
-    let k = arity[symbol.0 as usize] as u16;
-    let from = 128 + 96 * i;
-    let n = scratch[i] as usize;
-    let outs = outputs(tab, scratch, from, n, root, symbol, &mut out);
-    let next = write_outputs(scratch, from, &out[0..outs], at, plan);
-    let d = derive(tab, scratch, from, n, shapes, root, symbol, k, &mut goals) / 3;
-    dependency(tab, &goals, d, &mut dep);
-    let classes = class_order(tab, &goals, d, &dep, &mut order);
-    write_successors(scratch, m, &goals, d, &dep, &order[0..classes], next, plan)
+    let parts = part(
+        tab,
+        symbols,
+        shapes,
+        scratch,
+        state,
+        root,
+        symbol,
+        &mut out,
+        &mut goals,
+        &mut dep,
+        &mut order,
+    );
+    let announced = parts.announced;
+    let classes = parts.classes;
+    let from = STATES + STATE_WORDS * state.0 as usize;
+    let next = write_outputs(scratch, from, &out[0..announced], at, plan);
+    write_successors(
+        scratch,
+        m,
+        &goals,
+        parts.goals,
+        &dep,
+        &order[0..classes],
+        next,
+        plan,
+    )
 }
 
 // A count and the announcements of the goals of the state at `from` that `out` names; answers the place after them.
 fn write_outputs(scratch: &[u16], from: usize, out: &[u32], at: usize, plan: &mut [u16]) -> usize
-    requires { ⌜ (length (now out) ≤ 96) × ((j : ℕ) → j < length (now out) → getD (now out) j 0 % 128 < 32) × (from + 96 ≤ length (now scratch)) × (at + (1 + 2 * length (now out)) ≤ length (now plan)) ⌝ }
-    ensures next { λ r. ⌜ r ≡ at + (1 + 2 * length (now (out .entry))) ⌝ }
-    ensures wrote { λ r. ⌜ now (plan .exit) ≡ sets (now (plan .entry)) at (length (now (out .entry)) ∷ pairs (λ x. goalOn (now (scratch .entry)) from (x % 128) .sh) (λ x. goalOn (now (scratch .entry)) from (x % 128) .an) (now (out .entry))) ⌝ }
+    requires { ⌜ Named 32 (now out) × (from + 96 ≤ length (now scratch)) × (at + (1 + 2 * length (now out)) ≤ length (now plan)) ⌝ }
+    ensures { λ r. ⌜ Puts (outWords (now (scratch .entry)) from (now (out .entry))) at r (now (plan .entry)) (now (plan .exit)) ⌝ }
 {
     plan[at] = out.len() as u16;
     let mut here = at + 1;
@@ -166,9 +176,8 @@ fn write_successors(
     at: usize,
     plan: &mut [u16],
 ) -> usize
-    requires { ⌜ Kept (now scratch) m × (n ≤ 96) × (3 * n ≤ length (now goals)) × Square 96 (now dep) × (length (now order) ≤ 96) × ((j : ℕ) → j < length (now order) → getD (now order) j 0 % 128 < 96) × ((j : ℕ) → j < length (now order) → length (classAt (now dep) (now goals) n (getD (now order) j 0 % 128)) ≤ 32) × (at + (1 + 2 * length (now order)) ≤ length (now plan)) ⌝ }
-    ensures next { λ r. ⌜ r ≡ at + (1 + 2 * length (now (order .entry))) ⌝ }
-    ensures wrote { λ r. ⌜ now (plan .exit) ≡ sets (now (plan .entry)) at (length (now (order .entry)) ∷ pairs (λ x. placeOf (statesIn (now (scratch .entry)) m) (liftedW (classAt (now (dep .entry)) (now (goals .entry)) n (x % 128)))) (λ x. leastCode 65535 (classAt (now (dep .entry)) (now (goals .entry)) n (x % 128))) (now (order .entry))) ⌝ }
+    requires { ⌜ Kept (now scratch) m × Squared (now goals) n (now dep) × Named 96 (now order) × SmallBy (now dep) (now goals) n (now order) × (at + (1 + 2 * length (now order)) ≤ length (now plan)) ⌝ }
+    ensures { λ r. ⌜ Puts (succWords (now (dep .entry)) (now (goals .entry)) n (statesIn (now (scratch .entry)) m) (now (order .entry))) at r (now (plan .entry)) (now (plan .exit)) ⌝ }
 {
     plan[at] = order.len() as u16;
     let mut here = at + 1;
@@ -201,14 +210,13 @@ fn write_successor(
     at: usize,
     plan: &mut [u16],
 )
-    requires { ⌜ Kept (now scratch) m × (n ≤ 96) × (3 * n ≤ length (now goals)) × Square 96 (now dep) × (r < 96) × (length (classAt (now dep) (now goals) n r) ≤ 32) × (at + 2 ≤ length (now plan)) ⌝ }
-    ensures { λ u. ⌜ now (plan .exit) ≡ sets (now (plan .entry)) at (placeOf (statesIn (now (scratch .entry)) m) (liftedW (classAt (now (dep .entry)) (now (goals .entry)) n r)) ∷ leastCode 65535 (classAt (now (dep .entry)) (now (goals .entry)) n r) ∷ []) ⌝ }
+    requires { ⌜ Kept (now scratch) m × Squared (now goals) n (now dep) × (r < 96) × (length (classAt (now dep) (now goals) n r) ≤ 32) × (at + 2 ≤ length (now plan)) ⌝ }
+    ensures { λ u. ⌜ now (plan .exit) ≡ sets (now (plan .entry)) at (placeOf (statesIn (now (scratch .entry)) m) (liftedW (classAt (now (dep .entry)) (now (goals .entry)) n r)) ∷ displacementW (classAt (now (dep .entry)) (now (goals .entry)) n r) ∷ []) ⌝ }
 {
-    let mut class = [0u16; 288];
+    let mut class = [0u16; DERIVED_WORDS];
     let k = put_class(dep, r, goals, n, &mut class) / 3;
-    let mut lifted = [0u16; 96];
-    let top = least(&class, 0, k, Position(65535));
-    put_lifted(&class, 0, k, top, &mut lifted);
+    let mut lifted = [0u16; STATE_WORDS];
+    let top = lift_class(&class, k, &mut lifted);
     plan[at] = find_state(scratch, m, &lifted, k) as u16;
     plan[at + 1] = top.0;
 }

@@ -1,7 +1,6 @@
 use Rattle.classes.proofs.ClosureLaws.{Row, row-none, row-skip, row-put, grown-refl, no-both}
 use mathlib.Core.Logic.{⊎-elim}
 use Rattle.classes.proofs.ClosureLaws.{put, cell-same, cell-other, square-put, grown-put, grown-refl, grown-trans}
-use Rattle.classes.specs.Squares.{cell, Square, Reach, one, via, Grown}
 use lib.ListN.{length, getD, set, length-set}
 use mathlib.Core.Bool.{Bool, true, false}
 use mathlib.Core.Path.{_≡_, refl, ap, sym, _∙_}
@@ -67,10 +66,12 @@ loop-again c =
     (c .if2 .came)
 
 returns : tie.Need-returns Inv-loop μ-loop
-returns c = let r = c .before .loop .inv in (r .square, (r .grown, λ b h ik kb. r .joined b (omega arith) kb))
+returns c =
+    let r = c .before .loop .inv in record { square = r .square; grown = r .grown; joined = λ b h ik kb. r .joined b (omega arith) kb }
 
 returns-2 : tie.Need-returns-2 Inv-loop μ-loop
-returns-2 c = (c .before .before .pre .3, (grown-refl _ _, λ b h ik kb. absurd (no-both _ (c .if1 .left) ik)))
+returns-2 c =
+    record { square = c .before .before .pre .3; grown = grown-refl _ _; joined = λ b h ik kb. absurd (no-both _ (c .if1 .left) ik) }
 
 pub join-row-spec : {M : Type 1} → statement M
 join-row-spec =

@@ -1,5 +1,5 @@
-use Rattle.classes.proofs.ClosureLaws.{Rows, rows-more, grown-refl}
-use Rattle.classes.specs.Squares.{cell, Square, Reach, one, via, Grown}
+use Rattle.classes.proofs.ClosureLaws.{rows-more, grown-refl}
+use Rattle.classes.specs.Squares.{RowsJoined}
 use mathlib.Core.Bool.{Bool, true, false}
 use mathlib.Core.Path.{_≡_, refl, ap, sym, _∙_}
 use native.Mathlib.Omega.{arith}
@@ -9,7 +9,7 @@ use Rattle.classes.proofs.closure.round.Statement.{statement}
 use Rattle.classes.proofs.closure.round.Tie as tie
 
 abbrev Inv-loop : tie.InvT-loop
-Inv-loop dep₀ n k i₀ dep i = Rows n k dep₀ dep i
+Inv-loop dep₀ n k i₀ dep i = RowsJoined n k dep₀ dep i
 
 abbrev μ-loop : tie.MeasureT-loop
 μ-loop dep₀ n k i₀ dep i = n - i
@@ -29,10 +29,12 @@ loop-less : tie.Need-loop-less Inv-loop μ-loop
 loop-less c = search needs
 
 loop-again : tie.Need-loop-again Inv-loop μ-loop
-loop-again c = let e = c .join-row .ensures in rows-more (c .before .before .loop-test .taken) (c .before .before .before .loop .inv) (e .0) (e .1 .0) (e .1 .1)
+loop-again c = rows-more (c .before .before .loop-test .taken) (c .before .before .before .loop .inv) (c .join-row .ensures)
 
 returns : tie.Need-returns Inv-loop μ-loop
-returns c = let r = c .before .loop .inv in (r .square, (r .grown, λ a b ha hb ak kb. r .joined a (omega arith) b hb ak kb))
+returns c =
+    let r = c .before .loop .inv in
+    record { within = omega arith; square = r .square; grown = r .grown; joined = λ a ha b hb ak kb. r .joined a (omega arith) b hb ak kb }
 
 pub round-spec : {M : Type 1} → statement M
 round-spec =

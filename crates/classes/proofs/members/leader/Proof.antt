@@ -35,7 +35,9 @@ returns : tie.Need-returns Inv-loop μ-loop
 returns c =
     let entry = c .before .before .before .before in
     let at-loop-test = c .before .before .loop-test in
-    let a = entry .args in let l = c .before .before .before .loop in sym (l .inv .1 ∙ leads-no (getD (a .dep .now) (a .i) []) (a .i) (l .j) (omega (arith, at-loop-test .taken, entry .pre .0, entry .pre .1 .cols (a .i) (entry .pre .0))) (at-loop-test .taken) (c .if1 .taken))
+    let a = entry .args in
+    let l = c .before .before .before .loop in
+    sym (l .inv .1 ∙ leads-no (getD (a .dep .now) (a .i) []) (a .i) (l .j) (omega (arith, at-loop-test .taken, entry .pre .0, entry .pre .1 .cols (a .i) (entry .pre .0))) (at-loop-test .taken) (c .if1 .taken))
 
 add-j : tie.Need-add-j Inv-loop μ-loop
 add-j c = search needs
@@ -47,7 +49,13 @@ loop-again : tie.Need-loop-again Inv-loop μ-loop
 loop-again c =
     let entry = c .before .before .before .before in
     let at-loop-test = c .before .before .loop-test in
-    let a = entry .args in let l = c .before .before .before .loop in (omega arith, l .inv .1 ∙ leads-next (getD (a .dep .now) (a .i) []) (a .i) (l .j) (omega (arith, at-loop-test .taken, entry .pre .0, entry .pre .1 .cols (a .i) (entry .pre .0))) (at-loop-test .taken) (c .if1 .left))
+    let a = entry .args in
+    let l = c .before .before .before .loop in (
+      omega arith,
+      l .inv .1
+          ∙ leads-next (getD (a .dep .now) (a .i) []) (a .i) (l .j)
+          (omega (arith, at-loop-test .taken, entry .pre .0, entry .pre .1 .cols (a .i) (entry .pre .0))) (at-loop-test .taken) (c .if1 .left),
+    )
 
 mul-result : tie.Need-mul-result Inv-loop μ-loop
 mul-result c = search needs
@@ -61,7 +69,9 @@ index-2-result c = search needs
 returns-2 : tie.Need-returns-2 Inv-loop μ-loop
 returns-2 c =
     let entry = c .before .before .before in
-    let a = entry .args in let l = c .before .before .loop in sym (l .inv .1 ∙ leads-end (getD (a .dep .now) (a .i) []) (a .i) (l .j) (omega (arith, entry .pre .0, entry .pre .1 .cols (a .i) (entry .pre .0))) (omega (arith, l .inv .0, c .before .loop-test .left)))
+    let a = entry .args in
+    let l = c .before .before .loop in
+    sym (l .inv .1 ∙ leads-end (getD (a .dep .now) (a .i) []) (a .i) (l .j) (omega (arith, entry .pre .0, entry .pre .1 .cols (a .i) (entry .pre .0))) (omega (arith, l .inv .0, c .before .loop-test .left)))
 
 pub leader-spec : {M : Type 1} → statement M
 leader-spec =

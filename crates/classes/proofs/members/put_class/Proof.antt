@@ -20,13 +20,17 @@ use Rattle.goals.proofs.words.goal_at.Reads as goal-at-reads
 use Rattle.goals.proofs.words.put_goal.Reads as put-goal-reads
 
 abbrev Inv-loop : tie.InvT-loop
-Inv-loop dep i ws n out₀ next₀ here₀ j₀ out next here j = (j ≤ n) × (here ≡ 3 * j) × (length out ≡ length out₀) × (next + length (Left (getD dep i []) ws here n j) ≡ length (flat (pickedW (getD dep i []) (goalsFrom ws 0 n)))) × (sets out₀ 0 (flat (pickedW (getD dep i []) (goalsFrom ws 0 n))) ≡ sets out next (Left (getD dep i []) ws here n j))
+Inv-loop dep i ws n out₀ next₀ here₀ j₀ out next here j =
+    (j ≤ n) × (here ≡ 3 * j) × (length out ≡ length out₀) × (next + length (Left (getD dep i []) ws here n j) ≡ length (flat (pickedW (getD dep i []) (goalsFrom ws 0 n)))) × (sets out₀ 0 (flat (pickedW (getD dep i []) (goalsFrom ws 0 n))) ≡ sets out next (Left (getD dep i []) ws here n j))
 
 abbrev μ-loop : tie.MeasureT-loop
 μ-loop dep i ws n out₀ next₀ here₀ j₀ out next here j = n - j
 
 loop-holds : tie.Need-loop-holds Inv-loop μ-loop
-loop-holds c = let a = c .before .before .args in let e = pick-all (getD (a .dep .now) (a .i) []) (a .ws .now) (a .n) in (omega arith, refl, refl, omega (arith, ap length e), ap (sets (a .out .now) 0) e)
+loop-holds c =
+    let a = c .before .before .args in
+    let e = pick-all (getD (a .dep .now) (a .i) []) (a .ws .now) (a .n) in
+    (omega arith, refl, refl, omega (arith, ap length e), ap (sets (a .out .now) 0) e)
 
 mul-if1 : tie.Need-mul-if1 Inv-loop μ-loop
 mul-if1 c = search needs
@@ -45,7 +49,10 @@ put-goal-requires c κs =
     let entry = c .before .before .before .before .before .before .before .before in
     let at-loop-test = c .before .before .before .before .loop-test in
     let a = entry .args in let l = c .before .before .before .before .before .loop in
-    let p = pick-on (getD (a .dep .now) (a .i) []) (a .ws .now) (l .here) (a .n) (l .j) (at-loop-test .taken) (omega (arith, at-loop-test .taken, entry .pre .0, entry .pre .2 .cols (a .i) (entry .pre .1))) (c .before .before .if1 .taken) in
+    let p =
+    pick-on (getD (a .dep .now) (a .i) []) (a .ws .now) (l .here) (a .n) (l .j) (at-loop-test .taken)
+    (omega (arith, at-loop-test .taken, entry .pre .0 .few, entry .pre .0 .square .cols (a .i) (entry .pre .1)))
+    (c .before .before .if1 .taken) in
     omega (arith, ap length p)
 
 add-next : tie.Need-add-next Inv-loop μ-loop
@@ -54,7 +61,10 @@ add-next c =
     let at-loop = c .before .before .before .before .before .before .before .before .loop in
     let at-loop-test = c .before .before .before .before .before .before .before .loop-test in
     let a = entry .args in let l = at-loop in
-    let p = pick-on (getD (a .dep .now) (a .i) []) (a .ws .now) (l .here) (a .n) (l .j) (at-loop-test .taken) (omega (arith, at-loop-test .taken, entry .pre .0, entry .pre .2 .cols (a .i) (entry .pre .1))) (c .before .before .before .before .before .if1 .taken) in
+    let p =
+    pick-on (getD (a .dep .now) (a .i) []) (a .ws .now) (l .here) (a .n) (l .j) (at-loop-test .taken)
+    (omega (arith, at-loop-test .taken, entry .pre .0 .few, entry .pre .0 .square .cols (a .i) (entry .pre .1)))
+    (c .before .before .before .before .before .if1 .taken) in
     omega (arith, ap length p)
 
 add-here : tie.Need-add-here Inv-loop μ-loop
@@ -72,7 +82,8 @@ loop-again c =
     let at-loop-test = c .before .before .loop-test in
     let a = entry .args in let l = c .before .before .before .loop in
     let row = getD (a .dep .now) (a .i) [] in
-    let in-row : l .j < length row = omega (arith, at-loop-test .taken, entry .pre .0, entry .pre .2 .cols (a .i) (entry .pre .1)) in
+    let in-row : l .j < length row =
+    omega (arith, at-loop-test .taken, entry .pre .0 .few, entry .pre .0 .square .cols (a .i) (entry .pre .1)) in
     let rest = Left row (a .ws .now) (l .here + 3) (a .n) (l .j + 1) in
     ⊎-elim
     (λ w. let p = pick-on row (a .ws .now) (l .here) (a .n) (l .j) (at-loop-test .taken) in-row (w .0 .taken) in (

@@ -23,75 +23,70 @@ Inv-loop tab ws n dep items₀ k₀ i₀ items k i = Listed (begins dep) (λ x. 
 abbrev μ-loop : tie.MeasureT-loop
 μ-loop tab ws n dep items₀ k₀ i₀ items k i = n - i
 
--- src/order.rt:31:5
 loop-holds : tie.Need-loop-holds Inv-loop μ-loop
 loop-holds c =
     let entry = c .before .before .before in
-    listed-begin (begins (entry .args .dep .now)) (λ x. classKey (entry .args .tab .now) (classAt (entry .args .dep .now) (entry .args .ws .now) (entry .args .n) x)) (entry .args .n) (entry .args .items .now)
+    listed-begin (begins (entry .args .dep .now))
+    (λ x. classKey (entry .args .tab .now) (classAt (entry .args .dep .now) (entry .args .ws .now) (entry .args .n) x)) (entry .args .n)
+    (entry .args .items .now)
 
--- src/order.rt:32:12
 leader-requires : tie.Need-leader-requires Inv-loop μ-loop
 leader-requires c κs =
     let entry = c .before .before .before .before .before in
-    (omega (arith, c .loop-test .taken, entry .pre .1), entry .pre .4)
+    (omega (arith, c .loop-test .taken, entry .pre .0 .few), entry .pre .1)
 
--- src/order.rt:33:37
 first-in-row-requires : tie.Need-first-in-row-requires Inv-loop μ-loop
 first-in-row-requires c κs =
     let entry = c .before .before .before .before .before .before .before in
-    (entry .pre .0, entry .pre .1, entry .pre .2, entry .pre .3, entry .pre .4, omega (arith, c .before .before .loop-test .taken, entry .pre .1))
+    (entry .pre .0, entry .pre .1, omega (arith, c .before .before .loop-test .taken, entry .pre .0 .few))
 
--- src/order.rt:33:30
 padded-requires : tie.Need-padded-requires Inv-loop μ-loop
 padded-requires c κs = search needs
 
--- src/order.rt:33:24
 mul-items : tie.Need-mul-items Inv-loop μ-loop
 mul-items c =
     let entry = c .before .before .before .before .before .before .before .before .before in
     let at-loop = c .before .before .before .before .before .loop in
-    let e = c .padded .ensures ∙ ap pad (c .before .first-in-row .ensures) ∙ sym (key-of (entry .args .tab .now) (classAt (entry .args .dep .now) (entry .args .ws .now) (entry .args .n) (at-loop .i))) in
+    let e =
+    c .padded .ensures
+    ∙ ap pad (c .before .first-in-row .ensures)
+    ∙ sym (key-of (entry .args .tab .now) (classAt (entry .args .dep .now) (entry .args .ws .now) (entry .args .n) (at-loop .i))) in
     omega (arith, e, key-small (entry .args .tab .now) (classAt (entry .args .dep .now) (entry .args .ws .now) (entry .args .n) (at-loop .i)))
 
--- src/order.rt:33:73
 cast-items : tie.Need-cast-items Inv-loop μ-loop
 cast-items c = search needs
 
--- src/order.rt:33:24
 add-items : tie.Need-add-items Inv-loop μ-loop
 add-items c =
     let entry = c .before .before .before .before .before .before .before .before .before in
     let at-loop = c .before .before .before .before .before .loop in
-    let e = c .padded .ensures ∙ ap pad (c .before .first-in-row .ensures) ∙ sym (key-of (entry .args .tab .now) (classAt (entry .args .dep .now) (entry .args .ws .now) (entry .args .n) (at-loop .i))) in
+    let e =
+    c .padded .ensures
+    ∙ ap pad (c .before .first-in-row .ensures)
+    ∙ sym (key-of (entry .args .tab .now) (classAt (entry .args .dep .now) (entry .args .ws .now) (entry .args .n) (at-loop .i))) in
     omega (arith, e, key-small (entry .args .tab .now) (classAt (entry .args .dep .now) (entry .args .ws .now) (entry .args .n) (at-loop .i)))
 
--- src/order.rt:33:13
 mul-items-2 : tie.Need-mul-items-2 Inv-loop μ-loop
 mul-items-2 c =
     let entry = c .before .before .before .before .before .before .before .before .before in
-    let s = c .before .before .before .before .before .loop .inv in omega (arith, s .few, s .long, entry .pre .5, entry .pre .1)
+    let s = c .before .before .before .before .before .loop .inv in omega (arith, s .few, s .long, entry .pre .2, entry .pre .0 .few)
 
--- src/order.rt:33:13
 slice-write-items : tie.Need-slice-write-items Inv-loop μ-loop
 slice-write-items c =
     let entry = c .before .before .before .before .before .before .before .before .before in
-    let s = c .before .before .before .before .before .loop .inv in omega (arith, s .few, s .long, entry .pre .5, entry .pre .1)
+    let s = c .before .before .before .before .before .loop .inv in omega (arith, s .few, s .long, entry .pre .2, entry .pre .0 .few)
 
--- src/order.rt:34:13
 add-k : tie.Need-add-k Inv-loop μ-loop
 add-k c =
     let entry = c .before .before .before .before .before .before .before .before .before in
-    let s = c .before .before .before .before .before .loop .inv in omega (arith, s .few, entry .pre .1)
+    let s = c .before .before .before .before .before .loop .inv in omega (arith, s .few, entry .pre .0 .few)
 
--- src/order.rt:36:9
 add-i : tie.Need-add-i Inv-loop μ-loop
 add-i c = search needs
 
--- src/order.rt:31:5
 loop-less : tie.Need-loop-less Inv-loop μ-loop
 loop-less c = search needs
 
--- src/order.rt:31:5
 loop-again : tie.Need-loop-again Inv-loop μ-loop
 loop-again c =
     let entry = c .before .before .before .before .before .before .before in
@@ -102,21 +97,19 @@ loop-again c =
     (λ w. rw (w .1, w .2) (listed-off (l .inv) (at-loop-test .taken) (sym (c .before .leader .ensures) ∙ w .0 .left)))
     (c .if1 .came)
 
--- src/order.rt:38:5
 arrange-requires : tie.Need-arrange-requires Inv-loop μ-loop
 arrange-requires c κs =
     let entry = c .before .before .before .before .before .before in
-    let s = c .before .before .loop .inv in omega (arith, s .few, s .long, s .below, entry .pre .5)
+    let s = c .before .before .loop .inv in omega (arith, s .few, s .long, s .below, entry .pre .2)
 
--- src/order.rt:18:1
 same-length : tie.Need-same-length Inv-loop μ-loop
 same-length c = c .before .before .arrange .kept .0 ∙ c .before .before .before .before .before .loop .inv .long
 
--- src/order.rt:18:1
 returns : tie.Need-returns Inv-loop μ-loop
 returns c =
     let entry = c .before .before .before .before .before .before .before .before .before in
-    listed-end (c .before .before .before .before .before .loop .inv) (c .before .before .before .before .loop-test .left) (entry .pre .5) _ (c .before .before .arrange .ensures)
+    listed-end (c .before .before .before .before .before .loop .inv) (c .before .before .before .before .loop-test .left) (entry .pre .2) _
+    (c .before .before .arrange .ensures)
 
 pub class-order-spec : {M : Type 1} → statement M
 class-order-spec =

@@ -1,3 +1,5 @@
+use Rattle.goals.proofs.GoalLaws.{stored-first}
+use Rattle.goals.specs.GoalWords.{noCode}
 use Rattle.deriving.proofs.OrderLaws.{firstFrom, first-on, first-off, first-end, first-all}
 use Rattle.goals.specs.GoalWords.{goalAt, owedBy, firstCode}
 use Prim.Native.Nat.{ℕ, _≤_, _<_, _+_, _-_, _*_}
@@ -15,7 +17,8 @@ use Rattle.goals.proofs.obligations.first_owed.Reads as first-owed-reads
 use Rattle.goals.proofs.words.goal_at.Reads as goal-at-reads
 
 abbrev Inv-loop : tie.InvT-loop
-Inv-loop tab ws n dep i best₀ j₀ best j = (j ≤ n) × (firstFrom tab (getD dep i []) ws n 65535 0 ≡ firstFrom tab (getD dep i []) ws n best j)
+Inv-loop tab ws n dep i best₀ j₀ best j =
+    (j ≤ n) × (firstFrom tab (getD dep i []) ws n noCode 0 ≡ firstFrom tab (getD dep i []) ws n best j)
 
 abbrev μ-loop : tie.MeasureT-loop
 μ-loop tab ws n dep i best₀ j₀ best j = n - j
@@ -41,7 +44,8 @@ goal-at-requires c κs = search needs
 first-owed-requires : tie.Need-first-owed-requires Inv-loop μ-loop
 first-owed-requires c κs =
     let entry = c .before .before .before .before .before .before .before in
-    rw (c .goal-at .ensures) (entry .pre .0, entry .pre .3 (c .before .before .before .before .loop .j) (c .before .before .before .loop-test .taken))
+    rw (c .goal-at .ensures)
+    (entry .pre .0 .tabled, stored-first (entry .pre .0) (c .before .before .before .before .loop .j) (c .before .before .before .loop-test .taken))
 
 add-j : tie.Need-add-j Inv-loop μ-loop
 add-j c = search needs
@@ -55,14 +59,17 @@ loop-again c =
     let at-loop-test = c .before .before .loop-test in
     let a = entry .args in let l = c .before .before .before .loop in
     let row = getD (a .dep .now) (a .i) [] in
-    let inside : l .j < length row = omega (arith, at-loop-test .taken, entry .pre .1, entry .pre .4 .cols (a .i) (entry .pre .5)) in
+    let inside : l .j < length row = omega (arith, at-loop-test .taken, entry .pre .0 .few, entry .pre .1 .cols (a .i) (entry .pre .2)) in
     ⊎-elim
     (λ w. (omega arith, rw (w .3, w .2 .ensures, w .1 .ensures) (l .inv .1 ∙ first-on (a .tab .now) row (a .ws .now) (a .n) (l .best) (l .j) (at-loop-test .taken) inside (w .0 .taken))))
     (λ w. (omega arith, rw (w .1) (l .inv .1 ∙ first-off (a .tab .now) row (a .ws .now) (a .n) (l .best) (l .j) (at-loop-test .taken) inside (w .0 .left))))
     (c .if1 .came)
 
 returns : tie.Need-returns Inv-loop μ-loop
-returns c = let a = c .before .before .before .before .args in let l = c .before .loop in sym (first-all (a .tab .now) (getD (a .dep .now) (a .i) []) (a .ws .now) (a .n) 65535 ∙ l .inv .1 ∙ first-end (a .tab .now) (getD (a .dep .now) (a .i) []) (a .ws .now) (a .n) (l .best) (l .j) (c .loop-test .left))
+returns c =
+    let a = c .before .before .before .before .args in
+    let l = c .before .loop in
+    sym (first-all (a .tab .now) (getD (a .dep .now) (a .i) []) (a .ws .now) (a .n) noCode ∙ l .inv .1 ∙ first-end (a .tab .now) (getD (a .dep .now) (a .i) []) (a .ws .now) (a .n) (l .best) (l .j) (c .loop-test .left))
 
 pub first-in-row-spec : {M : Type 1} → statement M
 first-in-row-spec =

@@ -1,4 +1,4 @@
-use Rattle.goals.specs.GoalKinds.{goalOf, wordsOf}
+use Rattle.goals.specs.GoalKinds.{asGoal, asWords}
 use Rattle.goals.specs.declared.Goal.{Goal}
 use Rattle.goals.specs.WordStages.{sameW}
 use Rattle.classes.proofs.SameLaws.{among-here, among-not, among-end}
@@ -14,7 +14,7 @@ use native.Mathlib.Omega.{arith}
 use borrow.Author.Needs.{needs}
 use Rattle.classes.proofs.same.among.Statement.{statement}
 use Rattle.classes.proofs.same.among.Tie as tie
-use Rattle.goals.specs.GoalKinds.{goalOf, wordsOf}
+use Rattle.goals.specs.GoalKinds.{asGoal, asWords}
 use Rattle.goals.specs.declared.Goal.{Goal}
 use Rattle.goals.specs.WordStages.{sameW}
 use Rattle.classes.proofs.same.among.Reads as reads
@@ -23,7 +23,8 @@ use Rattle.classes.proofs.same.same_goal.Reads as same-goal-reads
 use Rattle.goals.proofs.words.goal_at.Reads as goal-at-reads
 
 abbrev Inv-loop : tie.InvT-loop
-Inv-loop g vs at k here₀ left₀ here left = (here + 3 * left ≡ at + 3 * k) × (amongW (wordsOf g) (goalsFrom vs at k) ≡ amongW (wordsOf g) (goalsFrom vs here left))
+Inv-loop g vs at k here₀ left₀ here left =
+    (here + 3 * left ≡ at + 3 * k) × (amongW (asWords g) (goalsFrom vs at k) ≡ amongW (asWords g) (goalsFrom vs here left))
 
 abbrev μ-loop : tie.MeasureT-loop
 μ-loop g vs at k here₀ left₀ here left = left
@@ -40,7 +41,9 @@ same-goal-requires c κs = search needs
 returns : tie.Need-returns Inv-loop μ-loop
 returns c =
     let entry = c .before .before .before .before .before .before in
-    let a = entry .args in let l = c .before .before .before .before .loop in sym (l .inv .1 ∙ among-here (wordsOf (a .g)) (a .vs .now) (l .here) (l .left) (c .before .before .before .loop-test .taken) (sym (c .before .same-goal .ensures ∙ ap (λ (x : Goal). sameW (wordsOf (a .g)) (wordsOf x)) (c .before .before .goal-at .ensures)) ∙ c .if1 .taken))
+    let a = entry .args in
+    let l = c .before .before .before .before .loop in
+    sym (l .inv .1 ∙ among-here (asWords (a .g)) (a .vs .now) (l .here) (l .left) (c .before .before .before .loop-test .taken) (sym (c .before .same-goal .ensures ∙ ap (λ (x : Goal). sameW (asWords (a .g)) (asWords x)) (c .before .before .goal-at .ensures)) ∙ c .if1 .taken))
 
 add-here : tie.Need-add-here Inv-loop μ-loop
 add-here c = search needs
@@ -54,10 +57,18 @@ loop-less c = search needs
 loop-again : tie.Need-loop-again Inv-loop μ-loop
 loop-again c =
     let entry = c .before .before .before .before .before .before in
-    let a = entry .args in let l = c .before .before .before .before .loop in (omega arith, l .inv .1 ∙ among-not (wordsOf (a .g)) (a .vs .now) (l .here) (l .left) (c .before .before .before .loop-test .taken) (sym (c .before .same-goal .ensures ∙ ap (λ (x : Goal). sameW (wordsOf (a .g)) (wordsOf x)) (c .before .before .goal-at .ensures)) ∙ c .if1 .left))
+    let a = entry .args in
+    let l = c .before .before .before .before .loop in (
+      omega arith,
+      l .inv .1
+          ∙ among-not (asWords (a .g)) (a .vs .now) (l .here) (l .left) (c .before .before .before .loop-test .taken)
+          (sym (c .before .same-goal .ensures ∙ ap (λ (x : Goal). sameW (asWords (a .g)) (asWords x)) (c .before .before .goal-at .ensures)) ∙ c .if1 .left),
+    )
 
 returns-2 : tie.Need-returns-2 Inv-loop μ-loop
-returns-2 c = let a = c .before .before .before .args in let l = c .before .loop in sym (l .inv .1 ∙ among-end (wordsOf (a .g)) (a .vs .now) (l .here) (l .left) (c .loop-test .left))
+returns-2 c =
+    let a = c .before .before .before .args in
+    let l = c .before .loop in sym (l .inv .1 ∙ among-end (asWords (a .g)) (a .vs .now) (l .here) (l .left) (c .loop-test .left))
 
 pub among-spec : {M : Type 1} → statement M
 among-spec =

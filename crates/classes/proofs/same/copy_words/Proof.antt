@@ -12,7 +12,8 @@ use Rattle.classes.proofs.same.copy_words.Statement.{statement}
 use Rattle.classes.proofs.same.copy_words.Tie as tie
 
 abbrev Inv-loop : tie.InvT-loop
-Inv-loop ws at n out₀ i₀ out i = (i ≤ n) × (length out ≡ length out₀) × (sets out₀ 0 (take n (drop at ws)) ≡ sets out i (take (n - i) (drop (at + i) ws)))
+Inv-loop ws at n out₀ i₀ out i =
+    (i ≤ n) × (length out ≡ length out₀) × (sets out₀ 0 (take n (drop at ws)) ≡ sets out i (take (n - i) (drop (at + i) ws)))
 
 abbrev μ-loop : tie.MeasureT-loop
 μ-loop ws at n out₀ i₀ out i = n - i
@@ -44,13 +45,20 @@ loop-less c = search needs
 loop-again : tie.Need-loop-again Inv-loop μ-loop
 loop-again c =
     let entry = c .before .before .before in
-    let a = entry .args in let l = c .before .before .loop in (omega arith, length-set (l .out) (l .i) _ ∙ l .inv .1, l .inv .2 ∙ copy-next (a .ws .now) (l .out) (a .at) (a .n) (l .i) (c .before .loop-test .taken) (entry .pre .0))
+    let a = entry .args in
+    let l = c .before .before .loop in (
+      omega arith,
+      length-set (l .out) (l .i) _ ∙ l .inv .1,
+      l .inv .2 ∙ copy-next (a .ws .now) (l .out) (a .at) (a .n) (l .i) (c .before .loop-test .taken) (entry .pre .0),
+    )
 
 same-length : tie.Need-same-length Inv-loop μ-loop
 same-length c = search needs
 
 returns : tie.Need-returns Inv-loop μ-loop
-returns c = let a = c .before .before .args in let l = c .before .loop in sym (l .inv .2 ∙ copy-end (a .ws .now) (l .out) (a .at) (a .n) (l .i) (c .loop-test .left))
+returns c =
+    let a = c .before .before .args in
+    let l = c .before .loop in sym (l .inv .2 ∙ copy-end (a .ws .now) (l .out) (a .at) (a .n) (l .i) (c .loop-test .left))
 
 pub copy-words-spec : {M : Type 1} → statement M
 copy-words-spec =

@@ -1,4 +1,4 @@
-use Rattle.goals.specs.GoalKinds.{goalOf, wordsOf}
+use Rattle.goals.specs.GoalKinds.{asGoal, asWords}
 use Rattle.goals.specs.declared.Goal.{Goal}
 use Rattle.goals.specs.WordStages.{amongW}
 use Rattle.classes.proofs.SameLaws.{within-on, within-off, within-end}
@@ -20,7 +20,8 @@ use Rattle.classes.proofs.same.among.Reads as among-reads
 use Rattle.goals.proofs.words.goal_at.Reads as goal-at-reads
 
 abbrev Inv-loop : tie.InvT-loop
-Inv-loop ws from n vs at k here₀ left₀ here left = (here + 3 * left ≡ from + 3 * n) × (withinW (goalsFrom ws from n) (goalsFrom vs at k) ≡ withinW (goalsFrom ws here left) (goalsFrom vs at k))
+Inv-loop ws from n vs at k here₀ left₀ here left =
+    (here + 3 * left ≡ from + 3 * n) × (withinW (goalsFrom ws from n) (goalsFrom vs at k) ≡ withinW (goalsFrom ws here left) (goalsFrom vs at k))
 
 abbrev μ-loop : tie.MeasureT-loop
 μ-loop ws from n vs at k here₀ left₀ here left = left
@@ -46,15 +47,26 @@ loop-less c = search needs
 loop-again : tie.Need-loop-again Inv-loop μ-loop
 loop-again c =
     let entry = c .before .before .before .before .before .before .before in
-    let a = entry .args in let l = c .before .before .before .before .loop in (omega arith, l .inv .1 ∙ within-on (goalsFrom (a .vs .now) (a .at) (a .k)) (a .ws .now) (l .here) (l .left) (c .before .before .before .loop-test .taken) (sym (c .before .among .ensures ∙ ap (λ (x : Goal). amongW (wordsOf x) (goalsFrom (a .vs .now) (a .at) (a .k))) (c .before .before .goal-at .ensures)) ∙ c .if1 .taken))
+    let a = entry .args in
+    let l = c .before .before .before .before .loop in (
+      omega arith,
+      l .inv .1
+          ∙ within-on (goalsFrom (a .vs .now) (a .at) (a .k)) (a .ws .now) (l .here) (l .left) (c .before .before .before .loop-test .taken)
+          (sym (c .before .among .ensures ∙ ap (λ (x : Goal). amongW (asWords x) (goalsFrom (a .vs .now) (a .at) (a .k))) (c .before .before .goal-at .ensures)) ∙ c .if1 .taken),
+    )
 
 returns : tie.Need-returns Inv-loop μ-loop
 returns c =
     let entry = c .before .before .before .before .before .before .before in
-    let a = entry .args in let l = c .before .before .before .before .loop in sym (l .inv .1 ∙ within-off (goalsFrom (a .vs .now) (a .at) (a .k)) (a .ws .now) (l .here) (l .left) (c .before .before .before .loop-test .taken) (sym (c .before .among .ensures ∙ ap (λ (x : Goal). amongW (wordsOf x) (goalsFrom (a .vs .now) (a .at) (a .k))) (c .before .before .goal-at .ensures)) ∙ c .if1 .left))
+    let a = entry .args in
+    let l = c .before .before .before .before .loop in
+    sym (l .inv .1 ∙ within-off (goalsFrom (a .vs .now) (a .at) (a .k)) (a .ws .now) (l .here) (l .left) (c .before .before .before .loop-test .taken) (sym (c .before .among .ensures ∙ ap (λ (x : Goal). amongW (asWords x) (goalsFrom (a .vs .now) (a .at) (a .k))) (c .before .before .goal-at .ensures)) ∙ c .if1 .left))
 
 returns-2 : tie.Need-returns-2 Inv-loop μ-loop
-returns-2 c = let a = c .before .before .before .before .args in let l = c .before .loop in sym (l .inv .1 ∙ within-end (goalsFrom (a .vs .now) (a .at) (a .k)) (a .ws .now) (l .here) (l .left) (c .loop-test .left))
+returns-2 c =
+    let a = c .before .before .before .before .args in
+    let l = c .before .loop in
+    sym (l .inv .1 ∙ within-end (goalsFrom (a .vs .now) (a .at) (a .k)) (a .ws .now) (l .here) (l .left) (c .loop-test .left))
 
 pub within-spec : {M : Type 1} → statement M
 within-spec =

@@ -1,7 +1,9 @@
-use Rattle.goals.specs.GoalKinds.{goalOf, wordsOf}
+use Rattle.goals.specs.GoalKinds.{asGoal, asWords}
 use Rattle.goals.specs.declared.Goal.{Goal}
 use mathlib.Core.Path.{ap₂}
-use Rattle.classes.proofs.SquareLaws.{RowIs, row-none, row-more}
+use Rattle.classes.proofs.SquareLaws.{row-none, row-more}
+use Rattle.classes.specs.Squares.{shares, RowFilled}
+use Rattle.goals.proofs.GoalLaws.{stored-first}
 use Rattle.goals.specs.GoalWords.{goalAt}
 use Rattle.goals.specs.WordStages.{depW}
 use lib.ListN.{length}
@@ -17,7 +19,7 @@ use Rattle.classes.proofs.square.depends.Reads as depends-reads
 use Rattle.goals.proofs.words.goal_at.Reads as goal-at-reads
 
 abbrev Inv-loop : tie.InvT-loop
-Inv-loop tab ws n i dep₀ g j₀ dep j = (j ≤ n) × RowIs i (λ b. depW tab (goalAt ws (3 * i)) (goalAt ws (3 * b))) dep₀ dep j
+Inv-loop tab ws n i dep₀ g j₀ dep j = (j ≤ n) × RowFilled i (shares tab ws i) dep₀ dep j
 
 abbrev μ-loop : tie.MeasureT-loop
 μ-loop tab ws n i dep₀ g j₀ dep j = n - j
@@ -29,9 +31,7 @@ goal-at-requires : tie.Need-goal-at-requires Inv-loop μ-loop
 goal-at-requires c κs = search needs
 
 loop-holds : tie.Need-loop-holds Inv-loop μ-loop
-loop-holds c =
-    let entry = c .before .before .before in
-    let a = entry .args in (omega arith, row-none (a .i) (λ b. depW (a .tab .now) (goalAt (a .ws .now) (3 * a .i)) (goalAt (a .ws .now) (3 * b))) (a .dep .now) (entry .pre .5))
+loop-holds c = (omega arith, row-none _ _ _ (c .before .before .before .pre .2))
 
 mul-goal-at-2 : tie.Need-mul-goal-at-2 Inv-loop μ-loop
 mul-goal-at-2 c = search needs
@@ -42,7 +42,8 @@ goal-at-requires-2 c κs = search needs
 depends-requires : tie.Need-depends-requires Inv-loop μ-loop
 depends-requires c κs =
     let entry = c .before .before .before .before .before .before in
-    rw (c .before .before .before .goal-at .ensures, c .goal-at2 .ensures) (entry .pre .0, entry .pre .4 (entry .args .i) (entry .pre .2), entry .pre .4 (c .before .before .loop .j) (c .before .loop-test .taken))
+    rw (c .before .before .before .goal-at .ensures, c .goal-at2 .ensures)
+    (entry .pre .0 .tabled, stored-first (entry .pre .0) (entry .args .i) (entry .pre .1), stored-first (entry .pre .0) (c .before .before .loop .j) (c .before .loop-test .taken))
 
 mul-dep : tie.Need-mul-dep Inv-loop μ-loop
 mul-dep c = search needs
@@ -62,10 +63,20 @@ loop-less c = search needs
 loop-again : tie.Need-loop-again Inv-loop μ-loop
 loop-again c =
     let entry = c .before .before .before .before .before .before .before in
-    let a = entry .args in let l = c .before .before .before .loop in (omega arith, row-more (a .i) (λ b. depW (a .tab .now) (goalAt (a .ws .now) (3 * a .i)) (goalAt (a .ws .now) (3 * b))) (a .dep .now) (l .dep) (l .j) (c .depends .result) (omega (arith, entry .pre .1, entry .pre .2)) (omega (arith, entry .pre .1, c .before .before .loop-test .taken)) (l .inv .1) (c .depends .ensures ∙ ap₂ (λ (x y : Goal). depW (a .tab .now) (wordsOf x) (wordsOf y)) (c .before .before .before .before .goal-at .ensures) (c .before .goal-at2 .ensures)))
+    let at-loop = c .before .before .before .loop in
+    let few = entry .pre .0 .few in
+    let is =
+    c .depends .ensures
+    ∙ ap₂ (λ (x y : Goal). depW (entry .args .tab .now) (asWords x) (asWords y)) (c .before .before .before .before .goal-at .ensures)
+    (c .before .goal-at2 .ensures) in (
+      omega arith,
+      row-more (entry .args .i) (shares (entry .args .tab .now) (entry .args .ws .now) (entry .args .i)) _ _ (at-loop .j) _
+          (omega (arith, entry .pre .1)) (omega (arith, c .before .before .loop-test .taken)) (at-loop .inv .1) is,
+    )
 
 returns : tie.Need-returns Inv-loop μ-loop
-returns c = let r = c .before .loop .inv .1 in (r .square, ((λ b h. r .row b (omega (arith, c .before .loop .inv .0, c .loop-test .left, h))), r .others))
+returns c =
+    let j=n : c .before .loop .j ≡ c .before .before .before .before .before .args .n = omega arith in rw (← j=n) (c .before .loop .inv .1)
 
 pub fill-row-spec : {M : Type 1} → statement M
 fill-row-spec =

@@ -1,4 +1,5 @@
-use Rattle.goals.specs.GoalKinds.{goalOf, wordsOf}
+use Rattle.goals.proofs.GoalLaws.{stored-low}
+use Rattle.goals.specs.GoalKinds.{asGoal, asWords}
 use Rattle.goals.specs.declared.Goal.{Goal}
 use Rattle.goals.specs.GoalWords.{pad}
 use Rattle.goals.specs.WordStages.{reduct}
@@ -24,7 +25,8 @@ use Rattle.deriving.proofs.sorting.arrange.Reads as arrange-reads
 use Rattle.goals.proofs.words.goal_at.Reads as goal-at-reads
 
 abbrev Inv-loop : tie.InvT-loop
-Inv-loop tab ws at n root symbol items₀ k₀ j₀ items k j = Listed (goesOut tab ws at (root .0) (symbol .0)) (λ x. annKey (goalOn ws at x)) n items₀ items k j
+Inv-loop tab ws at n root symbol items₀ k₀ j₀ items k j =
+    Listed (goesOut tab ws at (root .0) (symbol .0)) (λ x. annKey (goalOn ws at x)) n items₀ items k j
 
 abbrev μ-loop : tie.MeasureT-loop
 μ-loop tab ws at n root symbol items₀ k₀ j₀ items k j = n - j
@@ -32,7 +34,8 @@ abbrev μ-loop : tie.MeasureT-loop
 loop-holds : tie.Need-loop-holds Inv-loop μ-loop
 loop-holds c =
     let entry = c .before .before .before in
-    listed-begin (goesOut (entry .args .tab .now) (entry .args .ws .now) (entry .args .at) (entry .args .root .0) (entry .args .symbol .0)) (λ x. annKey (goalOn (entry .args .ws .now) (entry .args .at) x)) (entry .args .n) (entry .args .items .now)
+    listed-begin (goesOut (entry .args .tab .now) (entry .args .ws .now) (entry .args .at) (entry .args .root .0) (entry .args .symbol .0))
+    (λ x. annKey (goalOn (entry .args .ws .now) (entry .args .at) x)) (entry .args .n) (entry .args .items .now)
 
 mul-goal-at : tie.Need-mul-goal-at Inv-loop μ-loop
 mul-goal-at c = search needs
@@ -46,7 +49,7 @@ goal-at-requires c κs = search needs
 reduce-requires : tie.Need-reduce-requires Inv-loop μ-loop
 reduce-requires c κs =
     let entry = c .before .before .before .before .before .before in
-    rw (c .goal-at .ensures) (entry .pre .0, entry .pre .3 (c .before .before .loop .j) (c .before .loop-test .taken))
+    rw (c .goal-at .ensures) (entry .pre .0 .tabled, stored-low (entry .pre .0) (c .before .before .loop .j) (c .before .loop-test .taken))
 
 cast-padded : tie.Need-cast-padded Inv-loop μ-loop
 cast-padded c = search needs
@@ -72,7 +75,7 @@ add-items c =
     let at-loop = c .before .before .before .before .before .before .before .loop in
     let at-loop-test = c .before .before .before .before .before .before .loop-test in
     let at-goal-at = c .before .before .before .before .before .goal-at in
-    omega (arith, ap (λ (x : Goal). x .shape .0) (at-goal-at .ensures), entry .pre .3 (at-loop .j) (at-loop-test .taken), c .before .padded .ensures, pad-word (at-goal-at .result .at .0) (omega (arith, ap (λ (x : Goal). x .at .0) (at-goal-at .ensures), at-shared-slice-known2 .given (entry .args .at + 3 * at-loop .j + 1))))
+    omega (arith, ap (λ (x : Goal). x .shape .0) (at-goal-at .ensures), stored-low (entry .pre .0) (at-loop .j) (at-loop-test .taken), c .before .padded .ensures, pad-word (at-goal-at .result .at .0) (omega (arith, ap (λ (x : Goal). x .at .0) (at-goal-at .ensures), at-shared-slice-known2 .given (entry .args .at + 3 * at-loop .j + 1))))
 
 mul-items-2 : tie.Need-mul-items-2 Inv-loop μ-loop
 mul-items-2 c =
@@ -81,7 +84,7 @@ mul-items-2 c =
     let at-loop = c .before .before .before .before .before .before .before .loop in
     let at-loop-test = c .before .before .before .before .before .before .loop-test in
     let at-goal-at = c .before .before .before .before .before .goal-at in
-    omega (arith, ap (λ (x : Goal). x .shape .0) (at-goal-at .ensures), entry .pre .3 (at-loop .j) (at-loop-test .taken), c .before .padded .ensures, pad-word (at-goal-at .result .at .0) (omega (arith, ap (λ (x : Goal). x .at .0) (at-goal-at .ensures), at-shared-slice-known2 .given (entry .args .at + 3 * at-loop .j + 1))))
+    omega (arith, ap (λ (x : Goal). x .shape .0) (at-goal-at .ensures), stored-low (entry .pre .0) (at-loop .j) (at-loop-test .taken), c .before .padded .ensures, pad-word (at-goal-at .result .at .0) (omega (arith, ap (λ (x : Goal). x .at .0) (at-goal-at .ensures), at-shared-slice-known2 .given (entry .args .at + 3 * at-loop .j + 1))))
 
 cast-items-2 : tie.Need-cast-items-2 Inv-loop μ-loop
 cast-items-2 c = search needs
@@ -93,25 +96,25 @@ add-items-2 c =
     let at-loop = c .before .before .before .before .before .before .before .loop in
     let at-loop-test = c .before .before .before .before .before .before .loop-test in
     let at-goal-at = c .before .before .before .before .before .goal-at in
-    omega (arith, ap (λ (x : Goal). x .shape .0) (at-goal-at .ensures), entry .pre .3 (at-loop .j) (at-loop-test .taken), c .before .padded .ensures, pad-word (at-goal-at .result .at .0) (omega (arith, ap (λ (x : Goal). x .at .0) (at-goal-at .ensures), at-shared-slice-known2 .given (entry .args .at + 3 * at-loop .j + 1))))
+    omega (arith, ap (λ (x : Goal). x .shape .0) (at-goal-at .ensures), stored-low (entry .pre .0) (at-loop .j) (at-loop-test .taken), c .before .padded .ensures, pad-word (at-goal-at .result .at .0) (omega (arith, ap (λ (x : Goal). x .at .0) (at-goal-at .ensures), at-shared-slice-known2 .given (entry .args .at + 3 * at-loop .j + 1))))
 
 mul-items-3 : tie.Need-mul-items-3 Inv-loop μ-loop
 mul-items-3 c =
     let entry = c .before .before .before .before .before .before .before .before .before .before .before in
     let at-loop = c .before .before .before .before .before .before .before .loop in
-    let s = at-loop .inv in omega (arith, s .few, s .long, entry .pre .4, entry .pre .1)
+    let s = at-loop .inv in omega (arith, s .few, s .long, entry .pre .1, entry .pre .0 .few)
 
 slice-write-items : tie.Need-slice-write-items Inv-loop μ-loop
 slice-write-items c =
     let entry = c .before .before .before .before .before .before .before .before .before .before .before in
     let at-loop = c .before .before .before .before .before .before .before .loop in
-    let s = at-loop .inv in omega (arith, s .few, s .long, entry .pre .4, entry .pre .1)
+    let s = at-loop .inv in omega (arith, s .few, s .long, entry .pre .1, entry .pre .0 .few)
 
 add-k : tie.Need-add-k Inv-loop μ-loop
 add-k c =
     let entry = c .before .before .before .before .before .before .before .before .before .before .before in
     let at-loop = c .before .before .before .before .before .before .before .loop in
-    let s = at-loop .inv in omega (arith, s .few, entry .pre .1)
+    let s = at-loop .inv in omega (arith, s .few, entry .pre .0 .few)
 
 add-j : tie.Need-add-j Inv-loop μ-loop
 add-j c = search needs
@@ -125,7 +128,8 @@ loop-again c =
     let at-loop-test = c .before .before .before .loop-test in
     let at-goal-at = c .before .before .goal-at in
     let a = entry .args in let l = c .before .before .before .before .loop in
-    let d = c .before .reduce .ensures ∙ ap (λ (x : Goal). reduct (a .tab .now) (a .root .0) (a .symbol .0) (wordsOf x)) (at-goal-at .ensures) in
+    let d =
+    c .before .reduce .ensures ∙ ap (λ (x : Goal). reduct (a .tab .now) (a .root .0) (a .symbol .0) (asWords x)) (at-goal-at .ensures) in
     ⊎-elim
     (λ w. rw (w .4, w .5) (listed-on (l .inv) (at-loop-test .taken) (eq-eqb _ _ (sym d ∙ w .0 .taken)) _ (ap₂ (λ (x : ℕ) (y : Goal). 128 * (16 * x + y .shape .0) + l .j) (w .2 .ensures ∙ ap (λ (y : Goal). pad (y .at .0)) (at-goal-at .ensures)) (at-goal-at .ensures))))
     (λ w. rw (w .1, w .2) (listed-off (l .inv) (at-loop-test .taken) (ne-eqb _ _ (λ e. w .0 .left (d ∙ e)))))
@@ -134,7 +138,7 @@ loop-again c =
 arrange-requires : tie.Need-arrange-requires Inv-loop μ-loop
 arrange-requires c κs =
     let entry = c .before .before .before .before .before .before in
-    let s = c .before .before .loop .inv in omega (arith, s .few, s .long, s .below, entry .pre .4)
+    let s = c .before .before .loop .inv in omega (arith, s .few, s .long, s .below, entry .pre .1)
 
 same-length : tie.Need-same-length Inv-loop μ-loop
 same-length c = c .before .before .arrange .kept .0 ∙ c .before .before .before .before .before .loop .inv .long
@@ -142,7 +146,8 @@ same-length c = c .before .before .arrange .kept .0 ∙ c .before .before .befor
 returns : tie.Need-returns Inv-loop μ-loop
 returns c =
     let entry = c .before .before .before .before .before .before .before .before .before in
-    listed-end (c .before .before .before .before .before .loop .inv) (c .before .before .before .before .loop-test .left) (entry .pre .4) _ (c .before .before .arrange .ensures)
+    listed-end (c .before .before .before .before .before .loop .inv) (c .before .before .before .before .loop-test .left) (entry .pre .1) _
+    (c .before .before .arrange .ensures)
 
 pub outputs-spec : {M : Type 1} → statement M
 outputs-spec =

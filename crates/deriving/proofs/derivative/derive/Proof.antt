@@ -17,14 +17,12 @@ use Rattle.deriving.proofs.derivative.put_born.Reads as put-born-reads
 use Rattle.deriving.proofs.derivative.put_moving.Reads as put-moving-reads
 use Rattle.deriving.proofs.derivative.put_staying.Reads as put-staying-reads
 
--- src/derivative.rt:172:9
-
 put-staying-requires : tie.Need-put-staying-requires
 put-staying-requires c κs =
     let entry = c .before .before .before .before in
     let a = entry .args in
     let z = deriv-size (a .tab .now) (a .n) (a .root .0) (a .symbol .0) (a .k) (goalsFrom (a .ws .now) (a .at) (a .goals)) in
-    (entry .pre .0, entry .pre .1, entry .pre .2, entry .pre .3, omega (arith, z))
+    (entry .pre .0, omega (arith, z))
 
 put-moving-requires : tie.Need-put-moving-requires
 put-moving-requires c κs =
@@ -32,7 +30,7 @@ put-moving-requires c κs =
     let at-put-staying = c .before .before .before .put-staying in
     let a = entry .args in
     let z = deriv-size (a .tab .now) (a .n) (a .root .0) (a .symbol .0) (a .k) (goalsFrom (a .ws .now) (a .at) (a .goals)) in
-    (entry .pre .0, entry .pre .1, entry .pre .2, entry .pre .3, omega (arith, z, at-put-staying .ensures .0, at-put-staying .kept .1 .1 .1 .1 .1 .0))
+    (entry .pre .0, omega (arith, z, at-put-staying .ensures .0, at-put-staying .kept .1 .1 .1 .1 .1 .0))
 
 put-born-requires : tie.Need-put-born-requires
 put-born-requires c κs =
@@ -40,8 +38,11 @@ put-born-requires c κs =
     let at-put-staying = c .before .before .before .before .before .before .before .put-staying in
     let at-put-moving = c .before .before .before .put-moving in
     let a = entry .args in
-    let z = deriv-size (a .tab .now) (a .n) (a .root .0) (a .symbol .0) (a .k) (goalsFrom (a .ws .now) (a .at) (a .goals)) in
-    (entry .pre .4, entry .pre .5, omega (arith, z, at-put-staying .ensures .0, at-put-staying .kept .1 .1 .1 .1 .1 .0, at-put-moving .ensures .0, at-put-moving .kept .1 .1 .1 .1 .1 .1 .0))
+    let z = deriv-size (a .tab .now) (a .n) (a .root .0) (a .symbol .0) (a .k) (goalsFrom (a .ws .now) (a .at) (a .goals)) in (
+      entry .pre .1 .0,
+      entry .pre .1 .1,
+      omega (arith, z, at-put-staying .ensures .0, at-put-staying .kept .1 .1 .1 .1 .1 .0, at-put-moving .ensures .0, at-put-moving .kept .1 .1 .1 .1 .1 .1 .0),
+    )
 
 same-length : tie.Need-same-length
 same-length c = search needs
@@ -59,8 +60,10 @@ returns c =
     let B = flat (bornW (a .n) (a .root .0) (a .k)) in (
       omega (arith, deriv-size (a .tab .now) (a .n) (a .root .0) (a .symbol .0) (a .k) gs, at-put-staying .ensures .0, at-put-moving .ensures .0, at-put-born .ensures .0),
       at-put-born .ensures .1
-          ∙ ap (λ o. sets o (at-put-moving .result) B) (at-put-moving .ensures .1 ∙ ap (λ o. sets o (at-put-staying .result) M) (at-put-staying .ensures .1))
-          ∙ three-runs (a .out .now) S M B (at-put-staying .result) (at-put-moving .result) (at-put-staying .ensures .0) (at-put-moving .ensures .0)
+          ∙ ap (λ o. sets o (at-put-moving .result) B)
+          (at-put-moving .ensures .1 ∙ ap (λ o. sets o (at-put-staying .result) M) (at-put-staying .ensures .1))
+          ∙ three-runs (a .out .now) S M B (at-put-staying .result) (at-put-moving .result) (at-put-staying .ensures .0)
+          (at-put-moving .ensures .0)
           ∙ ap (sets (a .out .now) 0) (sym (deriv-words (a .tab .now) (a .n) (a .root .0) (a .symbol .0) (a .k) gs)),
     )
 

@@ -16,13 +16,16 @@ use Rattle.deriving.proofs.derivative.put_born.Lts as lts
 use Rattle.deriving.proofs.derivative.put_fresh.Reads as put-fresh-reads
 
 abbrev Inv-loop : tie.InvT-loop
-Inv-loop out₀ to n root k next₀ i₀ out next i = (i ≤ k) × (length out ≡ length out₀) × (next + length (bornFrom n (root .0) k i) ≡ to + length (flat (bornW n (root .0) k))) × (sets out₀ to (flat (bornW n (root .0) k)) ≡ sets out next (bornFrom n (root .0) k i))
+Inv-loop out₀ to n root k next₀ i₀ out next i =
+    (i ≤ k) × (length out ≡ length out₀) × (next + length (bornFrom n (root .0) k i) ≡ to + length (flat (bornW n (root .0) k))) × (sets out₀ to (flat (bornW n (root .0) k)) ≡ sets out next (bornFrom n (root .0) k i))
 
 abbrev μ-loop : tie.MeasureT-loop
 μ-loop out₀ to n root k next₀ i₀ out next i = k - i
 
 loop-holds : tie.Need-loop-holds Inv-loop μ-loop
-loop-holds c = let a = c .before .args in let e = born-all (a .n) (a .root .0) (a .k) in (omega arith, refl, omega (arith, ap length e), ap (sets (a .out .now) (a .to)) e)
+loop-holds c =
+    let a = c .before .args in
+    let e = born-all (a .n) (a .root .0) (a .k) in (omega arith, refl, omega (arith, ap length e), ap (sets (a .out .now) (a .to)) e)
 
 add-i : tie.Need-add-i Inv-loop μ-loop
 add-i c = search needs
@@ -37,8 +40,10 @@ put-fresh-requires : tie.Need-put-fresh-requires Inv-loop μ-loop
 put-fresh-requires c κs =
     let entry = c .before .before .before .before .before in
     let a = entry .args in let l = c .before .before .before .loop in
-    let p = born-next (a .n) (a .root .0) (a .k) (l .i) (c .before .before .loop-test .taken) in
-    (entry .pre .0, omega (arith, ap length p, length-append (flat (freshesW (a .n) (5 * a .root .0 + (l .i + 1)))) (bornFrom (a .n) (a .root .0) (a .k) (l .i + 1))))
+    let p = born-next (a .n) (a .root .0) (a .k) (l .i) (c .before .before .loop-test .taken) in (
+      entry .pre .0,
+      omega (arith, ap length p, length-append (flat (freshesW (a .n) (5 * a .root .0 + (l .i + 1)))) (bornFrom (a .n) (a .root .0) (a .k) (l .i + 1))),
+    )
 
 loop-less : tie.Need-loop-less Inv-loop μ-loop
 loop-less c = search needs

@@ -15,24 +15,31 @@ use Rattle.deriving.proofs.derivative.put_fresh.Lts as lts
 use Rattle.goals.proofs.words.put_goal.Reads as put-goal-reads
 
 abbrev Inv-loop : tie.InvT-loop
-Inv-loop out₀ to n at next₀ j₀ out next j = (j ≤ n) × (length out ≡ length out₀) × (next + length (freshFrom n (at .0) j) ≡ to + length (flat (freshesW n (at .0)))) × (sets out₀ to (flat (freshesW n (at .0))) ≡ sets out next (freshFrom n (at .0) j))
+Inv-loop out₀ to n at next₀ j₀ out next j =
+    (j ≤ n) × (length out ≡ length out₀) × (next + length (freshFrom n (at .0) j) ≡ to + length (flat (freshesW n (at .0)))) × (sets out₀ to (flat (freshesW n (at .0))) ≡ sets out next (freshFrom n (at .0) j))
 
 abbrev μ-loop : tie.MeasureT-loop
 μ-loop out₀ to n at next₀ j₀ out next j = n - j
 
 loop-holds : tie.Need-loop-holds Inv-loop μ-loop
-loop-holds c = let a = c .before .args in let e = fresh-all (a .n) (a .at .0) in (omega arith, refl, omega (arith, ap length e), ap (sets (a .out .now) (a .to)) e)
+loop-holds c =
+    let a = c .before .args in
+    let e = fresh-all (a .n) (a .at .0) in (omega arith, refl, omega (arith, ap length e), ap (sets (a .out .now) (a .to)) e)
 
 cast-t11 : tie.Need-cast-t11 Inv-loop μ-loop
 cast-t11 c = search needs
 
 put-goal-requires : tie.Need-put-goal-requires Inv-loop μ-loop
-put-goal-requires c κs = let a = c .before .before .before .before .args in let l = c .before .before .loop in omega (arith, ap length (fresh-next (a .n) (a .at .0) (l .j) (c .before .loop-test .taken)))
+put-goal-requires c κs =
+    let a = c .before .before .before .before .args in
+    let l = c .before .before .loop in omega (arith, ap length (fresh-next (a .n) (a .at .0) (l .j) (c .before .loop-test .taken)))
 
 add-next : tie.Need-add-next Inv-loop μ-loop
 add-next c =
     let entry = c .before .before .before .before .before .before .before in
-    let a = entry .args in let l = c .before .before .before .before .before .loop in omega (arith, ap length (fresh-next (a .n) (a .at .0) (l .j) (c .before .before .before .before .loop-test .taken)))
+    let a = entry .args in
+    let l = c .before .before .before .before .before .loop in
+    omega (arith, ap length (fresh-next (a .n) (a .at .0) (l .j) (c .before .before .before .before .loop-test .taken)))
 
 add-j : tie.Need-add-j Inv-loop μ-loop
 add-j c = search needs

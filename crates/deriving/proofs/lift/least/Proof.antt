@@ -10,7 +10,8 @@ use Rattle.deriving.proofs.lift.least.Statement.{statement}
 use Rattle.deriving.proofs.lift.least.Tie as tie
 
 abbrev Inv-loop : tie.InvT-loop
-Inv-loop ws at n found₀ here₀ left₀ found here left = (here + 3 * left ≡ at + 3 * n) × (leastCode found₀ (goalsFrom ws at n) ≡ leastCode found (goalsFrom ws here left))
+Inv-loop ws at n found₀ here₀ left₀ found here left =
+    (here + 3 * left ≡ at + 3 * n) × (leastCode found₀ (goalsFrom ws at n) ≡ leastCode found (goalsFrom ws here left))
 
 abbrev μ-loop : tie.MeasureT-loop
 μ-loop ws at n found₀ here₀ left₀ found here left = left
@@ -55,7 +56,9 @@ loop-again c =
     (c .if1 .came)
 
 returns : tie.Need-returns Inv-loop μ-loop
-returns c = let l = c .before .loop in sym (l .inv .1 ∙ least-end (c .before .before .args .ws .now) (l .here) (l .left) (l .found) (c .loop-test .left))
+returns c =
+    let l = c .before .loop in
+    sym (l .inv .1 ∙ least-end (c .before .before .args .ws .now) (l .here) (l .left) (l .found) (c .loop-test .left))
 
 pub least-spec : {M : Type 1} → statement M
 least-spec =

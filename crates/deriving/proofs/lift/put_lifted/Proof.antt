@@ -20,7 +20,8 @@ use Rattle.goals.proofs.words.goal_at.Reads as goal-at-reads
 use Rattle.goals.proofs.words.put_goal.Reads as put-goal-reads
 
 abbrev Inv-loop : tie.InvT-loop
-Inv-loop ws at n top out₀ next₀ here₀ left₀ out next here left = (left ≤ n) × (here + 3 * left ≡ at + 3 * n) × (next + 3 * left ≡ 3 * n) × (length out ≡ length out₀) × (sets out₀ 0 (lifted (top .0) ws at n) ≡ sets out next (lifted (top .0) ws here left))
+Inv-loop ws at n top out₀ next₀ here₀ left₀ out next here left =
+    (left ≤ n) × (here + 3 * left ≡ at + 3 * n) × (next + 3 * left ≡ 3 * n) × (length out ≡ length out₀) × (sets out₀ 0 (lifted (top .0) ws at n) ≡ sets out next (lifted (top .0) ws here left))
 
 abbrev μ-loop : tie.MeasureT-loop
 μ-loop ws at n top out₀ next₀ here₀ left₀ out next here left = left
@@ -63,7 +64,10 @@ loop-again c =
     let p = lifted-next (a .top .0) (a .ws .now) (l .here) (l .left) (at-loop-test .taken) in
     let rest = lifted (a .top .0) (a .ws .now) (l .here + 3) (l .left - 1) in
     let u = underCode (a .top .0) (getD (a .ws .now) (l .here + 1) 0) in
-    let e = ap₂ (λ (x : ℕ) (y : Goal). sets (l .out) (l .next) (y .shape .0 ∷ x ∷ y .mask ∷ [])) (c .before .before .before .before .under .ensures ∙ ap (λ (y : Goal). underCode (a .top .0) (y .at .0)) (at-goal-at .ensures)) (at-goal-at .ensures) in (
+    let e =
+    ap₂ (λ (x : ℕ) (y : Goal). sets (l .out) (l .next) (y .shape .0 ∷ x ∷ y .mask ∷ []))
+    (c .before .before .before .before .under .ensures ∙ ap (λ (y : Goal). underCode (a .top .0) (y .at .0)) (at-goal-at .ensures))
+    (at-goal-at .ensures) in (
       omega arith,
       omega arith,
       omega arith,
@@ -75,7 +79,10 @@ same-length : tie.Need-same-length Inv-loop μ-loop
 same-length c = c .before .loop .inv .3
 
 returns : tie.Need-returns Inv-loop μ-loop
-returns c = let a = c .before .before .before .before .args in let l = c .before .loop in sym (l .inv .4 ∙ ap (sets (l .out) (l .next)) (lifted-end (a .top .0) (a .ws .now) (l .here) (l .left) (c .loop-test .left)))
+returns c =
+    let a = c .before .before .before .before .args in
+    let l = c .before .loop in
+    sym (l .inv .4 ∙ ap (sets (l .out) (l .next)) (lifted-end (a .top .0) (a .ws .now) (l .here) (l .left) (c .loop-test .left)))
 
 pub put-lifted-spec : {M : Type 1} → statement M
 put-lifted-spec =

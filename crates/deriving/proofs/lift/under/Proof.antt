@@ -10,7 +10,8 @@ use Rattle.deriving.proofs.lift.under.Reads as reads
 use Rattle.deriving.proofs.lift.under.Lts as lts
 
 abbrev Inv-loop : tie.InvT-loop
-Inv-loop top place up₀ weight₀ left₀ up weight left = (left ≤ 7) × (weight ≡ 5 ^ (7 - left)) × (underCode (top .0) (place .0) ≡ underFrom left (top .0) (place .0) up weight)
+Inv-loop top place up₀ weight₀ left₀ up weight left =
+    (left ≤ 7) × (weight ≡ 5 ^ (7 - left)) × (underCode (top .0) (place .0) ≡ underFrom left (top .0) (place .0) up weight)
 
 abbrev μ-loop : tie.MeasureT-loop
 μ-loop top place up₀ weight₀ left₀ up weight left = left
@@ -38,7 +39,9 @@ cast-t10 c =
 returns : tie.Need-returns Inv-loop μ-loop
 returns c =
     let entry = c .before .before .before .before .before .before in
-    let a = entry .args in let l = c .before .before .before .before .loop in sym (l .inv .2 ∙ under-stop (a .top .0) (a .place .0) (l .left) (l .up) (l .weight) (c .before .if1 .taken))
+    let a = entry .args in
+    let l = c .before .before .before .before .loop in
+    sym (l .inv .2 ∙ under-stop (a .top .0) (a .place .0) (l .left) (l .up) (l .weight) (c .before .if1 .taken))
 
 mul-weight : tie.Need-mul-weight Inv-loop μ-loop
 mul-weight c = let l = c .before .before .before .loop in omega (arith, l .inv .1, five-le (7 - l .left) (omega arith) .1)
@@ -52,7 +55,12 @@ loop-less c = search needs
 loop-again : tie.Need-loop-again Inv-loop μ-loop
 loop-again c =
     let at-loop-test = c .before .before .loop-test in
-    let a = c .before .before .before .before .before .args in let l = c .before .before .before .loop in (omega arith, ap (λ w. w * 5) (l .inv .1) ∙ five-next (l .left) (at-loop-test .taken) (l .inv .0), l .inv .2 ∙ under-next (a .top .0) (a .place .0) (l .left) (l .up) (l .weight) (at-loop-test .taken) (c .if1 .left))
+    let a = c .before .before .before .before .before .args in
+    let l = c .before .before .before .loop in (
+      omega arith,
+      ap (λ w. w * 5) (l .inv .1) ∙ five-next (l .left) (at-loop-test .taken) (l .inv .0),
+      l .inv .2 ∙ under-next (a .top .0) (a .place .0) (l .left) (l .up) (l .weight) (at-loop-test .taken) (c .if1 .left),
+    )
 
 cast-t11 : tie.Need-cast-t11 Inv-loop μ-loop
 cast-t11 c = search needs
@@ -64,7 +72,10 @@ cast-t13 : tie.Need-cast-t13 Inv-loop μ-loop
 cast-t13 c = let l = c .before .before .loop in omega (arith, rem-le (c .before .before .before .before .args .place .0) (l .weight))
 
 returns-2 : tie.Need-returns-2 Inv-loop μ-loop
-returns-2 c = let a = c .before .before .before .before .args in let l = c .before .before .loop in sym (l .inv .2 ∙ under-end (a .top .0) (a .place .0) (l .left) (l .up) (l .weight) (c .before .loop-test .left))
+returns-2 c =
+    let a = c .before .before .before .before .args in
+    let l = c .before .before .loop in
+    sym (l .inv .2 ∙ under-end (a .top .0) (a .place .0) (l .left) (l .up) (l .weight) (c .before .loop-test .left))
 
 pub under-spec : {M : Type 1} → statement M
 under-spec =

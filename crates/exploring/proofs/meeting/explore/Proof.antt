@@ -13,10 +13,10 @@ use Rattle.exploring.proofs.meeting.explore_state.Reads as explore-stat
 use Rattle.states.proofs.keeping.add_state.Reads as add-state-reads
 
 abbrev Inv-loop : tie.InvT-loop
-Inv-loop tab arity shapes scratch₀ m₀ words₀ i₀ scratch m words i = Running arity tab shapes scratch₀ scratch m words i
+Inv-loop tab symbols shapes scratch₀ m₀ words₀ i₀ scratch m words i = Running symbols tab shapes scratch₀ scratch m words i
 
 abbrev μ-loop : tie.MeasureT-loop
-μ-loop tab arity shapes scratch₀ m₀ words₀ i₀ scratch m words i = 128 - i
+μ-loop tab symbols shapes scratch₀ m₀ words₀ i₀ scratch m words i = 128 - i
 
 slice-aggregate-put-fresh : tie.Need-slice-aggregate-put-fresh Inv-loop μ-loop
 slice-aggregate-put-fresh c = search needs
@@ -36,26 +36,27 @@ loop-holds : tie.Need-loop-holds Inv-loop μ-loop
 loop-holds c =
     let entry = c .before .before .before .before .before .before .before .before .before .before .before in
     let at-put-fresh = c .before .before .before .before .before .before .put-fresh in
-    (running-begin (entry .args .arity .now) (entry .args .tab .now) (entry .args .shapes) (entry .args .scratch .now) (entry .pre .0) (entry .pre .1) _ _ (at-put-fresh .ensures .1) (c .before .before .add-state .ensures)) .0
+    (running-begin (entry .args .scratch .now) (entry .pre .0) (entry .pre .1) _ _ (at-put-fresh .ensures .1) (c .before .before .add-state .ensures)) .0
 
 cast-t25 : tie.Need-cast-t25 Inv-loop μ-loop
-cast-t25 c = omega (arith, c .before .loop-test .taken, c .before .before .loop .inv .kept .few)
+cast-t25 c = omega (arith, c .before .loop-test .taken, c .before .before .loop .inv .held .kept .few)
 
 explore-state-requires : tie.Need-explore-state-requires Inv-loop μ-loop
-explore-state-requires c κs =
-    let at-loop = c .before .before .loop in
-    (at-loop .inv .kept, c .before .loop-test .taken, at-loop .inv .good)
+explore-state-requires c κs = (c .before .before .loop .inv .held, c .before .loop-test .taken)
 
 enum-known-states : tie.Need-enum-known-states Inv-loop μ-loop
 enum-known-states c = search needs
 
 add-words : tie.Need-add-words Inv-loop μ-loop
 add-words c =
-    let entry = c .before .before .before .before .before .before .before .before .before .before .before .before .before .before .before .before .before .before .before .before in
+    let entry =
+    c .before .before .before .before .before .before .before .before .before .before .before .before .before .before .before .before .before .before .before .before in
     let at-loop = c .before .before .before .before .before .before .before .before .loop in
     let at-loop-test = c .before .before .before .before .before .before .before .loop-test in
     let at-explore-state = c .before .before .before .before .before .explore-state in
-    let s = (running-on (entry .args .arity .now) (entry .args .tab .now) (entry .args .shapes) _ (at-loop .inv) (at-loop-test .taken) _ (at-explore-state .result) _ _ (c .before .states .given .1) (at-explore-state .ensures .0) (at-explore-state .ensures .1) (at-explore-state .kept .1 .1 .1 .0)) in omega (arith, s .sum, s .below, s .kept .few)
+    let s =
+    (running-on (at-loop .inv) (at-loop-test .taken) _ (at-explore-state .result) _ _ (c .before .states .given .1) (at-explore-state .ensures .0) (at-explore-state .ensures .1) (at-explore-state .kept .1 .1 .1 .0)) in
+    omega (arith, s .sum, s .below, s .held .kept .few)
 
 enum-known-reason : tie.Need-enum-known-reason Inv-loop μ-loop
 enum-known-reason c = search needs
@@ -64,7 +65,7 @@ cast-t27 : tie.Need-cast-t27 Inv-loop μ-loop
 cast-t27 c =
     let at-loop = c .before .before .before .before .before .before .before .before .loop in
     let at-loop-test = c .before .before .before .before .before .before .before .loop-test in
-    omega (arith, at-loop-test .taken, at-loop .inv .kept .few)
+    omega (arith, at-loop-test .taken, at-loop .inv .held .kept .few)
 
 same-length : tie.Need-same-length Inv-loop μ-loop
 same-length c =
@@ -74,33 +75,41 @@ same-length c =
 
 returns : tie.Need-returns Inv-loop μ-loop
 returns c =
-    let entry = c .before .before .before .before .before .before .before .before .before .before .before .before .before .before .before .before .before .before .before .before in
-    let at-put-fresh = c .before .before .before .before .before .before .before .before .before .before .before .before .before .before .before .put-fresh in
+    let entry =
+    c .before .before .before .before .before .before .before .before .before .before .before .before .before .before .before .before .before .before .before .before in
+    let at-put-fresh =
+    c .before .before .before .before .before .before .before .before .before .before .before .before .before .before .before .put-fresh in
     let at-add-state = c .before .before .before .before .before .before .before .before .before .before .before .add-state in
     let at-loop = c .before .before .before .before .before .before .before .before .loop in
     let at-loop-test = c .before .before .before .before .before .before .before .loop-test in
-    let at-explore-state = c .before .before .before .before .before .explore-state in
-    (running-stop (entry .args .arity .now) (entry .args .tab .now) (entry .args .shapes) _ (at-loop .inv) (at-loop-test .taken) _ (at-explore-state .result) _ (c .before .reason .given .1) (at-explore-state .ensures .0), at-explore-state .ensures .1 ∙ at-loop .inv .behind ∙ (running-begin (entry .args .arity .now) (entry .args .tab .now) (entry .args .shapes) (entry .args .scratch .now) (entry .pre .0) (entry .pre .1) _ _ (at-put-fresh .ensures .1) (at-add-state .ensures)) .1)
+    let at-explore-state = c .before .before .before .before .before .explore-state in (
+      running-stop (at-loop .inv) (at-loop-test .taken) _ (at-explore-state .result) _ (c .before .reason .given .1)
+          (at-explore-state .ensures .0),
+      at-explore-state .ensures .1
+          ∙ at-loop .inv .behind
+          ∙ (running-begin (entry .args .scratch .now) (entry .pre .0) (entry .pre .1) _ _ (at-put-fresh .ensures .1) (at-add-state .ensures)) .1,
+    )
 
 add-i : tie.Need-add-i Inv-loop μ-loop
 add-i c =
     let at-loop = c .before .before .before .before .before .before .before .before .loop in
     let at-loop-test = c .before .before .before .before .before .before .before .loop-test in
-    omega (arith, at-loop-test .taken, at-loop .inv .kept .few)
+    omega (arith, at-loop-test .taken, at-loop .inv .held .kept .few)
 
 loop-less : tie.Need-loop-less Inv-loop μ-loop
 loop-less c =
     let at-loop = c .before .before .before .before .before .before .before .before .loop in
     let at-loop-test = c .before .before .before .before .before .before .before .loop-test in
-    omega (arith, at-loop-test .taken, at-loop .inv .kept .few)
+    omega (arith, at-loop-test .taken, at-loop .inv .held .kept .few)
 
 loop-again : tie.Need-loop-again Inv-loop μ-loop
 loop-again c =
-    let entry = c .before .before .before .before .before .before .before .before .before .before .before .before .before .before .before .before .before .before .before .before in
+    let entry =
+    c .before .before .before .before .before .before .before .before .before .before .before .before .before .before .before .before .before .before .before .before in
     let at-loop = c .before .before .before .before .before .before .before .before .loop in
     let at-loop-test = c .before .before .before .before .before .before .before .loop-test in
     let at-explore-state = c .before .before .before .before .before .explore-state in
-    (running-on (entry .args .arity .now) (entry .args .tab .now) (entry .args .shapes) _ (at-loop .inv) (at-loop-test .taken) _ (at-explore-state .result) _ _ (c .before .states .given .1) (at-explore-state .ensures .0) (at-explore-state .ensures .1) (at-explore-state .kept .1 .1 .1 .0))
+    (running-on (at-loop .inv) (at-loop-test .taken) _ (at-explore-state .result) _ _ (c .before .states .given .1) (at-explore-state .ensures .0) (at-explore-state .ensures .1) (at-explore-state .kept .1 .1 .1 .0))
 
 same-length-2 : tie.Need-same-length-2 Inv-loop μ-loop
 same-length-2 c = c .before .loop .inv .long ∙ c .before .before .before .before .add-state .kept .0
@@ -108,8 +117,11 @@ same-length-2 c = c .before .loop .inv .long ∙ c .before .before .before .befo
 returns-2 : tie.Need-returns-2 Inv-loop μ-loop
 returns-2 c =
     let entry = c .before .before .before .before .before .before .before .before .before .before .before .before .before in
-    let at-put-fresh = c .before .before .before .before .before .before .before .before .put-fresh in
-    (running-end (entry .args .arity .now) (entry .args .tab .now) (entry .args .shapes) _ (c .before .loop .inv) (c .loop-test .left), c .before .loop .inv .behind ∙ (running-begin (entry .args .arity .now) (entry .args .tab .now) (entry .args .shapes) (entry .args .scratch .now) (entry .pre .0) (entry .pre .1) _ _ (at-put-fresh .ensures .1) (c .before .before .before .before .add-state .ensures)) .1)
+    let at-put-fresh = c .before .before .before .before .before .before .before .before .put-fresh in (
+      running-end (c .before .loop .inv) (c .loop-test .left),
+      c .before .loop .inv .behind
+          ∙ (running-begin (entry .args .scratch .now) (entry .pre .0) (entry .pre .1) _ _ (at-put-fresh .ensures .1) (c .before .before .before .before .add-state .ensures)) .1,
+    )
 
 pub explore-spec : {M : Type 1} → statement M
 explore-spec =

@@ -1,4 +1,5 @@
-use Rattle.states.proofs.ExploreLaws.{state-in, Rowing, rowing-begin, rowing-on, rowing-stop, rowing-end}
+use Rattle.states.proofs.ExploreLaws.{Rowing, rowing-begin, rowing-symbol, rowing-on, rowing-stop, rowing-end}
+use Rattle.states.proofs.PartLaws.{held-good, held-count, held-number, held-stored}
 use Rattle.decoding.proofs.GoodLaws.{good-low, good-label}
 use Rattle.decoding.specs.GoodStates.{GoodState}
 use Rattle.goals.specs.GoalWords.{labelCode}
@@ -16,127 +17,117 @@ use Rattle.exploring.proofs.meeting.explore_symbol.Reads as explore-sym
 use Rattle.goals.proofs.obligations.label.Reads as label-reads
 
 abbrev Inv-loop : tie.InvT-loop
-Inv-loop tab arity shapes scratch₀ m state i n c states₀ words₀ f₀ scratch states words f = Rowing arity tab shapes scratch₀ m (state .0) scratch states words f
+Inv-loop tab symbols shapes scratch₀ m state i n c states₀ words₀ f₀ scratch states words f =
+    Rowing symbols tab shapes scratch₀ m (state .0) scratch states words f
 
 abbrev μ-loop : tie.MeasureT-loop
-μ-loop tab arity shapes scratch₀ m state i n c states₀ words₀ f₀ scratch states words f = length arity - f
+μ-loop tab symbols shapes scratch₀ m state i n c states₀ words₀ f₀ scratch states words f = length symbols - f
 
--- src/meeting.rt:62:13
 mul-n : tie.Need-mul-n Inv-loop μ-loop
 mul-n c =
     let entry = c .before .before .before .before in
-    omega (arith, entry .pre .0 .few, entry .pre .1)
+    omega (arith, held-number (entry .pre .0) (entry .pre .1))
 
--- src/meeting.rt:62:13
 slice-read-n : tie.Need-slice-read-n Inv-loop μ-loop
 slice-read-n c =
     let entry = c .before .before .before .before .before in
-    omega (arith, entry .pre .0 .few, entry .pre .1, entry .pre .0 .long)
+    omega (arith, held-number (entry .pre .0) (entry .pre .1), entry .pre .0 .kept .long)
 
--- src/meeting.rt:62:13
 cast-n : tie.Need-cast-n Inv-loop μ-loop
 cast-n c =
     let entry = c .before .before .before .before .before in
-    omega (arith, entry .pre .0 .counts (entry .args .state .0) (entry .pre .1))
+    omega (arith, held-count (entry .pre .0) (entry .pre .1))
 
--- src/meeting.rt:63:39
 mul-label : tie.Need-mul-label Inv-loop μ-loop
 mul-label c =
     let entry = c .before .before .before .before .before .before in
-    omega (arith, entry .pre .0 .few, entry .pre .1)
+    omega (arith, held-number (entry .pre .0) (entry .pre .1))
 
--- src/meeting.rt:63:33
 add-label : tie.Need-add-label Inv-loop μ-loop
 add-label c =
     let entry = c .before .before .before .before .before .before in
-    omega (arith, entry .pre .0 .few, entry .pre .1)
+    omega (arith, held-number (entry .pre .0) (entry .pre .1))
 
--- src/meeting.rt:63:13
 label-requires : tie.Need-label-requires Inv-loop μ-loop
 label-requires c κs =
     let entry = c .before .before .before .before .before .before in
-    ((entry .pre .2 (stateIn (entry .args .scratch .now) (entry .args .state .0)) (state-in (entry .args .scratch .now) (entry .args .m) (entry .args .state .0) (entry .pre .1))) .ready .tabled, omega (arith, entry .pre .0 .counts (entry .args .state .0) (entry .pre .1)), omega (arith, entry .pre .0 .counts (entry .args .state .0) (entry .pre .1), entry .pre .0 .long, entry .pre .0 .few, entry .pre .1), good-low (entry .pre .2 (stateIn (entry .args .scratch .now) (entry .args .state .0)) (state-in (entry .args .scratch .now) (entry .args .m) (entry .args .state .0) (entry .pre .1))))
+    held-stored (entry .pre .0) (entry .pre .1)
 
--- src/meeting.rt:63:13
 cast-c : tie.Need-cast-c Inv-loop μ-loop
 cast-c c =
     let entry = c .before .before .before .before .before .before .before in
-    omega (arith, c .label .ensures, good-label (entry .pre .2 (stateIn (entry .args .scratch .now) (entry .args .state .0)) (state-in (entry .args .scratch .now) (entry .args .m) (entry .args .state .0) (entry .pre .1))))
+    omega (arith, c .label .ensures, good-label (held-good (entry .pre .0) (entry .pre .1)))
 
--- src/meeting.rt:67:5
 loop-holds : tie.Need-loop-holds Inv-loop μ-loop
 loop-holds c =
     let entry = c .before .before .before .before .before .before .before in
-    rowing-begin (entry .args .arity .now) (entry .args .tab .now) (entry .args .shapes) (entry .args .scratch .now) (entry .args .m) (entry .args .state .0) (entry .pre .0) (entry .pre .1) (entry .pre .2)
+    rowing-begin (entry .pre .0) (entry .pre .1)
 
--- src/meeting.rt:68:15
 explore-symbol-requires : tie.Need-explore-symbol-requires Inv-loop μ-loop
 explore-symbol-requires c κs =
-    let entry = c .before .before .before .before .before .before .before .before .before .before in
     let at-loop = c .before .before .loop in
-    (at-loop .inv .kept, at-loop .inv .inside, at-loop .inv .good, c .before .before .before .label .ensures ∙ ap (labelCode (entry .args .tab .now)) (sym (at-loop .inv .still)), c .before .loop-test .taken)
+    (at-loop .inv .held .kept, rowing-symbol (at-loop .inv) (c .before .loop-test .taken) _ (c .before .before .before .label .ensures))
 
--- src/meeting.rt:69:21
 enum-known-all : tie.Need-enum-known-all Inv-loop μ-loop
 enum-known-all c = search needs
 
--- src/meeting.rt:71:17
 add-words : tie.Need-add-words Inv-loop μ-loop
 add-words c =
-    let entry = c .before .before .before .before .before .before .before .before .before .before .before .before .before .before .before .before in
-    let at-label = c .before .before .before .before .before .before .before .before .before .label in
+    let entry =
+    c .before .before .before .before .before .before .before .before .before .before .before .before .before .before .before .before in
     let at-loop = c .before .before .before .before .before .before .before .before .loop in
     let at-loop-test = c .before .before .before .before .before .before .before .loop-test in
     let at-explore-symbol = c .before .before .before .before .before .explore-symbol in
-    let s = (rowing-on (entry .args .arity .now) (entry .args .tab .now) (entry .args .shapes) (entry .args .scratch .now) (entry .args .m) (entry .args .state .0) (at-loop .inv) (at-loop-test .taken) (at-label .result) (at-label .ensures) _ (at-explore-symbol .result) _ _ (c .before .all .given .1) (at-explore-symbol .ensures .0) (at-explore-symbol .ensures .1) (at-explore-symbol .kept .1 .1 .1 .0)) in omega (arith, s .sum, s .below, (entry .pre .2 (stateIn (entry .args .scratch .now) (entry .args .state .0)) (state-in (entry .args .scratch .now) (entry .args .m) (entry .args .state .0) (entry .pre .1))) .ready .few-symbols)
+    let s =
+    rowing-on (at-loop .inv) (at-loop-test .taken) _ (at-explore-symbol .result) _ _ (c .before .all .given .1)
+    (at-explore-symbol .ensures .0) (at-explore-symbol .ensures .1) (at-explore-symbol .kept .1 .1 .1 .0) in
+    omega (arith, s .sum, s .below, held-good (entry .pre .0) (entry .pre .1) .ready .few-symbols)
 
--- src/meeting.rt:73:26
 enum-known-reason : tie.Need-enum-known-reason Inv-loop μ-loop
 enum-known-reason c = search needs
 
--- src/meeting.rt:74:17
 same-length : tie.Need-same-length Inv-loop μ-loop
 same-length c =
     let at-loop = c .before .before .before .before .before .before .before .before .loop in
     c .before .before .before .before .before .explore-symbol .kept .1 .1 .1 .0 ∙ at-loop .inv .long
 
--- src/meeting.rt:74:17
 returns : tie.Need-returns Inv-loop μ-loop
 returns c =
-    let entry = c .before .before .before .before .before .before .before .before .before .before .before .before .before .before .before .before in
-    let at-label = c .before .before .before .before .before .before .before .before .before .label in
+    let entry =
+    c .before .before .before .before .before .before .before .before .before .before .before .before .before .before .before .before in
     let at-loop = c .before .before .before .before .before .before .before .before .loop in
     let at-loop-test = c .before .before .before .before .before .before .before .loop-test in
-    let at-explore-symbol = c .before .before .before .before .before .explore-symbol in
-    (rowing-stop (entry .args .arity .now) (entry .args .tab .now) (entry .args .shapes) (entry .args .scratch .now) (entry .args .m) (entry .args .state .0) (at-loop .inv) (at-loop-test .taken) (at-label .result) (at-label .ensures) _ (at-explore-symbol .result) _ (c .before .reason .given .1) (at-explore-symbol .ensures .0), at-explore-symbol .ensures .1 ∙ at-loop .inv .behind)
+    let at-explore-symbol = c .before .before .before .before .before .explore-symbol in (
+      rowing-stop (at-loop .inv) (at-loop-test .taken) _ (at-explore-symbol .result) _ (c .before .reason .given .1)
+          (at-explore-symbol .ensures .0),
+      at-explore-symbol .ensures .1 ∙ at-loop .inv .behind,
+    )
 
--- src/meeting.rt:77:9
 add-f : tie.Need-add-f Inv-loop μ-loop
 add-f c = search needs
 
--- src/meeting.rt:67:5
 loop-less : tie.Need-loop-less Inv-loop μ-loop
 loop-less c = search needs
 
--- src/meeting.rt:67:5
 loop-again : tie.Need-loop-again Inv-loop μ-loop
 loop-again c =
-    let entry = c .before .before .before .before .before .before .before .before .before .before .before .before .before .before .before .before in
-    let at-label = c .before .before .before .before .before .before .before .before .before .label in
+    let entry =
+    c .before .before .before .before .before .before .before .before .before .before .before .before .before .before .before .before in
     let at-loop = c .before .before .before .before .before .before .before .before .loop in
     let at-loop-test = c .before .before .before .before .before .before .before .loop-test in
     let at-explore-symbol = c .before .before .before .before .before .explore-symbol in
-    (rowing-on (entry .args .arity .now) (entry .args .tab .now) (entry .args .shapes) (entry .args .scratch .now) (entry .args .m) (entry .args .state .0) (at-loop .inv) (at-loop-test .taken) (at-label .result) (at-label .ensures) _ (at-explore-symbol .result) _ _ (c .before .all .given .1) (at-explore-symbol .ensures .0) (at-explore-symbol .ensures .1) (at-explore-symbol .kept .1 .1 .1 .0))
+    rowing-on (at-loop .inv) (at-loop-test .taken) _ (at-explore-symbol .result) _ _ (c .before .all .given .1)
+    (at-explore-symbol .ensures .0) (at-explore-symbol .ensures .1) (at-explore-symbol .kept .1 .1 .1 .0)
 
--- src/meeting.rt:57:1
 same-length-2 : tie.Need-same-length-2 Inv-loop μ-loop
 same-length-2 c = c .before .loop .inv .long
 
--- src/meeting.rt:57:1
 returns-2 : tie.Need-returns-2 Inv-loop μ-loop
 returns-2 c =
-    let entry = c .before .before .before .before .before .before .before .before .before in
-    (rowing-end (entry .args .arity .now) (entry .args .tab .now) (entry .args .shapes) (entry .args .scratch .now) (entry .args .m) (entry .args .state .0) (c .before .loop .inv) (c .loop-test .left) ((entry .pre .2 (stateIn (entry .args .scratch .now) (entry .args .state .0)) (state-in (entry .args .scratch .now) (entry .args .m) (entry .args .state .0) (entry .pre .1))) .ready .few-symbols), c .before .loop .inv .behind)
+    let entry = c .before .before .before .before .before .before .before .before .before in (
+      rowing-end (c .before .loop .inv) (c .loop-test .left) (held-good (entry .pre .0) (entry .pre .1) .ready .few-symbols),
+      c .before .loop .inv .behind,
+    )
 
 cast-i : tie.Need-cast-i Inv-loop μ-loop
 cast-i c = search needs
@@ -144,7 +135,7 @@ cast-i c = search needs
 cast-t29 : tie.Need-cast-t29 Inv-loop μ-loop
 cast-t29 c =
     let entry = c .before .before .before .before .before .before .before .before .before .before in
-    omega (arith, c .before .loop-test .taken, (entry .pre .2 (stateIn (entry .args .scratch .now) (entry .args .state .0)) (state-in (entry .args .scratch .now) (entry .args .m) (entry .args .state .0) (entry .pre .1))) .ready .few-symbols)
+    omega (arith, c .before .loop-test .taken, held-good (entry .pre .0) (entry .pre .1) .ready .few-symbols)
 
 pub explore-state-spec : {M : Type 1} → statement M
 explore-state-spec =

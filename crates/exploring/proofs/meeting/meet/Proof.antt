@@ -1,13 +1,5 @@
-use mathlib.Core.List.{List, [], _∷_, _++_}
-use Rattle.states.proofs.ExploreLaws.{class-few, class-room, Lifting, lifting, met-known, met-full, met-new}
-use Rattle.states.proofs.MeetLaws.{meet-big}
-use Rattle.states.proofs.WordArrays.{flat-thirds}
-use Rattle.decoding.specs.WordMachine.{words, statesIn}
-use Rattle.deriving.specs.Orders.{classAt}
-use lib.ListN.{length, replicate}
-use lib.Seq.{length-sets}
-use Prim.Native.Nat.{ℕ, _≤_, _<_, _+_, _-_, _*_}
-use mathlib.Core.Path.{_≡_, refl, ap, sym, _∙_}
+use Rattle.states.proofs.ExploreLaws.{class-room, class-big, class-lifted, met-known, met-full, met-new}
+use mathlib.Core.Path.{refl}
 use native.Mathlib.Omega.{arith}
 use borrow.Author.Needs.{needs}
 use Rattle.exploring.proofs.meeting.meet.Statement.{statement}
@@ -15,13 +7,9 @@ use Rattle.exploring.proofs.meeting.meet.Tie as tie
 use Rattle.exploring.proofs.meeting.meet.Reads as reads
 use Rattle.exploring.proofs.meeting.meet.Lts as lts
 use Rattle.classes.proofs.members.put_class.Reads as put-class-reads
-use Rattle.deriving.proofs.lift.least.Reads as least-reads
-use Rattle.deriving.proofs.lift.put_lifted.Reads as put-lifted-reads
+use Rattle.deriving.proofs.lift.lift_class.Reads as lift-class-reads
 use Rattle.states.proofs.keeping.add_state.Reads as add-state-reads
 use Rattle.states.proofs.keeping.find_state.Reads as find-state-reads
-
--- src/meeting.rt:132:41
--- src/meeting.rt:185:41
 
 slice-aggregate-put-class : tie.Need-slice-aggregate-put-class
 slice-aggregate-put-class c = search needs
@@ -29,74 +17,59 @@ slice-aggregate-put-class c = search needs
 put-class-requires : tie.Need-put-class-requires
 put-class-requires c κs =
     let entry = c .before .before .before in
-    let h = class-room (entry .args .dep .now) (entry .args .goals .now) (entry .args .n) (entry .args .r) (entry .pre .1) in (entry .pre .1, entry .pre .4, entry .pre .3, entry .pre .2, h)
+    (entry .pre .1, entry .pre .2, class-room (entry .pre .1) (entry .args .r))
 
 returns : tie.Need-returns
 returns c =
-    let entry = c .before .before .before .before .before .before in
-    let at-put-class = c .before .before .put-class in
-    let K = classAt (entry .args .dep .now) (entry .args .goals .now) (entry .args .n) (entry .args .r) in
-    let e = flat-thirds K (at-put-class .result) (at-put-class .ensures .0) in
-    let h = c .if1 .taken in
-    (meet-big (words [] 0) (statesIn (entry .args .scratch .now) (entry .args .m)) K (omega (arith, h, e)), refl)
+    let entry = c .before .before .before .before .before .before in (
+      class-big (entry .pre .1) (entry .args .r) _ _ _ (c .before .before .put-class .ensures) (entry .args .scratch .now) (entry .args .m)
+          (c .if1 .taken),
+      refl,
+    )
 
-slice-aggregate-least : tie.Need-slice-aggregate-least
-slice-aggregate-least c = search needs
+slice-aggregate-lift-class : tie.Need-slice-aggregate-lift-class
+slice-aggregate-lift-class c = search needs
 
-least-requires : tie.Need-least-requires
-least-requires c κs =
-    let entry = c .before .before .before .before .before .before .before in
-    let at-put-class = c .before .before .before .put-class in
-    let K = classAt (entry .args .dep .now) (entry .args .goals .now) (entry .args .n) (entry .args .r) in
-    let e = flat-thirds K (at-put-class .result) (at-put-class .ensures .0) in
-    let f = class-few (entry .args .dep .now) (entry .args .goals .now) (entry .args .n) (entry .args .r) (entry .pre .1) in
-    search needs
+slice-aggregate-lift-class-2 : tie.Need-slice-aggregate-lift-class-2
+slice-aggregate-lift-class-2 c = search needs
 
-slice-aggregate-put-lifted : tie.Need-slice-aggregate-put-lifted
-slice-aggregate-put-lifted c = search needs
-
-slice-aggregate-put-lifted-2 : tie.Need-slice-aggregate-put-lifted-2
-slice-aggregate-put-lifted-2 c = search needs
-
-put-lifted-requires : tie.Need-put-lifted-requires
-put-lifted-requires c κs = search needs
+lift-class-requires : tie.Need-lift-class-requires
+lift-class-requires c κs = omega (arith, c .before .before .if1 .left, c .before .before .before .before .put-class .kept .1 .1 .1 .1 .0)
 
 slice-aggregate-find-state : tie.Need-slice-aggregate-find-state
 slice-aggregate-find-state c = search needs
 
 find-state-requires : tie.Need-find-state-requires
-find-state-requires c κs = search needs
+find-state-requires c κs =
+    let entry = c .before .before .before .before .before .before .before .before .before .before .before .before in
+    let at-if1 = c .before .before .before .before .before .before .if1 in
+    (entry .pre .0, at-if1 .left, omega (arith, at-if1 .left, c .before .before .before .lift-class .kept .1 .1 .0))
 
 same-length : tie.Need-same-length
 same-length c = search needs
 
 returns-2 : tie.Need-returns-2
 returns-2 c =
-    let entry = c .before .before .before .before .before .before .before .before .before .before .before .before .before .before .before .before in
-    let at-put-class = c .before .before .before .before .before .before .before .before .before .before .before .before .put-class in
-    let at-if1 = c .before .before .before .before .before .before .before .before .before .before .if1 in
-    let at-least = c .before .before .before .before .before .before .before .before .least in
-    let a = entry .args in let K = classAt (a .dep .now) (a .goals .now) (a .n) (a .r) in
-    let f = class-few (a .dep .now) (a .goals .now) (a .n) (a .r) (entry .pre .1) in
-    let e = flat-thirds K (at-put-class .result) (at-put-class .ensures .0) in
-    let l = lifting K (replicate {A = ℕ} 288 0) _ (replicate {A = ℕ} 96 0) _ (at-put-class .result) _ (at-put-class .ensures .0) (at-put-class .ensures .1) (omega (arith, f)) (at-least .ensures) (c .before .before .before .before .before .put-lifted .ensures) (omega (arith, e, at-if1 .left)) in
-    (met-known (a .scratch .now) (a .m) (entry .pre .0) K _ _ _ _ l (at-if1 .left) (c .before .find-state .ensures) (c .if2 .taken), refl)
+    let entry = c .before .before .before .before .before .before .before .before .before .before .before .before .before .before in
+    let at-put-class = c .before .before .before .before .before .before .before .before .before .before .put-class in
+    let at-if1 = c .before .before .before .before .before .before .before .before .if1 in
+    let l =
+    class-lifted (entry .pre .1) (entry .args .r) _ _ _ _ _ _ (at-put-class .ensures) refl (at-if1 .left)
+    (c .before .before .before .before .before .lift-class .ensures) refl in
+    (met-known (entry .pre .0) l (at-if1 .left) (c .before .find-state .ensures) (c .if2 .taken), refl)
 
 same-length-2 : tie.Need-same-length-2
 same-length-2 c = search needs
 
 returns-3 : tie.Need-returns-3
 returns-3 c =
-    let entry = c .before .before .before .before .before .before .before .before .before .before .before .before .before .before .before .before .before in
-    let at-put-class = c .before .before .before .before .before .before .before .before .before .before .before .before .before .put-class in
-    let at-if1 = c .before .before .before .before .before .before .before .before .before .before .before .if1 in
-    let at-least = c .before .before .before .before .before .before .before .before .before .least in
-    let at-put-lifted = c .before .before .before .before .before .before .put-lifted in
-    let a = entry .args in let K = classAt (a .dep .now) (a .goals .now) (a .n) (a .r) in
-    let f = class-few (a .dep .now) (a .goals .now) (a .n) (a .r) (entry .pre .1) in
-    let e = flat-thirds K (at-put-class .result) (at-put-class .ensures .0) in
-    let l = lifting K (replicate {A = ℕ} 288 0) _ (replicate {A = ℕ} 96 0) _ (at-put-class .result) _ (at-put-class .ensures .0) (at-put-class .ensures .1) (omega (arith, f)) (at-least .ensures) (at-put-lifted .ensures) (omega (arith, e, at-if1 .left)) in
-    (met-full (a .scratch .now) (a .m) (entry .pre .0) K _ _ _ _ l (at-if1 .left) (c .before .before .find-state .ensures) (c .before .if2 .left) (c .if3 .taken), refl)
+    let entry = c .before .before .before .before .before .before .before .before .before .before .before .before .before .before .before in
+    let at-put-class = c .before .before .before .before .before .before .before .before .before .before .before .put-class in
+    let at-if1 = c .before .before .before .before .before .before .before .before .before .if1 in
+    let at-lift-class = c .before .before .before .before .before .before .lift-class in
+    let l =
+    class-lifted (entry .pre .1) (entry .args .r) _ _ _ _ _ _ (at-put-class .ensures) refl (at-if1 .left) (at-lift-class .ensures) refl in
+    (met-full (entry .pre .0) l (at-if1 .left) (c .before .before .find-state .ensures) (c .before .if2 .left) (c .if3 .taken), refl)
 
 slice-aggregate-add-state : tie.Need-slice-aggregate-add-state
 slice-aggregate-add-state c = search needs
@@ -104,26 +77,26 @@ slice-aggregate-add-state c = search needs
 add-state-requires : tie.Need-add-state-requires
 add-state-requires c κs = search needs
 
-add-t11 : tie.Need-add-t11
-add-t11 c = search needs
+add-t10 : tie.Need-add-t10
+add-t10 c = search needs
 
 same-length-3 : tie.Need-same-length-3
 same-length-3 c = search needs
 
 returns-4 : tie.Need-returns-4
 returns-4 c =
-    let entry = c .before .before .before .before .before .before .before .before .before .before .before .before .before .before .before .before .before .before .before .before .before .before in
-    let at-put-class = c .before .before .before .before .before .before .before .before .before .before .before .before .before .before .before .before .before .before .put-class in
-    let at-if1 = c .before .before .before .before .before .before .before .before .before .before .before .before .before .before .before .before .if1 in
-    let at-least = c .before .before .before .before .before .before .before .before .before .before .before .before .before .before .least in
-    let at-put-lifted = c .before .before .before .before .before .before .before .before .before .before .before .put-lifted in
+    let entry =
+    c .before .before .before .before .before .before .before .before .before .before .before .before .before .before .before .before .before .before .before .before in
+    let at-put-class =
+    c .before .before .before .before .before .before .before .before .before .before .before .before .before .before .before .before .put-class in
+    let at-if1 = c .before .before .before .before .before .before .before .before .before .before .before .before .before .before .if1 in
+    let at-lift-class = c .before .before .before .before .before .before .before .before .before .before .before .lift-class in
     let at-find-state = c .before .before .before .before .before .before .before .find-state in
     let at-if2 = c .before .before .before .before .before .before .if2 in
-    let a = entry .args in let K = classAt (a .dep .now) (a .goals .now) (a .n) (a .r) in
-    let f = class-few (a .dep .now) (a .goals .now) (a .n) (a .r) (entry .pre .1) in
-    let e = flat-thirds K (at-put-class .result) (at-put-class .ensures .0) in
-    let l = lifting K (replicate {A = ℕ} 288 0) _ (replicate {A = ℕ} 96 0) _ (at-put-class .result) _ (at-put-class .ensures .0) (at-put-class .ensures .1) (omega (arith, f)) (at-least .ensures) (at-put-lifted .ensures) (omega (arith, e, at-if1 .left)) in
-    met-new (a .scratch .now) (a .m) (entry .pre .0) K _ _ _ _ l (at-if1 .left) (at-find-state .ensures) (at-if2 .left) (c .before .before .before .before .before .if3 .left) _ (c .before .before .add-state .ensures) (omega (arith, at-put-lifted .kept .1 .1 .1 .1 .0, at-if1 .left))
+    let l =
+    class-lifted (entry .pre .1) (entry .args .r) _ _ _ _ _ _ (at-put-class .ensures) refl (at-if1 .left) (at-lift-class .ensures) refl in
+    met-new (entry .pre .0) l (at-if1 .left) (at-find-state .ensures) (at-if2 .left) (c .before .before .before .before .before .if3 .left)
+    _ (c .before .before .add-state .ensures) (omega (arith, at-if1 .left, at-lift-class .kept .1 .1 .0))
 
 pub meet-spec : {M : Type 1} → statement M
 meet-spec =
@@ -132,11 +105,9 @@ meet-spec =
     slice-aggregate-put-class
     put-class-requires
     returns
-    slice-aggregate-least
-    least-requires
-    slice-aggregate-put-lifted
-    slice-aggregate-put-lifted-2
-    put-lifted-requires
+    slice-aggregate-lift-class
+    slice-aggregate-lift-class-2
+    lift-class-requires
     slice-aggregate-find-state
     find-state-requires
     same-length
@@ -145,6 +116,6 @@ meet-spec =
     returns-3
     slice-aggregate-add-state
     add-state-requires
-    add-t11
+    add-t10
     same-length-3
     returns-4)

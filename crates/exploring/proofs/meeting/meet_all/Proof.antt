@@ -11,94 +11,86 @@ use Rattle.exploring.proofs.meeting.meet_all.Lts as lts
 use Rattle.exploring.proofs.meeting.meet.Reads as meet-reads
 
 abbrev Inv-loop : tie.InvT-loop
-Inv-loop scratch₀ m goals n dep order base states₀ words₀ j₀ scratch states words j = Meeting dep goals n order base scratch₀ m scratch states words j
+Inv-loop scratch₀ m goals n dep order base states₀ words₀ j₀ scratch states words j =
+    Meeting dep goals n order base scratch₀ m scratch states words j
 
 abbrev μ-loop : tie.MeasureT-loop
 μ-loop scratch₀ m goals n dep order base states₀ words₀ j₀ scratch states words j = length order - j
 
--- src/meeting.rt:110:5
 loop-holds : tie.Need-loop-holds Inv-loop μ-loop
 loop-holds c =
     let entry = c .before .before .before in
-    meeting-begin (entry .args .dep .now) (entry .args .goals .now) (entry .args .n) (entry .args .order .now) (entry .args .base) (entry .args .scratch .now) (entry .args .m) (entry .pre .0)
+    meeting-begin (entry .pre .0)
 
--- src/meeting.rt:111:53
 mul-meet : tie.Need-mul-meet Inv-loop μ-loop
 mul-meet c = search needs
 
--- src/meeting.rt:111:53
 shared-slice-read-meet : tie.Need-shared-slice-read-meet Inv-loop μ-loop
 shared-slice-read-meet c = search needs
 
--- src/meeting.rt:111:52
 cast-meet : tie.Need-cast-meet Inv-loop μ-loop
 cast-meet c = search needs
 
--- src/meeting.rt:111:15
 meet-requires : tie.Need-meet-requires Inv-loop μ-loop
 meet-requires c κs =
     let entry = c .before .before .before .before .before .before .before in
     let at-loop = c .before .before .before .loop in
-    (at-loop .inv .kept, entry .pre .1, entry .pre .2, entry .pre .3, entry .pre .5 (at-loop .j) (c .before .before .loop-test .taken))
+    (at-loop .inv .kept, entry .pre .1, entry .pre .2 .low (at-loop .j) (c .before .before .loop-test .taken))
 
--- src/meeting.rt:112:21
 enum-known-all : tie.Need-enum-known-all Inv-loop μ-loop
 enum-known-all c = search needs
 
--- src/meeting.rt:114:17
 add-words : tie.Need-add-words Inv-loop μ-loop
 add-words c =
     let entry = c .before .before .before .before .before .before .before .before .before .before .before .before .before in
     let at-loop = c .before .before .before .before .before .before .before .before .before .loop in
     let at-loop-test = c .before .before .before .before .before .before .before .before .loop-test in
     let at-meet = c .before .before .before .before .before .meet in
-    let s = meeting-on (entry .args .dep .now) (entry .args .goals .now) (entry .args .n) (entry .args .order .now) (entry .args .base) (entry .args .scratch .now) (entry .args .m) (at-loop .inv) (at-loop-test .taken) _ (at-meet .result) _ _ (c .before .all .given .1) (at-meet .ensures .0) (at-meet .ensures .1) (at-meet .kept .0) in omega (arith, s .sum, s .below, entry .pre .4, entry .pre .6)
+    let s =
+    meeting-on (at-loop .inv) (at-loop-test .taken) _ (at-meet .result) _ _ (c .before .all .given .1) (at-meet .ensures .0)
+    (at-meet .ensures .1) (at-meet .kept .0) in
+    omega (arith, s .sum, s .below, entry .pre .2 .short, entry .pre .3)
 
--- src/meeting.rt:116:26
 enum-known-reason : tie.Need-enum-known-reason Inv-loop μ-loop
 enum-known-reason c = search needs
 
--- src/meeting.rt:117:17
 same-length : tie.Need-same-length Inv-loop μ-loop
 same-length c =
     let at-loop = c .before .before .before .before .before .before .before .before .before .loop in
     c .before .before .before .before .before .meet .kept .0 ∙ at-loop .inv .long
 
--- src/meeting.rt:117:17
 returns : tie.Need-returns Inv-loop μ-loop
 returns c =
     let entry = c .before .before .before .before .before .before .before .before .before .before .before .before .before in
     let at-loop = c .before .before .before .before .before .before .before .before .before .loop in
     let at-loop-test = c .before .before .before .before .before .before .before .before .loop-test in
-    let at-meet = c .before .before .before .before .before .meet in
-    (meeting-stop (entry .args .dep .now) (entry .args .goals .now) (entry .args .n) (entry .args .order .now) (entry .args .base) (entry .args .scratch .now) (entry .args .m) (at-loop .inv) (at-loop-test .taken) _ (at-meet .result) _ (c .before .reason .given .1) (at-meet .ensures .0), at-meet .ensures .1 ∙ at-loop .inv .behind)
+    let at-meet = c .before .before .before .before .before .meet in (
+      meeting-stop (at-loop .inv) (at-loop-test .taken) _ (at-meet .result) _ (c .before .reason .given .1) (at-meet .ensures .0),
+      at-meet .ensures .1 ∙ at-loop .inv .behind,
+    )
 
--- src/meeting.rt:120:9
 add-j : tie.Need-add-j Inv-loop μ-loop
 add-j c = search needs
 
--- src/meeting.rt:110:5
 loop-less : tie.Need-loop-less Inv-loop μ-loop
 loop-less c = search needs
 
--- src/meeting.rt:110:5
 loop-again : tie.Need-loop-again Inv-loop μ-loop
 loop-again c =
     let entry = c .before .before .before .before .before .before .before .before .before .before .before .before .before in
     let at-loop = c .before .before .before .before .before .before .before .before .before .loop in
     let at-loop-test = c .before .before .before .before .before .before .before .before .loop-test in
     let at-meet = c .before .before .before .before .before .meet in
-    meeting-on (entry .args .dep .now) (entry .args .goals .now) (entry .args .n) (entry .args .order .now) (entry .args .base) (entry .args .scratch .now) (entry .args .m) (at-loop .inv) (at-loop-test .taken) _ (at-meet .result) _ _ (c .before .all .given .1) (at-meet .ensures .0) (at-meet .ensures .1) (at-meet .kept .0)
+    meeting-on (at-loop .inv) (at-loop-test .taken) _ (at-meet .result) _ _ (c .before .all .given .1) (at-meet .ensures .0)
+    (at-meet .ensures .1) (at-meet .kept .0)
 
--- src/meeting.rt:102:1
 same-length-2 : tie.Need-same-length-2 Inv-loop μ-loop
 same-length-2 c = c .before .loop .inv .long
 
--- src/meeting.rt:102:1
 returns-2 : tie.Need-returns-2 Inv-loop μ-loop
 returns-2 c =
     let entry = c .before .before .before .before .before in
-    (meeting-end (entry .args .dep .now) (entry .args .goals .now) (entry .args .n) (entry .args .order .now) (entry .args .base) (entry .args .scratch .now) (entry .args .m) (c .before .loop .inv) (c .loop-test .left) (entry .pre .4), c .before .loop .inv .behind)
+    (meeting-end (c .before .loop .inv) (c .loop-test .left) (entry .pre .2 .short), c .before .loop .inv .behind)
 
 pub meet-all-spec : {M : Type 1} → statement M
 meet-all-spec =

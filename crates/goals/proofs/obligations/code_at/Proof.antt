@@ -9,8 +9,6 @@ use Rattle.goals.proofs.obligations.code_at.Tie as tie
 use Rattle.goals.proofs.obligations.code_at.Reads as reads
 use Rattle.goals.proofs.obligations.code_at.Lts as lts
 
--- src/obligations.rt:41:19
-
 cast-at : tie.Need-cast-at
 cast-at c = search needs
 

@@ -58,7 +58,9 @@ outer-less : tie.Need-outer-less Inv-loop μ-loop Inv-outer μ-outer
 outer-less c = search needs
 
 outer-again : tie.Need-outer-again Inv-loop μ-loop Inv-outer μ-outer
-outer-again c = c .before .before .before .before .outer .inv ∙ first-next _ _ _ (c .before .before .before .if1 .left) (c .before .loop .inv ∙ has-end _ _ _ (c .loop-test .left))
+outer-again c =
+    c .before .before .before .before .outer .inv
+    ∙ first-next _ _ _ (c .before .before .before .if1 .left) (c .before .loop .inv ∙ has-end _ _ _ (c .loop-test .left))
 
 returns : tie.Need-returns Inv-loop μ-loop Inv-outer μ-outer
 returns c = sym (c .before .outer .inv ∙ first-end _ _ _ (c .if1 .taken))

@@ -13,8 +13,6 @@ use Rattle.goals.proofs.obligations.first_owed.Lts as lts
 use Rattle.goals.proofs.obligations.first_of.Reads as first-of-reads
 use Rattle.goals.proofs.obligations.owed.Reads as owed-reads
 
--- src/obligations.rt:150:26
-
 slice-aggregate-owed : tie.Need-slice-aggregate-owed
 slice-aggregate-owed c = search needs
 
@@ -31,7 +29,8 @@ part-first-of-end : tie.Need-part-first-of-end
 part-first-of-end c =
     let entry = c .before .before .before .before .before in
     let at-owed = c .before .before .owed in
-    let a = entry .args in omega (arith, at-owed .ensures .0, owed-short (a .tab .now) (a .g .shape .0) (a .g .at .0) (sizeOf (a .tab .now) (a .g .shape .0)) 0 (a .g .mask), entry .pre .0 .sizes (a .g .shape .0) (entry .pre .1), at-owed .kept .1 .1 .0)
+    let a = entry .args in
+    omega (arith, at-owed .ensures .0, owed-short (a .tab .now) (a .g .shape .0) (a .g .at .0) (sizeOf (a .tab .now) (a .g .shape .0)) 0 (a .g .mask), entry .pre .0 .sizes (a .g .shape .0) (entry .pre .1), at-owed .kept .1 .1 .0)
 
 first-of-requires : tie.Need-first-of-requires
 first-of-requires c κs = search needs

@@ -16,13 +16,14 @@ use Rattle.goals.proofs.obligations.first_owed.Reads as first-owed-read
 use Rattle.goals.proofs.words.goal_at.Reads as goal-at-reads
 
 abbrev Inv-loop : tie.InvT-loop
-Inv-loop tab ws at n best₀ here₀ left₀ best here left = (here + 3 * left ≡ at + 3 * n) × Low (goalsFrom ws here left) × (labelCode tab (goalsFrom ws at n) ≡ firstCode best (rootCodes tab (goalsFrom ws here left)))
+Inv-loop tab ws at n best₀ here₀ left₀ best here left =
+    (here + 3 * left ≡ at + 3 * n) × Low (goalsFrom ws here left) × (labelCode tab (goalsFrom ws at n) ≡ firstCode best (rootCodes tab (goalsFrom ws here left)))
 
 abbrev μ-loop : tie.MeasureT-loop
 μ-loop tab ws at n best₀ here₀ left₀ best here left = left
 
 loop-holds : tie.Need-loop-holds Inv-loop μ-loop
-loop-holds c = (refl, c .before .before .pre .3, refl)
+loop-holds c = (refl, c .before .before .pre .low, refl)
 
 goal-at-requires : tie.Need-goal-at-requires Inv-loop μ-loop
 goal-at-requires c κs = search needs
@@ -31,7 +32,8 @@ first-owed-requires : tie.Need-first-owed-requires Inv-loop μ-loop
 first-owed-requires c κs =
     let entry = c .before .before .before .before .before .before .before in
     let at-loop = c .before .before .before .before .loop in
-    rw (c .before .before .goal-at .ensures) (entry .pre .0, low-next (entry .args .ws .now) (at-loop .here) (at-loop .left) (c .before .before .before .loop-test .taken) (at-loop .inv .1) .0)
+    rw (c .before .before .goal-at .ensures)
+    (entry .pre .tabled, low-next (entry .args .ws .now) (at-loop .here) (at-loop .left) (c .before .before .before .loop-test .taken) (at-loop .inv .1) .0)
 
 add-here : tie.Need-add-here Inv-loop μ-loop
 add-here c = search needs

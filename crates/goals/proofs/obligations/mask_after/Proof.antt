@@ -12,8 +12,6 @@ use Rattle.goals.proofs.obligations.mask_after.Tie as tie
 use Rattle.goals.proofs.obligations.mask_after.Reads as reads
 use Rattle.goals.proofs.obligations.mask_after.Lts as lts
 
--- src/obligations.rt:93:16
-
 cast-result : tie.Need-cast-result
 cast-result c = search needs
 

@@ -14,7 +14,8 @@ use Rattle.goals.proofs.obligations.node_at.Lts as lts
 use Rattle.goals.proofs.obligations.code_at.Reads as code-at-reads
 
 abbrev Inv-loop : tie.InvT-loop
-Inv-loop tab g here left₀ mask₀ r₀ left mask r = (r + left ≡ sizeOf tab (g .shape .0)) × (nodeAt tab (g .shape .0) (g .at .0) (g .mask) (here .0) ≡ nodeFrom tab (g .shape .0) (g .at .0) (here .0) left r mask)
+Inv-loop tab g here left₀ mask₀ r₀ left mask r =
+    (r + left ≡ sizeOf tab (g .shape .0)) × (nodeAt tab (g .shape .0) (g .at .0) (g .mask) (here .0) ≡ nodeFrom tab (g .shape .0) (g .at .0) (here .0) left r mask)
 
 abbrev μ-loop : tie.MeasureT-loop
 μ-loop tab g here left₀ mask₀ r₀ left mask r = left
@@ -49,7 +50,8 @@ cast-if2 : tie.Need-cast-if2 Inv-loop μ-loop
 cast-if2 c = search needs
 
 returns : tie.Need-returns Inv-loop μ-loop
-returns c = sym (c .before .before .before .before .before .loop .inv .1 ∙ node-here _ _ _ _ _ _ _ (c .before .before .before .before .loop-test .taken) (c .before .before .before .if1 .taken) (sym (c .before .before .code-at .ensures) ∙ c .if2 .taken))
+returns c =
+    sym (c .before .before .before .before .before .loop .inv .1 ∙ node-here _ _ _ _ _ _ _ (c .before .before .before .before .loop-test .taken) (c .before .before .before .if1 .taken) (sym (c .before .before .code-at .ensures) ∙ c .if2 .taken))
 
 add-r : tie.Need-add-r Inv-loop μ-loop
 add-r c =

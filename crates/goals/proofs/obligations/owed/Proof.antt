@@ -1,7 +1,7 @@
 use mathlib.Core.Path.{_≡_, refl, ap, ap₂, sym, _∙_}
 use Rattle.goals.proofs.GoalLaws.{owed-on, owed-off, owed-end, run-on}
 use Rattle.goals.specs.GoalWords.{owedFrom, owedBy, sizeOf, codeAt, Tabled}
-use Rattle.goals.specs.GoalKinds.{wordsOf}
+use Rattle.goals.specs.GoalKinds.{asWords}
 use mathlib.Core.Logic.{⊎-elim}
 use lib.Seq.{sets}
 use lib.ListN.{length, getD, drop, set, length-set}
@@ -12,13 +12,14 @@ use borrow.Author.Needs.{needs}
 use Rattle.goals.proofs.obligations.owed.Statement.{statement}
 use Rattle.goals.proofs.obligations.owed.Tie as tie
 use Rattle.goals.specs.GoalWords.{owedFrom, owedBy, sizeOf, codeAt, Tabled}
-use Rattle.goals.specs.GoalKinds.{wordsOf}
+use Rattle.goals.specs.GoalKinds.{asWords}
 use Rattle.goals.proofs.obligations.owed.Reads as reads
 use Rattle.goals.proofs.obligations.owed.Lts as lts
 use Rattle.goals.proofs.obligations.code_at.Reads as code-at-reads
 
 abbrev Inv-loop : tie.InvT-loop
-Inv-loop tab g out₀ left₀ mask₀ r₀ k₀ out left mask r k = (length out ≡ length out₀) × (r + left ≡ sizeOf tab (g .shape .0)) × (k ≤ r) × (k + length (owedFrom tab (g .shape .0) (g .at .0) left r mask) ≡ length (owedBy tab (wordsOf g))) × (sets out₀ 0 (owedBy tab (wordsOf g)) ≡ sets out k (owedFrom tab (g .shape .0) (g .at .0) left r mask))
+Inv-loop tab g out₀ left₀ mask₀ r₀ k₀ out left mask r k =
+    (length out ≡ length out₀) × (r + left ≡ sizeOf tab (g .shape .0)) × (k ≤ r) × (k + length (owedFrom tab (g .shape .0) (g .at .0) left r mask) ≡ length (owedBy tab (asWords g))) × (sets out₀ 0 (owedBy tab (asWords g)) ≡ sets out k (owedFrom tab (g .shape .0) (g .at .0) left r mask))
 
 abbrev μ-loop : tie.MeasureT-loop
 μ-loop tab g out₀ left₀ mask₀ r₀ k₀ out left mask r k = left

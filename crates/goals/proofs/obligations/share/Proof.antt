@@ -14,8 +14,6 @@ use Rattle.goals.proofs.obligations.share.Lts as lts
 use Rattle.goals.proofs.obligations.common.Reads as common-reads
 use Rattle.goals.proofs.obligations.owed.Reads as owed-reads
 
--- src/obligations.rt:124:26
-
 slice-aggregate-owed : tie.Need-slice-aggregate-owed
 slice-aggregate-owed c = search needs
 
@@ -38,7 +36,8 @@ part-common-end : tie.Need-part-common-end
 part-common-end c =
     let entry = c .before .before .before .before .before .before .before .before in
     let at-owed = c .before .before .before .before .before .owed in
-    let a = entry .args in omega (arith, at-owed .ensures .0, owed-short (a .tab .now) (a .g .shape .0) (a .g .at .0) (sizeOf (a .tab .now) (a .g .shape .0)) 0 (a .g .mask), entry .pre .0 .sizes (a .g .shape .0) (entry .pre .1), at-owed .kept .1 .1 .0)
+    let a = entry .args in
+    omega (arith, at-owed .ensures .0, owed-short (a .tab .now) (a .g .shape .0) (a .g .at .0) (sizeOf (a .tab .now) (a .g .shape .0)) 0 (a .g .mask), entry .pre .0 .sizes (a .g .shape .0) (entry .pre .1), at-owed .kept .1 .1 .0)
 
 sub-common-2 : tie.Need-sub-common-2
 sub-common-2 c = search needs
@@ -50,7 +49,8 @@ part-common-end-2 : tie.Need-part-common-end-2
 part-common-end-2 c =
     let entry = c .before .before .before .before .before .before .before .before .before .before in
     let at-owed2 = c .before .before .before .before .owed2 in
-    let a = entry .args in omega (arith, at-owed2 .ensures .0, owed-short (a .tab .now) (a .h .shape .0) (a .h .at .0) (sizeOf (a .tab .now) (a .h .shape .0)) 0 (a .h .mask), entry .pre .0 .sizes (a .h .shape .0) (entry .pre .2), at-owed2 .kept .1 .1 .0)
+    let a = entry .args in
+    omega (arith, at-owed2 .ensures .0, owed-short (a .tab .now) (a .h .shape .0) (a .h .at .0) (sizeOf (a .tab .now) (a .h .shape .0)) 0 (a .h .mask), entry .pre .0 .sizes (a .h .shape .0) (entry .pre .2), at-owed2 .kept .1 .1 .0)
 
 common-requires : tie.Need-common-requires
 common-requires c κs = search needs

@@ -32,4 +32,5 @@ returns : tie.Need-returns
 returns c = refl
 
 pub goal-at-spec : {M : Type 1} → statement M
-goal-at-spec = tie.close (tie.spec mul-t3 shared-slice-read-t5 add-t7 mul-t8 shared-slice-read-t10 add-t12 mul-t13 shared-slice-read-t15 returns)
+goal-at-spec =
+    tie.close (tie.spec mul-t3 shared-slice-read-t5 add-t7 mul-t8 shared-slice-read-t10 add-t12 mul-t13 shared-slice-read-t15 returns)

@@ -10,8 +10,6 @@ use Rattle.goals.proofs.words.put_goal.Tie as tie
 use Rattle.goals.proofs.words.put_goal.Reads as reads
 use Rattle.goals.proofs.words.put_goal.Lts as lts
 
--- src/words.rt:29:5
-
 mul-out : tie.Need-mul-out
 mul-out c = search needs
 
@@ -34,7 +32,10 @@ mul-out-3 : tie.Need-mul-out-3
 mul-out-3 c = search needs
 
 slice-write-out-3 : tie.Need-slice-write-out-3
-slice-write-out-3 c = let a = c .args in lt-length-set (set (a .out .now) (a .to) (a .g .shape .0)) (a .to + 1) (a .g .at .0) (lt-length-set (a .out .now) (a .to) (a .g .shape .0) (omega arith))
+slice-write-out-3 c =
+    let a = c .args in
+    lt-length-set (set (a .out .now) (a .to) (a .g .shape .0)) (a .to + 1) (a .g .at .0)
+    (lt-length-set (a .out .now) (a .to) (a .g .shape .0) (omega arith))
 
 same-length : tie.Need-same-length
 same-length c = search needs

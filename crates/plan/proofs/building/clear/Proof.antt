@@ -15,39 +15,32 @@ Inv-loop scratch₀ i₀ scratch i = Clearing 32768 scratch₀ scratch i
 abbrev μ-loop : tie.MeasureT-loop
 μ-loop scratch₀ i₀ scratch i = 32768 - i
 
--- src/building.rt:68:5
 loop-holds : tie.Need-loop-holds Inv-loop μ-loop
 loop-holds c = clearing-begin 32768 (c .args .scratch .now)
 
--- src/building.rt:69:9
 mul-scratch : tie.Need-mul-scratch Inv-loop μ-loop
 mul-scratch c = omega (arith, c .loop-test .taken)
 
--- src/building.rt:69:9
 slice-write-scratch : tie.Need-slice-write-scratch Inv-loop μ-loop
 slice-write-scratch c = omega (arith, c .loop-test .taken, c .before .loop .inv .long, c .before .before .pre)
 
--- src/building.rt:70:9
 add-i : tie.Need-add-i Inv-loop μ-loop
 add-i c = omega (arith, c .loop-test .taken)
 
--- src/building.rt:68:5
 loop-less : tie.Need-loop-less Inv-loop μ-loop
 loop-less c = omega (arith, c .loop-test .taken)
 
--- src/building.rt:68:5
 loop-again : tie.Need-loop-again Inv-loop μ-loop
 loop-again c = clearing-on (c .before .loop .inv) (c .loop-test .taken)
 
--- src/building.rt:63:1
 same-length : tie.Need-same-length Inv-loop μ-loop
 same-length c = c .before .loop .inv .long
 
--- src/building.rt:63:1
 returns : tie.Need-returns Inv-loop μ-loop
 returns c =
     let entry = c .before .before in
-    clearing-done (entry .args .scratch .now) (c .before .loop .scratch) (clearing-end (c .before .loop .inv) (c .loop-test .left) (entry .pre))
+    clearing-done (entry .args .scratch .now) (c .before .loop .scratch)
+    (clearing-end (c .before .loop .inv) (c .loop-test .left) (entry .pre))
 
 pub clear-spec : {M : Type 1} → statement M
 clear-spec =

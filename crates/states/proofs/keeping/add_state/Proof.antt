@@ -12,88 +12,79 @@ use Rattle.states.proofs.keeping.add_state.Reads as reads
 use Rattle.states.proofs.keeping.add_state.Lts as lts
 
 abbrev Inv-loop : tie.InvT-loop
-Inv-loop scratch₀ m ws n i₀ scratch i = (i ≤ 3 * n) × (length scratch ≡ length scratch₀) × (sets scratch₀ (128 + 96 * m) (take (3 * n) ws) ≡ sets scratch (128 + 96 * m + i) (take (3 * n - i) (drop i ws)))
+Inv-loop scratch₀ m ws n i₀ scratch i =
+    (i ≤ 3 * n) × (length scratch ≡ length scratch₀) × (sets scratch₀ (128 + 96 * m) (take (3 * n) ws) ≡ sets scratch (128 + 96 * m + i) (take (3 * n - i) (drop i ws)))
 
 abbrev μ-loop : tie.MeasureT-loop
 μ-loop scratch₀ m ws n i₀ scratch i = 3 * n - i
 
--- src/keeping.rt:30:18
 cast-scratch : tie.Need-cast-scratch Inv-loop μ-loop
 cast-scratch c = search needs
 
--- src/keeping.rt:30:5
 mul-scratch : tie.Need-mul-scratch Inv-loop μ-loop
 mul-scratch c = search needs
 
--- src/keeping.rt:30:5
 slice-write-scratch : tie.Need-slice-write-scratch Inv-loop μ-loop
 slice-write-scratch c = search needs
 
--- src/keeping.rt:32:5
 loop-holds : tie.Need-loop-holds Inv-loop μ-loop
 loop-holds c = (omega arith, refl, rw (sub-zero (3 * c .args .n), add-zero (128 + 96 * c .args .m)) refl)
 
--- src/keeping.rt:32:15
 mul-loop : tie.Need-mul-loop Inv-loop μ-loop
 mul-loop c = search needs
 
--- src/keeping.rt:33:37
 mul-scratch-2 : tie.Need-mul-scratch-2 Inv-loop μ-loop
 mul-scratch-2 c = search needs
 
--- src/keeping.rt:33:37
 shared-slice-read-scratch : tie.Need-shared-slice-read-scratch Inv-loop μ-loop
 shared-slice-read-scratch c = search needs
 
--- src/keeping.rt:33:23
 mul-scratch-3 : tie.Need-mul-scratch-3 Inv-loop μ-loop
 mul-scratch-3 c = search needs
 
--- src/keeping.rt:33:17
 add-scratch : tie.Need-add-scratch Inv-loop μ-loop
 add-scratch c = search needs
 
--- src/keeping.rt:33:17
 add-scratch-2 : tie.Need-add-scratch-2 Inv-loop μ-loop
 add-scratch-2 c = search needs
 
--- src/keeping.rt:33:9
 mul-scratch-4 : tie.Need-mul-scratch-4 Inv-loop μ-loop
 mul-scratch-4 c =
     let entry = c .before .before .before in
     omega (arith, length-set (entry .args .scratch .now) (entry .args .m) (entry .args .n))
 
--- src/keeping.rt:33:9
 slice-write-scratch-2 : tie.Need-slice-write-scratch-2 Inv-loop μ-loop
 slice-write-scratch-2 c =
     let entry = c .before .before .before in
     omega (arith, length-set (entry .args .scratch .now) (entry .args .m) (entry .args .n))
 
--- src/keeping.rt:34:9
 add-i : tie.Need-add-i Inv-loop μ-loop
 add-i c = search needs
 
--- src/keeping.rt:32:5
 loop-less : tie.Need-loop-less Inv-loop μ-loop
 loop-less c = search needs
 
--- src/keeping.rt:32:5
 loop-again : tie.Need-loop-again Inv-loop μ-loop
 loop-again c =
     let entry = c .before .before .before in
-    let l = c .before .before .loop in (omega arith, length-set (l .scratch) (128 + 96 * entry .args .m + l .i) _ ∙ l .inv .1, l .inv .2 ∙ store-next (l .scratch) (entry .args .ws .now) (128 + 96 * entry .args .m) (3 * entry .args .n) (l .i) (c .before .loop-test .taken) (entry .pre .3))
+    let l = c .before .before .loop in (
+      omega arith,
+      length-set (l .scratch) (128 + 96 * entry .args .m + l .i) _ ∙ l .inv .1,
+      l .inv .2
+          ∙ store-next (l .scratch) (entry .args .ws .now) (128 + 96 * entry .args .m) (3 * entry .args .n) (l .i) (c .before .loop-test .taken)
+          (entry .pre .3),
+    )
 
--- src/keeping.rt:26:1
 same-length : tie.Need-same-length Inv-loop μ-loop
 same-length c =
     let entry = c .before .before in
     c .before .loop .inv .1 ∙ length-set (entry .args .scratch .now) (entry .args .m) (entry .args .n)
 
--- src/keeping.rt:26:1
 returns : tie.Need-returns Inv-loop μ-loop
 returns c =
     let entry = c .before .before in
-    let l = c .before .loop in sym (l .inv .2 ∙ store-end (l .scratch) (entry .args .ws .now) (128 + 96 * entry .args .m) (3 * entry .args .n) (l .i) (c .loop-test .left))
+    let l = c .before .loop in
+    sym (l .inv .2 ∙ store-end (l .scratch) (entry .args .ws .now) (128 + 96 * entry .args .m) (3 * entry .args .n) (l .i) (c .loop-test .left))
 
 pub add-state-spec : {M : Type 1} → statement M
 add-state-spec =

@@ -17,69 +17,63 @@ Inv-loop scratch m ws n i₀ i = (i ≤ m) × (placeFrom (goalsFrom ws 0 n) scra
 abbrev μ-loop : tie.MeasureT-loop
 μ-loop scratch m ws n i₀ i = m - i
 
--- src/keeping.rt:16:5
 loop-holds : tie.Need-loop-holds Inv-loop μ-loop
 loop-holds c = (omega arith, refl)
 
--- src/keeping.rt:17:48
 mul-same-state : tie.Need-mul-same-state Inv-loop μ-loop
 mul-same-state c =
     let entry = c .before .before .before .before in
     omega (arith, entry .pre .0 .long, entry .pre .0 .few)
 
--- src/keeping.rt:17:42
 add-same-state : tie.Need-add-same-state Inv-loop μ-loop
 add-same-state c =
     let entry = c .before .before .before .before in
     omega (arith, entry .pre .0 .long, entry .pre .0 .few)
 
--- src/keeping.rt:17:56
 mul-same-state-2 : tie.Need-mul-same-state-2 Inv-loop μ-loop
 mul-same-state-2 c =
     let entry = c .before .before .before .before in
     omega (arith, entry .pre .0 .long, entry .pre .0 .few)
 
--- src/keeping.rt:17:56
 shared-slice-read-same-state : tie.Need-shared-slice-read-same-state Inv-loop μ-loop
 shared-slice-read-same-state c =
     let entry = c .before .before .before .before .before in
     omega (arith, entry .pre .0 .long, entry .pre .0 .few)
 
--- src/keeping.rt:17:56
 cast-same-state : tie.Need-cast-same-state Inv-loop μ-loop
-cast-same-state c = omega (arith, c .before .before .before .before .before .pre .0 .counts (c .before .before .loop .i) (c .before .loop-test .taken))
+cast-same-state c =
+    omega (arith, c .before .before .before .before .before .pre .0 .counts (c .before .before .loop .i) (c .before .loop-test .taken))
 
--- src/keeping.rt:17:12
 same-state-requires : tie.Need-same-state-requires Inv-loop μ-loop
 same-state-requires c κs =
     let entry = c .before .before .before .before .before in
-    let k = entry .pre .0 .counts (c .before .before .loop .i) (c .before .loop-test .taken) in let l = entry .pre .0 .long in let f = entry .pre .0 .few in omega (arith, k, l, f)
+    let k = entry .pre .0 .counts (c .before .before .loop .i) (c .before .loop-test .taken) in
+    let l = entry .pre .0 .long in let f = entry .pre .0 .few in omega (arith, k, l, f)
 
--- src/keeping.rt:18:13
 returns : tie.Need-returns Inv-loop μ-loop
 returns c =
     let entry = c .before .before .before .before .before .before .before in
     let at-loop = c .before .before .before .before .loop in
     sym (place-all (goalsFrom (entry .args .ws .now) 0 (entry .args .n)) (entry .args .scratch .now) (entry .args .m) ∙ at-loop .inv .1 ∙ place-here (goalsFrom (entry .args .ws .now) 0 (entry .args .n)) (entry .args .scratch .now) (entry .args .m) (at-loop .i) (c .before .before .before .loop-test .taken) (sym (c .before .same-state .ensures) ∙ c .if1 .taken))
 
--- src/keeping.rt:20:9
 add-i : tie.Need-add-i Inv-loop μ-loop
 add-i c =
     let entry = c .before .before .before .before .before .before .before in
     omega (arith, entry .pre .0 .few)
 
--- src/keeping.rt:16:5
 loop-less : tie.Need-loop-less Inv-loop μ-loop
 loop-less c = search needs
 
--- src/keeping.rt:16:5
 loop-again : tie.Need-loop-again Inv-loop μ-loop
 loop-again c =
     let entry = c .before .before .before .before .before .before .before in
-    let at-loop = c .before .before .before .before .loop in
-    (omega arith, at-loop .inv .1 ∙ place-next (goalsFrom (entry .args .ws .now) 0 (entry .args .n)) (entry .args .scratch .now) (entry .args .m) (at-loop .i) (c .before .before .before .loop-test .taken) (sym (c .before .same-state .ensures) ∙ c .if1 .left))
+    let at-loop = c .before .before .before .before .loop in (
+      omega arith,
+      at-loop .inv .1
+          ∙ place-next (goalsFrom (entry .args .ws .now) 0 (entry .args .n)) (entry .args .scratch .now) (entry .args .m) (at-loop .i)
+          (c .before .before .before .loop-test .taken) (sym (c .before .same-state .ensures) ∙ c .if1 .left),
+    )
 
--- src/keeping.rt:11:1
 returns-2 : tie.Need-returns-2 Inv-loop μ-loop
 returns-2 c =
     let entry = c .before .before .before .before in

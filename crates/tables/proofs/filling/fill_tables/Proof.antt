@@ -12,10 +12,11 @@ use Rattle.tables.proofs.filling.fill_tables.Statement.{statement}
 use Rattle.tables.proofs.filling.fill_tables.Tie as tie
 
 abbrev Inv-loop : tie.InvT-loop
-Inv-loop arity words starts tab₀ k₀ tab k = (k ≤ 1280) × (length tab ≡ length tab₀) × (sets tab₀ 0 (entriesFrom arity words starts 0 1280) ≡ sets tab k (entriesFrom arity words starts k (1280 - k)))
+Inv-loop symbols words starts tab₀ k₀ tab k =
+    (k ≤ 1280) × (length tab ≡ length tab₀) × (sets tab₀ 0 (entriesFrom symbols words starts 0 1280) ≡ sets tab k (entriesFrom symbols words starts k (1280 - k)))
 
 abbrev μ-loop : tie.MeasureT-loop
-μ-loop arity words starts tab₀ k₀ tab k = 1280 - k
+μ-loop symbols words starts tab₀ k₀ tab k = 1280 - k
 
 loop-holds : tie.Need-loop-holds Inv-loop μ-loop
 loop-holds c = (omega arith, refl, refl)
@@ -38,8 +39,15 @@ loop-less c = search needs
 loop-again : tie.Need-loop-again Inv-loop μ-loop
 loop-again c =
     let entry = c .before .before .before .before .before .before .before in
-    let a = entry .args in let l = c .before .before .loop in let h : 0 < 1280 - l .k = omega (arith, c .before .loop-test .taken) in let d : 1280 - l .k - 1 ≡ 1280 - (l .k + 1) = omega arith in
-    (omega arith, length-set (l .tab) (l .k) _ ∙ l .inv .1, l .inv .2 ∙ ap (sets (l .tab) (l .k)) (entries-next (a .arity .now) (a .words .now) (a .starts .now) (l .k) (1280 - l .k) h) ∙ rw (d, c .table-word .ensures, add-one (l .k)) refl)
+    let a = entry .args in
+    let l = c .before .before .loop in
+    let h : 0 < 1280 - l .k = omega (arith, c .before .loop-test .taken) in let d : 1280 - l .k - 1 ≡ 1280 - (l .k + 1) = omega arith in (
+      omega arith,
+      length-set (l .tab) (l .k) _ ∙ l .inv .1,
+      l .inv .2
+          ∙ ap (sets (l .tab) (l .k)) (entries-next (a .symbols .now) (a .words .now) (a .starts .now) (l .k) (1280 - l .k) h)
+          ∙ rw (d, c .table-word .ensures, add-one (l .k)) refl,
+    )
 
 same-length : tie.Need-same-length Inv-loop μ-loop
 same-length c = search needs
@@ -47,7 +55,9 @@ same-length c = search needs
 returns : tie.Need-returns Inv-loop μ-loop
 returns c =
     let entry = c .before .before .before .before .before .before in
-    let a = entry .args in let l = c .before .loop in sym (l .inv .2 ∙ ap (sets (l .tab) (l .k)) (entries-end (a .arity .now) (a .words .now) (a .starts .now) (l .k) (1280 - l .k) (omega (arith, c .loop-test .left))))
+    let a = entry .args in
+    let l = c .before .loop in
+    sym (l .inv .2 ∙ ap (sets (l .tab) (l .k)) (entries-end (a .symbols .now) (a .words .now) (a .starts .now) (l .k) (1280 - l .k) (omega (arith, c .loop-test .left))))
 
 pub fill-tables-spec : {M : Type 1} → statement M
 fill-tables-spec =

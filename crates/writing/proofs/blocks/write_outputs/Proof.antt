@@ -1,8 +1,8 @@
-use Rattle.writing.proofs.WriteLaws.{two-stores, Paired, paired-begin, paired-on, paired-end}
+use Rattle.writing.proofs.WriteLaws.{two-stores, Paired, paired-begin, paired-room, paired-on, paired-end}
 use Rattle.deriving.specs.Orders.{goalOn}
-use lib.ListN.{length, getD, set, length-set}
-use Prim.Native.Nat.{ℕ, _≤_, _<_, _+_, _-_, _*_, _%_}
-use mathlib.Core.Path.{_≡_, refl, ap, ap₂, sym, _∙_}
+use lib.ListN.{length, getD, length-set}
+use Prim.Native.Nat.{_+_, _-_, _*_, _%_}
+use mathlib.Core.Path.{refl, _∙_}
 use native.Mathlib.Omega.{arith}
 use borrow.Author.Needs.{needs}
 use Rattle.writing.proofs.blocks.write_outputs.Statement.{statement}
@@ -11,157 +11,119 @@ use Rattle.writing.proofs.blocks.write_outputs.Reads as reads
 use Rattle.writing.proofs.blocks.write_outputs.Lts as lts
 
 abbrev Inv-loop : tie.InvT-loop
-Inv-loop scratch from out at plan₀ here₀ j₀ plan here j = Paired (λ x. goalOn scratch from (x % 128) .sh) (λ x. goalOn scratch from (x % 128) .an) out plan₀ plan at here j
+Inv-loop scratch from out at plan₀ here₀ j₀ plan here j =
+    Paired (λ x. goalOn scratch from (x % 128) .sh) (λ x. goalOn scratch from (x % 128) .an) out plan₀ plan at here j
 
 abbrev μ-loop : tie.MeasureT-loop
 μ-loop scratch from out at plan₀ here₀ j₀ plan here j = length out - j
 
--- src/blocks.rt:89:16
 cast-plan : tie.Need-cast-plan Inv-loop μ-loop
 cast-plan c = search needs
 
--- src/blocks.rt:89:5
 mul-plan : tie.Need-mul-plan Inv-loop μ-loop
 mul-plan c = search needs
 
--- src/blocks.rt:89:5
 slice-write-plan : tie.Need-slice-write-plan Inv-loop μ-loop
 slice-write-plan c = search needs
 
--- src/blocks.rt:90:20
 add-here : tie.Need-add-here Inv-loop μ-loop
 add-here c = search needs
 
--- src/blocks.rt:92:5
 loop-holds : tie.Need-loop-holds Inv-loop μ-loop
-loop-holds c = paired-begin (λ x. goalOn (c .args .scratch .now) (c .args .from) (x % 128) .sh) (λ x. goalOn (c .args .scratch .now) (c .args .from) (x % 128) .an) (c .args .out .now) (set (c .args .plan .now) (c .args .at) (length (c .args .out .now))) (c .args .at)
+loop-holds c = paired-begin
 
--- src/blocks.rt:93:29
 mul-g : tie.Need-mul-g Inv-loop μ-loop
 mul-g c = search needs
 
--- src/blocks.rt:93:29
 shared-slice-read-g : tie.Need-shared-slice-read-g Inv-loop μ-loop
 shared-slice-read-g c = search needs
 
--- src/blocks.rt:93:28
 cast-g : tie.Need-cast-g Inv-loop μ-loop
-cast-g c = omega (arith, c .before .before .before .pre .1 (c .before .before .loop .j) (c .before .loop-test .taken))
+cast-g c = omega (arith, c .before .before .before .pre .0 .low (c .before .before .loop .j) (c .before .loop-test .taken))
 
--- src/blocks.rt:93:24
 mul-g-2 : tie.Need-mul-g-2 Inv-loop μ-loop
-mul-g-2 c = omega (arith, c .before .before .before .pre .1 (c .before .before .loop .j) (c .before .loop-test .taken))
+mul-g-2 c = omega (arith, c .before .before .before .pre .0 .low (c .before .before .loop .j) (c .before .loop-test .taken))
 
--- src/blocks.rt:93:17
 add-g : tie.Need-add-g Inv-loop μ-loop
 add-g c =
     let entry = c .before .before .before in
-    omega (arith, entry .pre .1 (c .before .before .loop .j) (c .before .loop-test .taken), entry .pre .2)
+    omega (arith, entry .pre .0 .low (c .before .before .loop .j) (c .before .loop-test .taken), entry .pre .1)
 
--- src/blocks.rt:94:22
 mul-plan-2 : tie.Need-mul-plan-2 Inv-loop μ-loop
 mul-plan-2 c =
     let entry = c .before .before .before in
-    omega (arith, entry .pre .1 (c .before .before .loop .j) (c .before .loop-test .taken), entry .pre .2)
+    omega (arith, entry .pre .0 .low (c .before .before .loop .j) (c .before .loop-test .taken), entry .pre .1)
 
--- src/blocks.rt:94:22
 shared-slice-read-plan : tie.Need-shared-slice-read-plan Inv-loop μ-loop
 shared-slice-read-plan c =
     let entry = c .before .before .before .before in
-    omega (arith, entry .pre .1 (c .before .before .before .loop .j) (c .before .before .loop-test .taken), entry .pre .2)
+    omega (arith, entry .pre .0 .low (c .before .before .before .loop .j) (c .before .before .loop-test .taken), entry .pre .1)
 
--- src/blocks.rt:94:9
 mul-plan-3 : tie.Need-mul-plan-3 Inv-loop μ-loop
 mul-plan-3 c =
     let entry = c .before .before .before .before in
-    let at-loop = c .before .before .before .loop in
-    let at-loop-test = c .before .before .loop-test in
-    let s = at-loop .inv in omega (arith, s .stands, s .long, s .below, length-set (entry .args .plan .now) (entry .args .at) (length (entry .args .out .now)), entry .pre .1 (at-loop .j) (at-loop-test .taken), at-loop-test .taken, entry .pre .0, entry .pre .2, entry .pre .3)
+    omega (arith, paired-room (c .before .before .before .loop .inv) (c .before .before .loop-test .taken) (entry .args .plan .now) refl (entry .pre .2))
 
--- src/blocks.rt:94:9
 slice-write-plan-2 : tie.Need-slice-write-plan-2 Inv-loop μ-loop
 slice-write-plan-2 c =
     let entry = c .before .before .before .before in
-    let at-loop = c .before .before .before .loop in
-    let at-loop-test = c .before .before .loop-test in
-    let s = at-loop .inv in omega (arith, s .stands, s .long, s .below, length-set (entry .args .plan .now) (entry .args .at) (length (entry .args .out .now)), entry .pre .1 (at-loop .j) (at-loop-test .taken), at-loop-test .taken, entry .pre .0, entry .pre .2, entry .pre .3)
+    omega (arith, paired-room (c .before .before .before .loop .inv) (c .before .before .loop-test .taken) (entry .args .plan .now) refl (entry .pre .2))
 
--- src/blocks.rt:95:34
 add-plan : tie.Need-add-plan Inv-loop μ-loop
 add-plan c =
     let entry = c .before .before .before .before in
-    omega (arith, entry .pre .1 (c .before .before .before .loop .j) (c .before .before .loop-test .taken), entry .pre .2)
+    omega (arith, entry .pre .0 .low (c .before .before .before .loop .j) (c .before .before .loop-test .taken), entry .pre .1)
 
--- src/blocks.rt:95:26
 mul-plan-4 : tie.Need-mul-plan-4 Inv-loop μ-loop
 mul-plan-4 c =
     let entry = c .before .before .before .before in
-    omega (arith, entry .pre .1 (c .before .before .before .loop .j) (c .before .before .loop-test .taken), entry .pre .2)
+    omega (arith, entry .pre .0 .low (c .before .before .before .loop .j) (c .before .before .loop-test .taken), entry .pre .1)
 
--- src/blocks.rt:95:26
 shared-slice-read-plan-2 : tie.Need-shared-slice-read-plan-2 Inv-loop μ-loop
 shared-slice-read-plan-2 c =
     let entry = c .before .before .before .before .before in
-    omega (arith, entry .pre .1 (c .before .before .before .before .loop .j) (c .before .before .before .loop-test .taken), entry .pre .2)
+    omega (arith, entry .pre .0 .low (c .before .before .before .before .loop .j) (c .before .before .before .loop-test .taken), entry .pre .1)
 
--- src/blocks.rt:95:14
 add-plan-2 : tie.Need-add-plan-2 Inv-loop μ-loop
 add-plan-2 c =
     let entry = c .before .before .before .before .before in
-    let at-loop = c .before .before .before .before .loop in
-    let at-loop-test = c .before .before .before .loop-test in
-    let s = at-loop .inv in omega (arith, s .stands, s .long, s .below, length-set (entry .args .plan .now) (entry .args .at) (length (entry .args .out .now)), entry .pre .1 (at-loop .j) (at-loop-test .taken), at-loop-test .taken, entry .pre .0, entry .pre .2, entry .pre .3)
+    omega (arith, paired-room (c .before .before .before .before .loop .inv) (c .before .before .before .loop-test .taken) (entry .args .plan .now) refl (entry .pre .2))
 
--- src/blocks.rt:95:9
 mul-plan-5 : tie.Need-mul-plan-5 Inv-loop μ-loop
 mul-plan-5 c =
     let entry = c .before .before .before .before .before in
     let at-loop = c .before .before .before .before .loop in
-    let at-loop-test = c .before .before .before .loop-test in
-    let s = at-loop .inv in omega (arith, s .stands, s .long, s .below, length-set (entry .args .plan .now) (entry .args .at) (length (entry .args .out .now)), entry .pre .1 (at-loop .j) (at-loop-test .taken), at-loop-test .taken, entry .pre .0, entry .pre .2, entry .pre .3, length-set (at-loop .plan) (at-loop .here) (getD (entry .args .scratch .now) (entry .args .from + 3 * (getD (entry .args .out .now) (at-loop .j) 0 % 128)) 0))
+    omega (arith, paired-room (at-loop .inv) (c .before .before .before .loop-test .taken) (entry .args .plan .now) refl (entry .pre .2), length-set (at-loop .plan) (at-loop .here) (getD (entry .args .scratch .now) (entry .args .from + 3 * (getD (entry .args .out .now) (at-loop .j) 0 % 128)) 0))
 
--- src/blocks.rt:95:9
 slice-write-plan-3 : tie.Need-slice-write-plan-3 Inv-loop μ-loop
 slice-write-plan-3 c =
     let entry = c .before .before .before .before .before in
     let at-loop = c .before .before .before .before .loop in
-    let at-loop-test = c .before .before .before .loop-test in
-    let s = at-loop .inv in omega (arith, s .stands, s .long, s .below, length-set (entry .args .plan .now) (entry .args .at) (length (entry .args .out .now)), entry .pre .1 (at-loop .j) (at-loop-test .taken), at-loop-test .taken, entry .pre .0, entry .pre .2, entry .pre .3, length-set (at-loop .plan) (at-loop .here) (getD (entry .args .scratch .now) (entry .args .from + 3 * (getD (entry .args .out .now) (at-loop .j) 0 % 128)) 0))
+    omega (arith, paired-room (at-loop .inv) (c .before .before .before .loop-test .taken) (entry .args .plan .now) refl (entry .pre .2), length-set (at-loop .plan) (at-loop .here) (getD (entry .args .scratch .now) (entry .args .from + 3 * (getD (entry .args .out .now) (at-loop .j) 0 % 128)) 0))
 
--- src/blocks.rt:96:9
 add-here-2 : tie.Need-add-here-2 Inv-loop μ-loop
 add-here-2 c =
     let entry = c .before .before .before .before .before in
-    let at-loop = c .before .before .before .before .loop in
-    let at-loop-test = c .before .before .before .loop-test in
-    let s = at-loop .inv in omega (arith, s .stands, s .long, s .below, length-set (entry .args .plan .now) (entry .args .at) (length (entry .args .out .now)), entry .pre .1 (at-loop .j) (at-loop-test .taken), at-loop-test .taken, entry .pre .0, entry .pre .2, entry .pre .3)
+    omega (arith, paired-room (c .before .before .before .before .loop .inv) (c .before .before .before .loop-test .taken) (entry .args .plan .now) refl (entry .pre .2))
 
--- src/blocks.rt:97:9
 add-j : tie.Need-add-j Inv-loop μ-loop
 add-j c = search needs
 
--- src/blocks.rt:92:5
 loop-less : tie.Need-loop-less Inv-loop μ-loop
 loop-less c = search needs
 
--- src/blocks.rt:92:5
 loop-again : tie.Need-loop-again Inv-loop μ-loop
 loop-again c =
-    let entry = c .before .before .before .before .before in
     let at-loop = c .before .before .before .before .loop in
-    paired-on (λ x. goalOn (entry .args .scratch .now) (entry .args .from) (x % 128) .sh) (λ x. goalOn (entry .args .scratch .now) (entry .args .from) (x % 128) .an) (entry .args .out .now) (set (entry .args .plan .now) (entry .args .at) (length (entry .args .out .now))) (entry .args .at) (at-loop .inv) (c .before .before .before .loop-test .taken) _ (two-stores (at-loop .plan) (at-loop .here) _ _)
+    paired-on (at-loop .inv) (c .before .before .before .loop-test .taken) _ (two-stores (at-loop .plan) (at-loop .here) _ _)
 
--- src/blocks.rt:84:1
 same-length : tie.Need-same-length Inv-loop μ-loop
 same-length c =
     let entry = c .before .before in
     c .before .loop .inv .long ∙ length-set (entry .args .plan .now) (entry .args .at) (length (entry .args .out .now))
 
--- src/blocks.rt:84:1
 returns : tie.Need-returns Inv-loop μ-loop
-returns c =
-    let entry = c .before .before in
-    paired-end (λ x. goalOn (entry .args .scratch .now) (entry .args .from) (x % 128) .sh) (λ x. goalOn (entry .args .scratch .now) (entry .args .from) (x % 128) .an) (entry .args .out .now) (set (entry .args .plan .now) (entry .args .at) (length (entry .args .out .now))) (entry .args .at) (c .before .loop .inv) (c .loop-test .left) (entry .args .plan .now) refl
+returns c = paired-end (c .before .loop .inv) (c .loop-test .left) (c .before .before .args .plan .now) refl
 
 pub write-outputs-spec : {M : Type 1} → statement M
 write-outputs-spec =

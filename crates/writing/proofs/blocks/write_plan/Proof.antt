@@ -1,11 +1,9 @@
-use Rattle.writing.proofs.WriteLaws.{Planned, planned-begin, planned-room, planned-below, planned-on, planned-end, plan-total, head-length}
-use Rattle.states.proofs.ExploreLaws.{state-in}
-use Rattle.decoding.proofs.GoodLaws.{good-low, good-label}
-use Rattle.decoding.specs.WordMachine.{stateIn, statesIn}
-use Rattle.decoding.specs.GoodStates.{GoodState}
-use lib.ListN.{length, getD, set, length-set}
-use Prim.Native.Nat.{ℕ, _≤_, _<_, _+_, _-_, _*_, _/_, _%_}
-use mathlib.Core.Path.{_≡_, refl, ap, ap₂, sym, _∙_}
+use Rattle.writing.proofs.WriteLaws.{head-length, Planned, planned-begin, planned-on, planned-end, plan-room, plan-word, row-writable}
+use Rattle.states.proofs.PartLaws.{held-good, held-count, held-stored}
+use Rattle.decoding.proofs.GoodLaws.{good-label}
+use lib.ListN.{length, set, length-set}
+use Prim.Native.Nat.{_-_}
+use mathlib.Core.Path.{refl, _∙_}
 use native.Mathlib.Omega.{arith}
 use borrow.Author.Needs.{needs}
 use Rattle.writing.proofs.blocks.write_plan.Statement.{statement}
@@ -16,178 +14,139 @@ use Rattle.goals.proofs.obligations.label.Reads as label-reads
 use Rattle.writing.proofs.blocks.write_row.Reads as write-row-reads
 
 abbrev Inv-loop : tie.InvT-loop
-Inv-loop tab arity shapes scratch m total plan₀ k at₀ i₀ plan at i = Planned arity tab shapes scratch m plan₀ plan at i
+Inv-loop tab symbols shapes scratch m total plan₀ k at₀ i₀ plan at i = Planned symbols tab shapes scratch m plan₀ plan at i
 
 abbrev μ-loop : tie.MeasureT-loop
-μ-loop tab arity shapes scratch m total plan₀ k at₀ i₀ plan at i = m - i
+μ-loop tab symbols shapes scratch m total plan₀ k at₀ i₀ plan at i = m - i
 
--- src/blocks.rt:33:15
 cast-plan : tie.Need-cast-plan Inv-loop μ-loop
-cast-plan c = omega (arith, c .before .before .before .before .pre .0 .few)
+cast-plan c = omega (arith, c .before .before .before .before .pre .held .kept .few)
 
--- src/blocks.rt:33:5
 slice-write-plan : tie.Need-slice-write-plan Inv-loop μ-loop
-slice-write-plan c =
-    let entry = c .before .before .before .before in
-    omega (arith, plan-total (entry .args .arity .now) (entry .args .tab .now) (entry .args .shapes) (entry .args .scratch .now) (entry .args .m) (entry .args .total) (entry .pre .4), entry .pre .5)
+slice-write-plan c = omega (arith, plan-room (c .before .before .before .before .pre))
 
--- src/blocks.rt:34:15
 cast-plan-2 : tie.Need-cast-plan-2 Inv-loop μ-loop
-cast-plan-2 c = omega (arith, c .before .before .before .before .pre .3 .few-symbols)
+cast-plan-2 c = omega (arith, c .before .before .before .before .pre .ready .few-symbols)
 
--- src/blocks.rt:34:5
 slice-write-plan-2 : tie.Need-slice-write-plan-2 Inv-loop μ-loop
 slice-write-plan-2 c =
     let entry = c .before .before .before .before in
-    omega (arith, plan-total (entry .args .arity .now) (entry .args .tab .now) (entry .args .shapes) (entry .args .scratch .now) (entry .args .m) (entry .args .total) (entry .pre .4), entry .pre .5, length-set (entry .args .plan .now) 0 (entry .args .m))
+    omega (arith, plan-room (entry .pre), length-set (entry .args .plan .now) 0 (entry .args .m))
 
--- src/blocks.rt:35:15
 cast-plan-3 : tie.Need-cast-plan-3 Inv-loop μ-loop
-cast-plan-3 c = omega (arith, c .before .before .before .before .pre .3 .few-shapes)
+cast-plan-3 c = omega (arith, c .before .before .before .before .pre .ready .few-shapes)
 
--- src/blocks.rt:35:5
 slice-write-plan-3 : tie.Need-slice-write-plan-3 Inv-loop μ-loop
 slice-write-plan-3 c =
     let entry = c .before .before .before .before in
-    omega (arith, plan-total (entry .args .arity .now) (entry .args .tab .now) (entry .args .shapes) (entry .args .scratch .now) (entry .args .m) (entry .args .total) (entry .pre .4), entry .pre .5, length-set (entry .args .plan .now) 0 (entry .args .m), length-set (set (entry .args .plan .now) 0 (entry .args .m)) 1 (length (entry .args .arity .now)))
+    omega (arith, plan-room (entry .pre), length-set (entry .args .plan .now) 0 (entry .args .m), length-set (set (entry .args .plan .now) 0 (entry .args .m)) 1 (length (entry .args .symbols .now)))
 
--- src/blocks.rt:36:15
 cast-plan-4 : tie.Need-cast-plan-4 Inv-loop μ-loop
-cast-plan-4 c = omega (arith, c .before .before .before .before .pre .6)
+cast-plan-4 c = omega (arith, c .before .before .before .before .pre .word)
 
--- src/blocks.rt:36:5
 slice-write-plan-4 : tie.Need-slice-write-plan-4 Inv-loop μ-loop
 slice-write-plan-4 c =
     let entry = c .before .before .before .before in
-    omega (arith, plan-total (entry .args .arity .now) (entry .args .tab .now) (entry .args .shapes) (entry .args .scratch .now) (entry .args .m) (entry .args .total) (entry .pre .4), entry .pre .5, head-length (entry .args .plan .now) (entry .args .m) (length (entry .args .arity .now)) (entry .args .shapes) (entry .args .total), length-set (set (set (set (entry .args .plan .now) 0 (entry .args .m)) 1 (length (entry .args .arity .now))) 2 (entry .args .shapes)) 3 (entry .args .total))
+    omega (arith, plan-room (entry .pre), head-length (entry .args .plan .now) (entry .args .m) (length (entry .args .symbols .now)) (entry .args .shapes) (entry .args .total), length-set (set (set (set (entry .args .plan .now) 0 (entry .args .m)) 1 (length (entry .args .symbols .now))) 2 (entry .args .shapes)) 3 (entry .args .total))
 
--- src/blocks.rt:37:18
 add-at : tie.Need-add-at Inv-loop μ-loop
-add-at c = omega (arith, c .before .before .before .before .pre .0 .few)
+add-at c = omega (arith, c .before .before .before .before .pre .held .kept .few)
 
--- src/blocks.rt:37:26
 mul-at : tie.Need-mul-at Inv-loop μ-loop
-mul-at c =
-    let entry = c .before .before .before .before in
-    omega (arith, plan-total (entry .args .arity .now) (entry .args .tab .now) (entry .args .shapes) (entry .args .scratch .now) (entry .args .m) (entry .args .total) (entry .pre .4), entry .pre .6)
+mul-at c = omega (arith, plan-word (c .before .before .before .before .pre))
 
--- src/blocks.rt:37:18
 add-at-2 : tie.Need-add-at-2 Inv-loop μ-loop
-add-at-2 c =
-    let entry = c .before .before .before .before in
-    omega (arith, plan-total (entry .args .arity .now) (entry .args .tab .now) (entry .args .shapes) (entry .args .scratch .now) (entry .args .m) (entry .args .total) (entry .pre .4), entry .pre .6)
+add-at-2 c = omega (arith, plan-word (c .before .before .before .before .pre))
 
--- src/blocks.rt:39:5
 loop-holds : tie.Need-loop-holds Inv-loop μ-loop
-loop-holds c =
-    let entry = c .before .before .before .before in
-    planned-begin (entry .args .arity .now) (entry .args .tab .now) (entry .args .shapes) (entry .args .scratch .now) (entry .args .m) (set (set (set (set (entry .args .plan .now) 0 (entry .args .m)) 1 (length (entry .args .arity .now))) 2 (entry .args .shapes)) 3 (entry .args .total))
+loop-holds c = planned-begin _
 
--- src/blocks.rt:40:43
 mul-label : tie.Need-mul-label Inv-loop μ-loop
 mul-label c =
     let entry = c .before .before .before .before .before .before in
-    omega (arith, entry .pre .0 .few, c .loop-test .taken)
+    omega (arith, entry .pre .held .kept .few, c .loop-test .taken)
 
--- src/blocks.rt:40:37
 add-label : tie.Need-add-label Inv-loop μ-loop
 add-label c =
     let entry = c .before .before .before .before .before .before in
-    omega (arith, entry .pre .0 .few, c .loop-test .taken)
+    omega (arith, entry .pre .held .kept .few, c .loop-test .taken)
 
--- src/blocks.rt:40:51
 mul-label-2 : tie.Need-mul-label-2 Inv-loop μ-loop
 mul-label-2 c =
     let entry = c .before .before .before .before .before .before in
-    omega (arith, entry .pre .0 .few, c .loop-test .taken)
+    omega (arith, entry .pre .held .kept .few, c .loop-test .taken)
 
--- src/blocks.rt:40:51
 shared-slice-read-label : tie.Need-shared-slice-read-label Inv-loop μ-loop
 shared-slice-read-label c =
     let entry = c .before .before .before .before .before .before .before in
-    omega (arith, entry .pre .0 .few, entry .pre .0 .long, c .before .loop-test .taken)
+    omega (arith, entry .pre .held .kept .few, entry .pre .held .kept .long, c .before .loop-test .taken)
 
--- src/blocks.rt:40:51
 cast-label : tie.Need-cast-label Inv-loop μ-loop
 cast-label c =
     let entry = c .before .before .before .before .before .before .before in
-    omega (arith, entry .pre .0 .counts (c .before .before .loop .i) (c .before .loop-test .taken))
+    omega (arith, held-count (entry .pre .held) (c .before .loop-test .taken))
 
--- src/blocks.rt:40:17
 label-requires : tie.Need-label-requires Inv-loop μ-loop
 label-requires c κs =
     let entry = c .before .before .before .before .before .before .before in
-    let at-loop = c .before .before .loop in
-    ((entry .pre .1 (stateIn (entry .args .scratch .now) (at-loop .i)) (state-in (entry .args .scratch .now) (entry .args .m) (at-loop .i) (c .before .loop-test .taken))) .ready .tabled, omega (arith, entry .pre .0 .counts (at-loop .i) (c .before .loop-test .taken)), omega (arith, entry .pre .0 .counts (at-loop .i) (c .before .loop-test .taken), entry .pre .0 .long, entry .pre .0 .few, c .before .loop-test .taken), good-low (entry .pre .1 (stateIn (entry .args .scratch .now) (at-loop .i)) (state-in (entry .args .scratch .now) (entry .args .m) (at-loop .i) (c .before .loop-test .taken))))
+    held-stored (entry .pre .held) (c .before .loop-test .taken)
 
--- src/blocks.rt:40:17
 cast-c : tie.Need-cast-c Inv-loop μ-loop
 cast-c c =
     let entry = c .before .before .before .before .before .before .before .before in
-    let at-loop = c .before .before .before .loop in
-    omega (arith, c .label .ensures, good-label (entry .pre .1 (stateIn (entry .args .scratch .now) (at-loop .i)) (state-in (entry .args .scratch .now) (entry .args .m) (at-loop .i) (c .before .before .loop-test .taken))))
+    omega (arith, c .label .ensures, good-label (held-good (entry .pre .held) (c .before .before .loop-test .taken)))
 
--- src/blocks.rt:41:14
 add-plan : tie.Need-add-plan Inv-loop μ-loop
 add-plan c =
     let entry = c .before .before .before .before .before .before .before .before in
-    omega (arith, entry .pre .0 .few, c .before .before .loop-test .taken)
+    omega (arith, entry .pre .held .kept .few, c .before .before .loop-test .taken)
 
--- src/blocks.rt:41:9
 mul-plan : tie.Need-mul-plan Inv-loop μ-loop
 mul-plan c =
     let entry = c .before .before .before .before .before .before .before .before in
-    omega (arith, entry .pre .0 .few, c .before .before .loop-test .taken)
+    omega (arith, entry .pre .held .kept .few, c .before .before .loop-test .taken)
 
--- src/blocks.rt:41:9
 slice-write-plan-5 : tie.Need-slice-write-plan-5 Inv-loop μ-loop
 slice-write-plan-5 c =
     let entry = c .before .before .before .before .before .before .before .before in
-    omega (arith, c .before .before .loop-test .taken, c .before .before .before .loop .inv .long, head-length (entry .args .plan .now) (entry .args .m) (length (entry .args .arity .now)) (entry .args .shapes) (entry .args .total), plan-total (entry .args .arity .now) (entry .args .tab .now) (entry .args .shapes) (entry .args .scratch .now) (entry .args .m) (entry .args .total) (entry .pre .4), entry .pre .5)
+    omega (arith, c .before .before .loop-test .taken, c .before .before .before .loop .inv .long, head-length (entry .args .plan .now) (entry .args .m) (length (entry .args .symbols .now)) (entry .args .shapes) (entry .args .total), plan-room (entry .pre))
 
--- src/blocks.rt:42:9
 write-row-requires : tie.Need-write-row-requires Inv-loop μ-loop
 write-row-requires c κs =
     let entry = c .before .before .before .before .before .before .before .before .before in
-    let at-loop = c .before .before .before .before .loop in
-    let at-loop-test = c .before .before .before .loop-test in
-    let r = planned-room (entry .args .arity .now) (entry .args .tab .now) (entry .args .shapes) (entry .args .scratch .now) (entry .args .m) (at-loop .inv) (at-loop-test .taken) in let l = length-set (at-loop .plan) (4 + (at-loop .i)) (c .before .label .result) in
-    (entry .pre .0, at-loop-test .taken, entry .pre .1, entry .pre .2 (stateIn (entry .args .scratch .now) (at-loop .i)) (state-in (entry .args .scratch .now) (entry .args .m) (at-loop .i) (at-loop-test .taken)), c .before .label .ensures, (planned-below (entry .args .arity .now) (entry .args .tab .now) (entry .args .shapes) (entry .args .scratch .now) (entry .args .m) (at-loop .inv) (at-loop-test .taken)), omega (arith, r, l, at-loop .inv .long, head-length (entry .args .plan .now) (entry .args .m) (length (entry .args .arity .now)) (entry .args .shapes) (entry .args .total), plan-total (entry .args .arity .now) (entry .args .tab .now) (entry .args .shapes) (entry .args .scratch .now) (entry .args .m) (entry .args .total) (entry .pre .4), entry .pre .5), omega (arith, r, plan-total (entry .args .arity .now) (entry .args .tab .now) (entry .args .shapes) (entry .args .scratch .now) (entry .args .m) (entry .args .total) (entry .pre .4), entry .pre .6))
+    row-writable (entry .pre) (c .before .before .before .before .loop .inv) (c .before .before .before .loop-test .taken)
+    (head-length (entry .args .plan .now) (entry .args .m) (length (entry .args .symbols .now)) (entry .args .shapes) (entry .args .total))
+    _ (c .before .label .ensures)
 
--- src/blocks.rt:43:9
 add-i : tie.Need-add-i Inv-loop μ-loop
 add-i c = search needs
 
--- src/blocks.rt:39:5
 loop-less : tie.Need-loop-less Inv-loop μ-loop
 loop-less c = search needs
 
--- src/blocks.rt:39:5
 loop-again : tie.Need-loop-again Inv-loop μ-loop
 loop-again c =
     let entry = c .before .before .before .before .before .before .before .before .before .before .before .before in
     let at-loop = c .before .before .before .before .before .before .before .loop in
     let at-loop-test = c .before .before .before .before .before .before .loop-test in
-    let at-label = c .before .before .before .before .label in
-    let at-write-row = c .before .before .write-row in
-    planned-on (entry .args .arity .now) (entry .args .tab .now) (entry .args .shapes) (entry .args .scratch .now) (entry .args .m) (at-loop .inv) (at-loop-test .taken) (entry .pre .1 (stateIn (entry .args .scratch .now) (at-loop .i)) (state-in (entry .args .scratch .now) (entry .args .m) (at-loop .i) (at-loop-test .taken))) (at-label .result) (at-label .ensures) _ (at-write-row .result) (at-write-row .ensures .1) (at-write-row .ensures .0)
+    planned-on (at-loop .inv) (at-loop-test .taken) (held-good (entry .pre .held) (at-loop-test .taken)) _
+    (c .before .before .before .before .label .ensures) _ _ (c .before .before .write-row .ensures)
 
--- src/blocks.rt:28:1
 same-length : tie.Need-same-length Inv-loop μ-loop
 same-length c =
     let entry = c .before .before .before .before .before .before in
-    c .before .loop .inv .long ∙ head-length (entry .args .plan .now) (entry .args .m) (length (entry .args .arity .now)) (entry .args .shapes) (entry .args .total)
+    c .before .loop .inv .long
+    ∙ head-length (entry .args .plan .now) (entry .args .m) (length (entry .args .symbols .now)) (entry .args .shapes) (entry .args .total)
 
--- src/blocks.rt:28:1
 returns : tie.Need-returns Inv-loop μ-loop
 returns c =
     let entry = c .before .before .before .before .before .before in
-    planned-end (entry .args .arity .now) (entry .args .tab .now) (entry .args .shapes) (entry .args .scratch .now) (entry .args .m) (c .before .loop .inv) (c .loop-test .left) (entry .args .plan .now) (entry .args .total) (entry .pre .4) refl
+    planned-end (c .before .loop .inv) (c .loop-test .left) (entry .args .plan .now) (entry .args .total) (entry .pre .sum) refl
 
 cast-t25 : tie.Need-cast-t25 Inv-loop μ-loop
 cast-t25 c =
     let entry = c .before .before .before .before .before .before .before .before in
-    omega (arith, c .before .before .loop-test .taken, entry .pre .0 .few)
+    omega (arith, c .before .before .loop-test .taken, entry .pre .held .kept .few)
 
 pub write-plan-spec : {M : Type 1} → statement M
 write-plan-spec =

@@ -1,11 +1,11 @@
-use Rattle.writing.proofs.WriteLaws.{Paired, paired-begin, paired-on, paired-end}
-use Rattle.goals.specs.WordStages.{leastCode}
+use Rattle.writing.proofs.WriteLaws.{Paired, paired-begin, paired-room, paired-on, paired-end}
+use Rattle.states.specs.Meeting.{placeOf}
+use Rattle.goals.specs.WordStages.{displacementW, liftedW}
 use Rattle.decoding.specs.WordMachine.{statesIn}
 use Rattle.deriving.specs.Orders.{classAt}
-use Rattle.states.specs.Meeting.{placeOf, liftedW}
-use lib.ListN.{length, getD, set, length-set}
-use Prim.Native.Nat.{ℕ, _≤_, _<_, _+_, _-_, _*_, _%_}
-use mathlib.Core.Path.{_≡_, refl, ap, ap₂, sym, _∙_}
+use lib.ListN.{length, length-set}
+use Prim.Native.Nat.{_-_, _%_}
+use mathlib.Core.Path.{refl, _∙_}
 use native.Mathlib.Omega.{arith}
 use borrow.Author.Needs.{needs}
 use Rattle.writing.proofs.blocks.write_successors.Statement.{statement}
@@ -15,88 +15,76 @@ use Rattle.writing.proofs.blocks.write_successors.Lts as lts
 use Rattle.writing.proofs.blocks.write_successor.Reads as write-successor-reads
 
 abbrev Inv-loop : tie.InvT-loop
-Inv-loop scratch m goals n dep order at plan₀ here₀ j₀ plan here j = Paired (λ x. placeOf (statesIn scratch m) (liftedW (classAt dep goals n (x % 128)))) (λ x. leastCode 65535 (classAt dep goals n (x % 128))) order plan₀ plan at here j
+Inv-loop scratch m goals n dep order at plan₀ here₀ j₀ plan here j =
+    Paired (λ x. placeOf (statesIn scratch m) (liftedW (classAt dep goals n (x % 128)))) (λ x. displacementW (classAt dep goals n (x % 128))) order plan₀ plan at here j
 
 abbrev μ-loop : tie.MeasureT-loop
 μ-loop scratch m goals n dep order at plan₀ here₀ j₀ plan here j = length order - j
 
--- src/blocks.rt:108:16
 cast-plan : tie.Need-cast-plan Inv-loop μ-loop
 cast-plan c = search needs
 
--- src/blocks.rt:108:5
 mul-plan : tie.Need-mul-plan Inv-loop μ-loop
 mul-plan c = search needs
 
--- src/blocks.rt:108:5
 slice-write-plan : tie.Need-slice-write-plan Inv-loop μ-loop
 slice-write-plan c = search needs
 
--- src/blocks.rt:109:20
 add-here : tie.Need-add-here Inv-loop μ-loop
 add-here c = search needs
 
--- src/blocks.rt:111:5
 loop-holds : tie.Need-loop-holds Inv-loop μ-loop
-loop-holds c =
-    let entry = c .before .before .before .before in
-    paired-begin (λ x. placeOf (statesIn (entry .args .scratch .now) (entry .args .m)) (liftedW (classAt (entry .args .dep .now) (entry .args .goals .now) (entry .args .n) (x % 128)))) (λ x. leastCode 65535 (classAt (entry .args .dep .now) (entry .args .goals .now) (entry .args .n) (x % 128))) (entry .args .order .now) (set (entry .args .plan .now) (entry .args .at) (length (entry .args .order .now))) (entry .args .at)
+loop-holds c = paired-begin
 
--- src/blocks.rt:112:53
 mul-write-successor : tie.Need-mul-write-successor Inv-loop μ-loop
 mul-write-successor c = search needs
 
--- src/blocks.rt:112:53
 shared-slice-read-write-successor : tie.Need-shared-slice-read-write-successor Inv-loop μ-loop
 shared-slice-read-write-successor c = search needs
 
--- src/blocks.rt:112:52
 cast-write-successor : tie.Need-cast-write-successor Inv-loop μ-loop
 cast-write-successor c =
     let entry = c .before .before .before .before .before .before .before in
-    omega (arith, entry .pre .5 (c .before .before .loop .j) (c .before .loop-test .taken))
+    omega (arith, entry .pre .2 .low (c .before .before .loop .j) (c .before .loop-test .taken))
 
--- src/blocks.rt:112:9
 write-successor-requires : tie.Need-write-successor-requires Inv-loop μ-loop
 write-successor-requires c κs =
     let entry = c .before .before .before .before .before .before .before .before in
     let at-loop = c .before .before .before .loop in
-    let at-loop-test = c .before .before .loop-test in
-    let s = at-loop .inv in (entry .pre .0, entry .pre .1, entry .pre .2, entry .pre .3, entry .pre .5 (at-loop .j) (at-loop-test .taken), entry .pre .6 (at-loop .j) (at-loop-test .taken), omega (arith, s .stands, s .long, s .below, length-set (entry .args .plan .now) (entry .args .at) (length (entry .args .order .now)), at-loop-test .taken, entry .pre .4, entry .pre .7))
+    let at-loop-test = c .before .before .loop-test in (
+      entry .pre .0,
+      entry .pre .1,
+      entry .pre .2 .low (at-loop .j) (at-loop-test .taken),
+      entry .pre .3 (at-loop .j) (at-loop-test .taken),
+      paired-room (at-loop .inv) (at-loop-test .taken) (entry .args .plan .now) refl (entry .pre .4),
+    )
 
--- src/blocks.rt:113:9
 add-here-2 : tie.Need-add-here-2 Inv-loop μ-loop
 add-here-2 c =
     let entry = c .before .before .before .before .before .before .before .before .before .before .before in
     let at-loop = c .before .before .before .before .before .before .loop in
-    let s = at-loop .inv in omega (arith, s .stands, s .long, s .below, length-set (entry .args .plan .now) (entry .args .at) (length (entry .args .order .now)), c .before .before .before .before .before .loop-test .taken, entry .pre .4, entry .pre .7)
+    omega (arith, paired-room (at-loop .inv) (c .before .before .before .before .before .loop-test .taken) (entry .args .plan .now) refl (entry .pre .4))
 
--- src/blocks.rt:114:9
 add-j : tie.Need-add-j Inv-loop μ-loop
 add-j c = search needs
 
--- src/blocks.rt:111:5
 loop-less : tie.Need-loop-less Inv-loop μ-loop
 loop-less c = search needs
 
--- src/blocks.rt:111:5
 loop-again : tie.Need-loop-again Inv-loop μ-loop
 loop-again c =
-    let entry = c .before .before .before .before .before .before .before .before .before .before .before in
     let at-loop = c .before .before .before .before .before .before .loop in
-    paired-on (λ x. placeOf (statesIn (entry .args .scratch .now) (entry .args .m)) (liftedW (classAt (entry .args .dep .now) (entry .args .goals .now) (entry .args .n) (x % 128)))) (λ x. leastCode 65535 (classAt (entry .args .dep .now) (entry .args .goals .now) (entry .args .n) (x % 128))) (entry .args .order .now) (set (entry .args .plan .now) (entry .args .at) (length (entry .args .order .now))) (entry .args .at) (at-loop .inv) (c .before .before .before .before .before .loop-test .taken) _ (c .before .before .write-successor .ensures)
+    paired-on (at-loop .inv) (c .before .before .before .before .before .loop-test .taken) _ (c .before .before .write-successor .ensures)
 
--- src/blocks.rt:103:1
 same-length : tie.Need-same-length Inv-loop μ-loop
 same-length c =
     let entry = c .before .before .before .before .before .before in
     c .before .loop .inv .long ∙ length-set (entry .args .plan .now) (entry .args .at) (length (entry .args .order .now))
 
--- src/blocks.rt:103:1
 returns : tie.Need-returns Inv-loop μ-loop
 returns c =
     let entry = c .before .before .before .before .before .before in
-    paired-end (λ x. placeOf (statesIn (entry .args .scratch .now) (entry .args .m)) (liftedW (classAt (entry .args .dep .now) (entry .args .goals .now) (entry .args .n) (x % 128)))) (λ x. leastCode 65535 (classAt (entry .args .dep .now) (entry .args .goals .now) (entry .args .n) (x % 128))) (entry .args .order .now) (set (entry .args .plan .now) (entry .args .at) (length (entry .args .order .now))) (entry .args .at) (c .before .loop .inv) (c .loop-test .left) (entry .args .plan .now) refl
+    paired-end (c .before .loop .inv) (c .loop-test .left) (entry .args .plan .now) refl
 
 pub write-successors-spec : {M : Type 1} → statement M
 write-successors-spec =

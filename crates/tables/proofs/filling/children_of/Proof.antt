@@ -3,8 +3,8 @@ use mathlib.Core.Path.{_≡_, refl, ap, sym, _∙_}
 use native.Mathlib.Omega.{arith}
 use lib.ListN.{length, getD}
 use borrow.Author.Needs.{needs}
-use Rattle.tables.proofs.filling.arity_of.Statement.{statement}
-use Rattle.tables.proofs.filling.arity_of.Tie as tie
+use Rattle.tables.proofs.filling.children_of.Statement.{statement}
+use Rattle.tables.proofs.filling.children_of.Tie as tie
 
 shared-slice-read-result : tie.Need-shared-slice-read-result
 shared-slice-read-result c = search needs
@@ -16,7 +16,7 @@ returns : tie.Need-returns
 returns c = (refl, omega (arith, c .shared-slice-known .given (c .before .before .args .w) .fits))
 
 returns-2 : tie.Need-returns-2
-returns-2 c = (sym (past (c .before .args .arity .now) (c .before .args .w) 0 (c .if1 .left)), omega arith)
+returns-2 c = (sym (past (c .before .args .symbols .now) (c .before .args .w) 0 (c .if1 .left)), omega arith)
 
-pub arity-of-spec : {M : Type 1} → statement M
-arity-of-spec = tie.close (tie.spec shared-slice-read-result cast-result returns returns-2)
+pub children-of-spec : {M : Type 1} → statement M
+children-of-spec = tie.close (tie.spec shared-slice-read-result cast-result returns returns-2)
