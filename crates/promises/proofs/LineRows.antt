@@ -1,8 +1,10 @@
 -- A line is written whole at the buffer's start, or refused.
 --   by-line       any text of at most 1,400 bytes
---   by-first-line by-match-line by-refusal-line   the three lines
-use mathlib.Core.Path.{_≡_, sym}
+--   by-first-line by-refusal-line   the first line, a refusal's line
+--   by-match-line   a match's line: 30, 34, or the line with the path that leads to the node
+use mathlib.Core.Path.{_≡_, refl, ap, sym, _∙_}
 use mathlib.Core.List.{List, _++_}
+use mathlib.Core.Option.{Option, none, some, Option·map}
 use Prim.Native.Nat.{ℕ, _<_, _≤_}
 use native.Mathlib.Omega.{arith}
 use native.Mathlib.Decide.{decLt}
@@ -11,16 +13,17 @@ use Rattle.kinds.specs.Reasons.{numberOf}
 use Rattle.kinds.specs.declared.Reason.{Reason}
 use Rattle.kinds.proofs.ListLaws.{onto-sets}
 use Rattle.counting.specs.Counting.{matchAt}
-use Rattle.report.specs.Paths.{pathTo}
-use Rattle.report.specs.Text.{digits, pathText, line, firstLine, refusalText}
-use Rattle.report.specs.Lines.{LineOutcome, outOf, written, lineOut, firstOut, refusalOut}
-use Rattle.report.specs.declared.Written.the-variants as answer
-use Rattle.report.proofs.PathLaws.{path-few}
-use Rattle.report.proofs.TextLaws.{line-short, line-is, digits-short, text-few}
-use Rattle.promises.specs.Demand1.{By, LineRow, line-30, writes}
+use Rattle.kinds.specs.Positions.{Pos}
+use Rattle.kinds.proofs.Options.{none-not}
+use Rattle.report.specs.Paths.{pathOf, Leads}
+use Rattle.report.specs.Text.{digits, pathText, matchLine, firstLine, refusalText}
+use Rattle.report.specs.Lines.{LineOutcome, written, writtenIf, lineOut, firstOut, refusalOut}
+use Rattle.report.proofs.FollowPath.{path-leads, leads-path}
+use Rattle.report.proofs.TextLaws.{line-short, line-is, digits-short, text-few, match-short, nowhere}
+use Rattle.promises.specs.Demand1.{By, wrote, LineRow, line-30, writes, MatchRow, match-30, match-34, match-writes}
 
 module _ (text buffer : List ℕ) (small : length text ≤ 1400) where
-  whole : 1400 ≤ length buffer → written text buffer ≡ outOf (answer.Bytes (length text)) (text ++ drop (length text) buffer)
+  pub whole : 1400 ≤ length buffer → written text buffer ≡ wrote text buffer
   whole h =
       sym (line-is {o′ = text ++ drop (length text) buffer} {e = length text} h (record { end = omega arith; text = onto-sets text buffer (omega arith) }))
 
@@ -43,8 +46,35 @@ by-first-line n s m c buffer = by-line (firstLine n s m c) buffer (rw (length-ap
 pub by-refusal-line : (r : Reason) (p : ℕ) (buffer : List ℕ) → By (LineRow (refusalText r p) buffer) (refusalOut r p buffer)
 by-refusal-line r p buffer = by-line (refusalText r p) buffer (rw (length-append (digits (numberOf r)) _, length-append (digits p) _) (omega (arith, digits-short (numberOf r), digits-short p)))
 
-pub by-match-line : (spans : List ℕ) (x j : ℕ) (buffer : List ℕ) → By (LineRow (line spans (matchAt x j)) buffer) (lineOut spans x j buffer)
-by-match-line spans x j buffer =
-    let path = pathTo 64 spans x 0 in
-    by-line (line spans (matchAt x j)) buffer (rw (length-append (digits x) _, length-append (digits j) _, length-append (pathText path) _)
-    (omega (arith, digits-short x, digits-short j, text-few path, path-few 64 spans x 0)))
+-- ---- a match, whose line there is exactly where a path leads to its node
+module _ (spans : List ℕ) (x j : ℕ) (buffer : List ℕ) where
+  small : (p : Pos) → Leads spans x p → length (matchLine (matchAt x j) p) ≤ 1400
+  small p h = rw (length-append (digits x) _, length-append (digits j) _, length-append (pathText p) _)
+      (omega (arith, digits-short x, digits-short j, text-few p, h .few))
+
+  with-path : 1400 ≤ length buffer → (p : Pos) → Leads spans x p → lineOut spans x j buffer ≡ wrote (matchLine (matchAt x j) p) buffer
+  with-path room p h =
+      ap (λ q. writtenIf (Option·map (matchLine (matchAt x j)) q) buffer) (leads-path spans x p h)
+      ∙ whole (matchLine (matchAt x j) p) buffer (small p h) room
+
+  pub by-match-line : By (MatchRow spans x j buffer) (lineOut spans x j buffer)
+  by-match-line = (row (decLt (length buffer) 1400) (pathOf spans x) refl, only)
+    where
+      row : Dec (length buffer < 1400) → (q : Option Pos) → pathOf spans x ≡ q → MatchRow spans x j buffer (lineOut spans x j buffer)
+      row (yes h) q e = rw (← match-short spans x j buffer h) (match-30 h)
+      row (no h) none e =
+          let room : 1400 ≤ length buffer = omega arith in
+          rw (← nowhere spans x j buffer room e) (match-34 room λ p l. none-not (sym e ∙ leads-path spans x p l))
+      row (no h) (some p) e =
+          let room : 1400 ≤ length buffer = omega arith in
+          let l = path-leads spans x p e in
+          rw (with-path room p l) (match-writes room p l)
+
+      only : (o : LineOutcome) → MatchRow spans x j buffer o → lineOut spans x j buffer ≡ o
+      only _ (match-30 h) = sym (match-short spans x j buffer h)
+      only _ (match-34 h no-path) = sym (nowhere spans x j buffer h (none-found (pathOf spans x) refl))
+        where
+          none-found : (q : Option Pos) → pathOf spans x ≡ q → pathOf spans x ≡ none
+          none-found none e = e
+          none-found (some p) e = absurd (no-path p (path-leads spans x p e))
+      only _ (match-writes room p l) = with-path room p l

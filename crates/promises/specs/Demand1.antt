@@ -5,7 +5,9 @@
 --   StartRow    31, 30; or a walk that is begun
 --   StepRow     32, 34; or a step, by `StepFound`
 --   CountRow    31, 30; or a number, for matches and for clashes
---   LineRow     30 for a buffer under 1,400 bytes (docs/DECISIONS.md); or the line at its start, the bytes behind it as they were
+--   wrote       a line at the buffer's start, the bytes behind it as they were
+--   LineRow     30 for a buffer under 1,400 bytes (docs/DECISIONS.md); or the line
+--   MatchRow    30; 34 for a node to which no path leads by the spans lent; or the line with the path that does
 --   FoundRow    34; or what is found: in `Found`, for subtree, the plan readers and a position's child
 --   By          an outcome has a row, and every row that applies gives this outcome
 use mathlib.Core.Path.{_≡_}
@@ -15,6 +17,7 @@ use lib.ListN.{length, getD, take, drop}
 use lib.Seq.{sets}
 use Rattle.kinds.specs.Lists.{gather}
 use Rattle.kinds.specs.Kinds.{position, childOf}
+use Rattle.kinds.specs.Positions.{Pos}
 use Rattle.kinds.specs.declared.Position.{Position}
 use Rattle.kinds.specs.declared.Child.the-variants as child
 use Rattle.kinds.specs.declared.Reason.{Reason}
@@ -40,7 +43,8 @@ use Rattle.readers.specs.declared.Label.the-variants as label
 use Rattle.readers.specs.declared.Block.the-variants as block
 use Rattle.readers.specs.declared.Announcement.the-variants as announcement
 use Rattle.readers.specs.declared.Successor.the-variants as successor
-use Rattle.report.specs.Text.{line, firstLine, refusalText}
+use Rattle.report.specs.Paths.{Leads}
+use Rattle.report.specs.Text.{matchLine, firstLine, refusalText}
 use Rattle.report.specs.Lines.{lineRoom, outOf, lineOut, firstOut, refusalOut, LineOutcome}
 use Rattle.report.specs.declared.Written.the-variants as written
 use Rattle.promises.specs.Found.{FoundRow, Standing, LabelFound, BlockFound, AnnouncementFound, SuccessorFound, ChildFound}
@@ -101,9 +105,17 @@ pub data StepRow (plan score spans : List ℕ) (i : ℕ) (w : Walk) : WalkOutcom
   takes : i < w .count .waiting → (v : Walk) → StepFound plan score spans i w v → StepRow plan score spans i w (goOn v)
 
 -- ---- a line of the report
+abbrev pub wrote : List ℕ → List ℕ → LineOutcome
+wrote text buffer = outOf (written.Bytes (length text)) (text ++ drop (length text) buffer)
+
 pub data LineRow (text buffer : List ℕ) : LineOutcome → Type 0 where
   line-30 : length buffer < lineRoom → LineRow text buffer (outOf (written.Refused ShortBuffers) buffer)
-  writes : lineRoom ≤ length buffer → LineRow text buffer (outOf (written.Bytes (length text)) (text ++ drop (length text) buffer))
+  writes : lineRoom ≤ length buffer → LineRow text buffer (wrote text buffer)
+
+pub data MatchRow (spans : List ℕ) (x j : ℕ) (buffer : List ℕ) : LineOutcome → Type 0 where
+  match-30 : length buffer < lineRoom → MatchRow spans x j buffer (outOf (written.Refused ShortBuffers) buffer)
+  match-34 : lineRoom ≤ length buffer → ((p : Pos) → Leads spans x p → ⊥) → MatchRow spans x j buffer (outOf (written.Refused OutOfRange) buffer)
+  match-writes : lineRoom ≤ length buffer → (p : Pos) → Leads spans x p → MatchRow spans x j buffer (wrote (matchLine (matchAt x j) p) buffer)
 
 pub record Demand1 : Type 0 where
   pub opening : (file : List ℕ) (l : Lent) → Below 256 file → By (OpenRow file l) (opened file l)
@@ -121,6 +133,6 @@ pub record Demand1 : Type 0 where
   pub successor : (plan : List ℕ) (m k s f i : ℕ)
       → By (FoundRow (SuccessorFound plan m k s f i) (successor.Refused OutOfRange) (λ x. successor.Of (record { 0 = x .0 }) (position (x .1)))) (successorOf plan m k s f i)
   pub first-line : (n s m c : ℕ) (buffer : List ℕ) → By (LineRow (firstLine n s m c) buffer) (firstOut n s m c buffer)
-  pub match-line : (spans : List ℕ) (x j : ℕ) (buffer : List ℕ) → By (LineRow (line spans (matchAt x j)) buffer) (lineOut spans x j buffer)
+  pub match-line : (spans : List ℕ) (x j : ℕ) (buffer : List ℕ) → By (MatchRow spans x j buffer) (lineOut spans x j buffer)
   pub refusal-line : (r : Reason) (p : ℕ) (buffer : List ℕ) → By (LineRow (refusalText r p) buffer) (refusalOut r p buffer)
   pub child-of : (p : Position) (i : ℕ) → By (FoundRow (ChildFound p i) child.Beyond (λ c. child.At (position c))) (childOf p i)
