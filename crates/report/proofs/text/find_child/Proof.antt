@@ -46,7 +46,9 @@ loop-holds c = (omega arith, refl)
 
 -- src/text.rt:24:13
 returns-2 : tie.Need-returns-2 Inv-loop μ-loop
-returns-2 c = sym (c .before .before .loop .inv .1 ∙ child-out _ _ _ _ _ (c .before .loop-test .taken) (c .if2 .taken))
+returns-2 c =
+    let at-loop = c .before .before .loop in
+    sym (at-loop .inv .1 ∙ child-out _ _ _ (at-loop .k) (at-loop .here) (omega (arith, c .before .loop-test .taken)) (c .if2 .taken))
 
 -- src/text.rt:26:20
 mul-size : tie.Need-mul-size Inv-loop μ-loop
@@ -62,7 +64,9 @@ cast-size c = omega (arith, c .shared-slice-known2 .given (c .before .before .be
 
 -- src/text.rt:28:13
 returns-3 : tie.Need-returns-3 Inv-loop μ-loop
-returns-3 c = sym (c .before .before .before .before .loop .inv .1 ∙ child-empty _ _ _ _ _ (c .before .before .before .loop-test .taken) (c .before .before .if2 .left) (c .if3 .taken))
+returns-3 c =
+    let at-loop = c .before .before .before .before .loop in
+    sym (at-loop .inv .1 ∙ child-empty _ _ _ (at-loop .k) (at-loop .here) (omega (arith, c .before .before .before .loop-test .taken)) (c .before .before .if2 .left) (c .if3 .taken))
 
 -- src/text.rt:30:17
 add-e : tie.Need-add-e Inv-loop μ-loop
@@ -70,7 +74,9 @@ add-e c = omega (arith, c .before .shared-slice-known2 .given (c .before .before
 
 -- src/text.rt:32:13
 returns-4 : tie.Need-returns-4 Inv-loop μ-loop
-returns-4 c = sym (c .before .before .before .before .before .loop .inv .1 ∙ child-past _ _ _ _ _ (c .before .before .before .before .loop-test .taken) (c .before .before .before .if2 .left) (c .before .if3 .left) (c .if4 .taken))
+returns-4 c =
+    let at-loop = c .before .before .before .before .before .loop in
+    sym (at-loop .inv .1 ∙ child-past _ _ _ (at-loop .k) (at-loop .here) (omega (arith, c .before .before .before .before .loop-test .taken)) (c .before .before .before .if2 .left) (c .before .if3 .left) (c .if4 .taken))
 
 -- src/text.rt:35:29
 add-t18 : tie.Need-add-t18 Inv-loop μ-loop
@@ -80,7 +86,7 @@ add-t18 c = search needs
 returns-5 : tie.Need-returns-5 Inv-loop μ-loop
 returns-5 c =
     let at-loop = c .before .before .before .before .before .before .loop in
-    sym (at-loop .inv .1 ∙ child-here _ _ _ _ _ (c .before .before .before .before .before .loop-test .taken) (c .before .before .before .before .if2 .left) (c .before .before .if3 .left) (c .before .if4 .left) (c .if5 .taken))
+    sym (at-loop .inv .1 ∙ child-here _ _ _ (at-loop .k) (at-loop .here) (omega (arith, c .before .before .before .before .before .loop-test .taken)) (c .before .before .before .before .if2 .left) (c .before .before .if3 .left) (c .before .if4 .left) (c .if5 .taken))
 
 -- src/text.rt:38:9
 add-k : tie.Need-add-k Inv-loop μ-loop
@@ -94,7 +100,7 @@ loop-less c = search needs
 loop-again : tie.Need-loop-again Inv-loop μ-loop
 loop-again c =
     let at-loop = c .before .before .before .before .before .before .loop in
-    (omega arith, at-loop .inv .1 ∙ child-next _ _ _ _ _ (c .before .before .before .before .before .loop-test .taken) (c .before .before .before .before .if2 .left) (c .before .before .if3 .left) (c .before .if4 .left) (c .if5 .left))
+    (omega arith, at-loop .inv .1 ∙ child-next _ _ _ (at-loop .k) (at-loop .here) (omega (arith, c .before .before .before .before .before .loop-test .taken)) (c .before .before .before .before .if2 .left) (c .before .before .if3 .left) (c .before .if4 .left) (c .if5 .left))
 
 -- src/text.rt:13:1
 returns-6 : tie.Need-returns-6 Inv-loop μ-loop
