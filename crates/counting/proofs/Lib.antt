@@ -1,3 +1,4 @@
 pub mod AnyLaws
 pub mod CountLaws
 pub mod ClashLaws
+pub mod FoundLaws

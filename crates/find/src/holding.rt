@@ -79,7 +79,7 @@ pub fn rest(out: &mut [u8], n: usize) -> &mut [u8] {
     &mut out[n..]
 }
 
-// What is held with a line more behind n bytes.
+// What is held with a line more behind n bytes; a line that is refused adds nothing.
 pub fn longer(n: usize, line: Written) -> Held {
     match line {
         Written::Refused(reason) => Held::Bytes(n),

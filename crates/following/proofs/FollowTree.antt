@@ -1,7 +1,7 @@
 -- Following a position from a node by spans is following it in the tree, or none in both.
 --   Stands                     a list stands in another from an index on
 --   stands-at words-stand sizes-stand   what lists a term's nodes in preorder lists each subterm's where its node is
---   word-at                    the word at a position's node
+--   word-at span-at            the word and the span at a position's node
 --   follow-is follow-at        following by spans reaches the number of the position, if it has one
 --   target-is                  and so does following a code
 use mathlib.Core.Path.{_≡_, refl, ap, sym, _∙_}
@@ -81,6 +81,9 @@ words-stand t p u x e n = rw zero-add at (stands-at flatten flattens (λ f ts. f
 
 pub sizes-stand : (t : Term) (p : Pos) (u : Term) (x : ℕ) → sub t p ≡ some u → number t p ≡ some x → Stands (sizes t) x (sizes u)
 sizes-stand t p u x e n = rw zero-add at (stands-at sizes sizess (λ f ts. suc (spans ts)) (λ f ts. refl) (λ t ts. refl) length-sizes (sizes t) p t u 0 x e n (stands-all (sizes t)))
+
+pub span-at : (t : Term) (p : Pos) (u : Term) (x : ℕ) → sub t p ≡ some u → number t p ≡ some x → getD (sizes t) x 0 ≡ span u
+span-at t p u x e n = head-span (sizes t) x u [] (rw (append-nil (sizes u)) (sizes-stand t p u x e n))
 
 first-at : (S : List ℕ) (x f : ℕ) (l : List ℕ) → Stands S x (f ∷ l) → getElem? S x ≡ some f
 first-at S x f l s =

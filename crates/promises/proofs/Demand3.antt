@@ -27,7 +27,7 @@ use Rattle.walking.proofs.AnyWalk as any-walk
 use Rattle.promises.specs.OneFile.{OneFile, scoreIn, spansIn, after, stepAfter, acceptedIn, reported}
 use Rattle.promises.specs.Demand3.{Demand3}
 use Rattle.promises.proofs.Setting.{score-spans, told, same-shapes, same-score, same-spans, same-states}
-use Rattle.promises.proofs.Demand2.{demand-2}
+use Rattle.promises.proofs.Demand2.{demand-2, marks-long}
 
 -- the first n entries, as a list and by place
 module _ (n : ℕ) (xs : List ℕ) (long : n ≤ length xs) where
@@ -49,9 +49,6 @@ module _ {file : List ℕ} (S : OneFile file) (choices : List ℕ) where
 
   abbrev is : after S choices ≡ F-after
   is = told S .after-is choices
-
-  marks-long : span (scoreIn S) ≤ length (after S choices .marks)
-  marks-long = subst (λ (v : Walk). span (scoreIn S) ≤ length (v .marks)) (sym is) (any-walk.same-walk (told S .folio) (S .walk) (told S .lent) choices .marks-room)
 
   log-long : after S choices .count .logged ≤ length (after S choices .log)
   log-long = subst (λ (v : Walk). v .count .logged ≤ length (v .log)) (sym is)

@@ -12,6 +12,8 @@ pub mod ReaderRows
 pub mod LeadRows
 pub mod StepRows
 pub mod LineRows
+pub mod ScorePaths
+pub mod Reported
 pub mod SubtreeRows
 pub mod Setting
 pub mod Demand1

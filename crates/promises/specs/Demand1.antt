@@ -5,7 +5,9 @@
 --   StartRow    31, 30; or a walk that is begun
 --   StepRow     32, 34; or a step, by `StepFound`
 --   CountRow    31, 30; or a number, for matches and for clashes
---   LineRow     30 for a buffer under 1,400 bytes (docs/DECISIONS.md); or the line at its start, the bytes behind it as they were
+--   lineTold wrote   what is said and left in the buffer; a line at the buffer's start, the bytes behind it as they were
+--   LineRow     30 for a buffer under 1,400 bytes (docs/DECISIONS.md); or the line
+--   MatchRow    30; 34 for a node to which no path leads by the spans lent; or the line with the path that does
 --   FoundRow    34; or what is found: in `Found`, for subtree, the plan readers and a position's child
 --   openTold walkTold   what opening, starting and stepping say and leave
 use mathlib.Core.Path.{_≡_}
@@ -16,9 +18,10 @@ use lib.Seq.{sets}
 use Rattle.kinds.specs.Lists.{gather}
 use Rattle.kinds.specs.Reasons.{Says, gives, refusal}
 use Rattle.kinds.specs.Kinds.{childOf, childSays}
+use Rattle.kinds.specs.Positions.{Pos}
 use Rattle.kinds.specs.declared.Position.{Position}
 use Rattle.kinds.specs.declared.Reason.{Reason}
-use Rattle.kinds.specs.declared.Reason.the-variants.{BadShapes, ShortScratch, LongPlan, ShortBuffers}
+use Rattle.kinds.specs.declared.Reason.the-variants.{BadShapes, ShortScratch, LongPlan}
 use Rattle.term.specs.Terms.{Term, span, flatten}
 use Rattle.folio.specs.Opening.{Lent, Room, OpenOutcome, opened, openedSays}
 use Rattle.folio.specs.Folio.{Meaning, GoodSymbols, Shaped, GoodScore, shapeTerms, answered}
@@ -35,10 +38,9 @@ use Rattle.counting.specs.Clashes.{clashNumber, clash, clashesOf}
 use Rattle.readers.specs.BlockWords.{middle}
 use Rattle.readers.specs.PlanParts.{labelOf, labelSays, lengthsOf, blockSays, announcementOf, announcementSays, successorOf, successorSays}
 use Rattle.following.specs.Following.{target, reached, reachedSays}
-use Rattle.report.specs.Text.{line, firstLine, refusalText}
-use Rattle.report.specs.Lines.{outOf, lineOut, firstOut, refusalOut, LineOutcome}
-use Rattle.kinds.specs.Limits.{lineRoom}
-use Rattle.report.specs.declared.Written.the-variants as written
+use Rattle.report.specs.Paths.{Leads}
+use Rattle.report.specs.Text.{matchLine, firstLine, refusalText}
+use Rattle.report.specs.Lines.{LineOutcome, lineOut, firstOut, refusalOut, writtenSays}
 use Rattle.promises.specs.Found.{FoundRow, partSays, pairValues, Standing, LabelFound, BlockFound, AnnouncementFound, SuccessorFound, ChildFound, Reaches}
 use Rattle.promises.specs.Told.{Told, told, By}
 use Rattle.promises.specs.StepFound.{StepFound}
@@ -102,9 +104,20 @@ pub data StepRow (plan score spans : List ℕ) (i : ℕ) (w : Walk) : Told Walk 
   takes : i < w .count .waiting → (v : Walk) → StepFound plan score spans i w v → StepRow plan score spans i w (told (gives (v .count .waiting ∷ v .count .logged ∷ [])) v)
 
 -- ---- a line of the report
-pub data LineRow (text buffer : List ℕ) : LineOutcome → Type 0 where
-  line-30 : length buffer < lineRoom → LineRow text buffer (outOf (written.Refused ShortBuffers) buffer)
-  writes : lineRoom ≤ length buffer → LineRow text buffer (outOf (written.Bytes (length text)) (text ++ drop (length text) buffer))
+abbrev pub lineTold : LineOutcome → Told (List ℕ)
+lineTold o = told (writtenSays (o .answer)) (o .out)
+
+abbrev pub wrote : List ℕ → List ℕ → Told (List ℕ)
+wrote text buffer = told (gives (length text ∷ [])) (text ++ drop (length text) buffer)
+
+pub data LineRow (text buffer : List ℕ) : Told (List ℕ) → Type 0 where
+  line-30 : length buffer < 1400 → LineRow text buffer (told (refusal 30 0) buffer)
+  writes : 1400 ≤ length buffer → LineRow text buffer (wrote text buffer)
+
+pub data MatchRow (spans : List ℕ) (x j : ℕ) (buffer : List ℕ) : Told (List ℕ) → Type 0 where
+  match-30 : length buffer < 1400 → MatchRow spans x j buffer (told (refusal 30 0) buffer)
+  match-34 : 1400 ≤ length buffer → ((p : Pos) → Leads spans x p → ⊥) → MatchRow spans x j buffer (told (refusal 34 0) buffer)
+  match-writes : 1400 ≤ length buffer → (p : Pos) → Leads spans x p → MatchRow spans x j buffer (wrote (matchLine (matchAt x j) p) buffer)
 
 pub record Demand1 : Type 0 where
   pub opening : (file : List ℕ) (l : Lent) → Below 256 file → By (OpenRow file l) (openTold (opened file l))
@@ -119,8 +132,8 @@ pub record Demand1 : Type 0 where
       → By (FoundRow (BlockFound plan m k s f) (λ b. getD plan b 0 ∷ getD plan (middle plan b) 0 ∷ [])) (blockSays (lengthsOf plan m k s f))
   pub announcement : (plan : List ℕ) (m k s f i : ℕ) → By (FoundRow (AnnouncementFound plan m k s f i) pairValues) (announcementSays (announcementOf plan m k s f i))
   pub successor : (plan : List ℕ) (m k s f i : ℕ) → By (FoundRow (SuccessorFound plan m k s f i) pairValues) (successorSays (successorOf plan m k s f i))
-  pub first-line : (n s m c : ℕ) (buffer : List ℕ) → By (LineRow (firstLine n s m c) buffer) (firstOut n s m c buffer)
-  pub match-line : (spans : List ℕ) (x j : ℕ) (buffer : List ℕ) → By (LineRow (line spans (matchAt x j)) buffer) (lineOut spans x j buffer)
-  pub refusal-line : (r : Reason) (p : ℕ) (buffer : List ℕ) → By (LineRow (refusalText r p) buffer) (refusalOut r p buffer)
+  pub first-line : (n s m c : ℕ) (buffer : List ℕ) → By (LineRow (firstLine n s m c) buffer) (lineTold (firstOut n s m c buffer))
+  pub match-line : (spans : List ℕ) (x j : ℕ) (buffer : List ℕ) → By (MatchRow spans x j buffer) (lineTold (lineOut spans x j buffer))
+  pub refusal-line : (r : Reason) (p : ℕ) (buffer : List ℕ) → By (LineRow (refusalText r p) buffer) (lineTold (refusalOut r p buffer))
   pub child-of : (p : Position) (i : ℕ) → By (FoundRow (ChildFound p i) (λ c. c ∷ [])) (childSays (childOf p i))
   pub following : (spans : List ℕ) (n from by : ℕ) → By (FoundRow (Reaches spans n from by) (λ x. x ∷ [])) (reachedSays (reached (target n spans from by)))

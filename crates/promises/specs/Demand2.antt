@@ -4,7 +4,13 @@
 --   plan            the words that building wrote are the plan of the paper's construction with document 01's choices
 --   exactly         a bit is set exactly if the shape matches at the node, by the paper's definition
 --   no-other        no other bit is set
+--   path            the path on a match's line is its node's position, for every node of the score
+--   order           nodes are numbered in the document order of their positions
+--   text            whatever tells which shape matches where, the whole text that find prints is `reportIn` of it: the first line, then a line for each
+--                   match, over the score's positions in document order and the shapes ascending
+--   tested          such a test is there, and computes
 use mathlib.Core.Path.{_≡_}
+use mathlib.Core.Bool.{Bool, true}
 use mathlib.Core.List.{List}
 use mathlib.Core.Option.{some}
 use mathlib.Core.Logic.{_↔_}
@@ -14,11 +20,18 @@ use Rattle.kinds.specs.Bits.{bit}
 use Rattle.kinds.specs.Lists.{gather}
 use Rattle.kinds.specs.Positions.{Pos}
 use Rattle.term.specs.Terms.{Term, span, flatten, sizes}
-use Rattle.term.specs.Places.{Matches, number}
+use Rattle.term.specs.Places.{Matches, sub, dom, number}
+use Rattle.term.proofs.MatchTest.{agreesAt}
 use Rattle.folio.specs.Folio.{Folio}
 use Rattle.automaton.specs.PlanWords.{plan-of}
 use Rattle.plan.specs.Building.{planOf}
-use Rattle.promises.specs.OneFile.{OneFile, symbolsIn, wordsIn, nodesIn, spansIn, shapesIn, scoreIn, planIn, after}
+use Rattle.report.specs.Paths.{pathOf}
+use Rattle.promises.specs.OneFile.{OneFile, symbolsIn, wordsIn, nodesIn, spansIn, shapesIn, scoreIn, planIn, after, reported}
+use Rattle.promises.specs.Reported.{reportIn}
+
+-- a test of shapes and positions that says the paper's match
+abbrev pub Says : (Term → Pos → Bool) → Term → Type 0
+Says test t = (ℓ : Term) (p : Pos) → (test ℓ p ≡ true) ↔ Matches ℓ t p
 
 pub record Demand2 {file : List ℕ} (S : OneFile file) : Type 0 where
   pub is-folio : Folio (symbolsIn S) (shapesIn S) (scoreIn S)
@@ -29,3 +42,8 @@ pub record Demand2 {file : List ℕ} (S : OneFile file) : Type 0 where
   pub exactly : (choices : List ℕ) → after S choices .count .waiting ≡ 0 → (j : ℕ) (ℓ : Term) → getElem? (shapesIn S) j ≡ some ℓ → (n : ℕ) (p : Pos) → number (scoreIn S) p ≡ some n
       → (bit (getD (after S choices .marks) n 0) j ≡ 1) ↔ Matches ℓ (scoreIn S) p
   pub no-other : (choices : List ℕ) (j n : ℕ) → n < span (scoreIn S) → bit (getD (after S choices .marks) n 0) j ≡ 1 → (ℓ : Term) × (getElem? (shapesIn S) j ≡ some ℓ)
+  pub path : (p : Pos) (n : ℕ) → number (scoreIn S) p ≡ some n → pathOf (spansIn S) n ≡ some p
+  pub order : (p : Pos) (n : ℕ) → number (scoreIn S) p ≡ some n → getElem? (dom (scoreIn S)) n ≡ some p
+  pub text : (test : Term → Pos → Bool) → Says test (scoreIn S) → (choices : List ℕ) → after S choices .count .waiting ≡ 0
+      → reported S choices ≡ reportIn test (shapesIn S) (scoreIn S) (S .size .states)
+  pub tested : Says (λ ℓ p. agreesAt ℓ (sub (scoreIn S) p)) (scoreIn S)

@@ -7,5 +7,6 @@ pub mod Found
 pub mod StepFound
 pub mod Demand1
 pub mod OneFile
+pub mod Reported
 pub mod Demand2
 pub mod Demand3

@@ -102,6 +102,7 @@ table =
     ∷ row (countedSays (matchesOf symbols score spans (firsts .marks))) ∷ row (countedSays (clashesOf symbols score spans (firsts .marks)))
     ∷ row (labelSays (labelOf plan 3 3 1)) ∷ row (blockSays (lengthsOf plan 3 3 1 1)) ∷ row (announcementSays (announcementOf plan 3 3 1 1 0)) ∷ row (successorSays (successorOf plan 3 3 2 2 0)) ∷ row (labelSays (labelOf plan 3 3 3))
     ∷ row (childSays (childOf (position 2) 1)) ∷ row (reachedSays (reached (target 10 spans 0 11))) ∷ row (writtenSays (lineOut spans 6 0 (nines 1399) .answer))
+    ∷ row (writtenSays (lineOut spans 10 0 (nines 1400) .answer))
     ∷ report spans 3 (firsts .marks) ∷ []
 
 abbrev pub claimed : List (List ℕ)
@@ -116,7 +117,7 @@ claimed =
     ∷ (0 ∷ 3 ∷ 56 ∷ []) ∷ (plan ++ (9 ∷ []))
     ∷ (0 ∷ 4 ∷ []) ∷ (0 ∷ 4 ∷ [])
     ∷ (0 ∷ 1 ∷ []) ∷ (0 ∷ 1 ∷ 2 ∷ []) ∷ (0 ∷ 1 ∷ 0 ∷ []) ∷ (0 ∷ 0 ∷ 11 ∷ []) ∷ (34 ∷ 0 ∷ [])
-    ∷ (0 ∷ 11 ∷ []) ∷ (0 ∷ 6 ∷ []) ∷ (30 ∷ 0 ∷ [])
+    ∷ (0 ∷ 11 ∷ []) ∷ (0 ∷ 6 ∷ []) ∷ (30 ∷ 0 ∷ []) ∷ (34 ∷ 0 ∷ [])
     ∷ text ∷ []
 
 pub sample : table ≡ claimed

@@ -1,3 +1,5 @@
 pub mod PathLaws
+pub mod FollowPath
 pub mod DigitLaws
 pub mod TextLaws
+pub mod LinesLaws

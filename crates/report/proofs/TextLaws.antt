@@ -5,31 +5,35 @@
 --   dotted-few text-few    how long they are at most
 --   Wrote            what a call says of a piece that it wrote
 --   Dots dots-begin dots-next dots-end path-root   what is left of child numbers from a place on
---   path-part part-few              the path as a part of its buffer
 --   field-is first-is refusal-is match-is   a text and a number; the three lines
+--   part-few         a path that is found is short
+--   match-short nowhere line-of line-nowhere   a match's line by the spans: there is no room, none, one; none
 use Prim.Native.Nat.{ℕ, zero, suc, _+_, _*_, _-_, _<_, _≤_}
 use mathlib.Core.Path.{_≡_, refl, ap, ap₂, sym, _∙_}
 use mathlib.Core.List.{List, [], _∷_, _++_}
 use native.Mathlib.Omega.{arith}
-use native.Mathlib.Nat.{add-zero, zero-add}
+use native.Mathlib.Nat.{add-zero, zero-add, sub-zero}
 use mathlib.Core.Bool.{Bool, true, false, cond}
-use mathlib.Core.Option.{Option, none, some}
+use mathlib.Core.Option.{Option, none, some, Option·map}
 use borrow.Author.Tests.{lt-leb, le-leb}
 use lib.Dec.{eqb}
 use native.Mathlib.Numerals.{add-one}
-use lib.ListN.{length, getD, take, drop, set, replicate, length-append, length-set, length-replicate}
+use lib.ListN.{length, getD, take, drop, set, length-append, length-set}
 use lib.Seq.{sets, drop-cons, length-sets}
-use Rattle.kinds.specs.Lists.{gather}
+use Rattle.kinds.specs.Lists.{gather, unless}
 use Rattle.kinds.specs.Positions.{Pos}
-use Rattle.kinds.proofs.ListLaws.{sets-append, from, from-end, run-whole}
-use Rattle.kinds.specs.declared.Reason.the-variants.{ShortBuffers}
-use Rattle.report.specs.Paths.{childOn, through, pathTo}
-use Rattle.report.specs.Text.{digits, digitsTo, dotted, field, pathText}
+use Rattle.kinds.proofs.ListLaws.{sets-append, from, from-end}
+use Rattle.kinds.specs.declared.Reason.the-variants.{ShortBuffers, OutOfRange}
+use Rattle.counting.specs.Counting.{matchAt}
+use Rattle.report.specs.Paths.{pathOf}
+use Rattle.report.specs.Text.{digits, digitsTo, dotted, field, pathText, matchLine, pathIn}
 use Rattle.kinds.specs.Reasons.{numberOf}
 use Rattle.kinds.specs.declared.Reason.{Reason}
 use Rattle.report.specs.Quoted.{bytes}
-use Rattle.report.specs.Lines.{outOf, written, firstOut, refusalOut, lineOut}
+use Rattle.report.specs.Lines.{outOf, written, writtenIf, firstOut, refusalOut, lineOut}
 use Rattle.report.specs.declared.Written.the-variants.{Bytes, Refused}
+use Rattle.report.specs.declared.Depth.{Depth}
+use Rattle.report.specs.declared.Depth.the-variants as depth
 use Rattle.report.proofs.PathLaws.{path-few}
 use Rattle.report.proofs.DigitLaws.{digits-few}
 
@@ -156,13 +160,6 @@ pub field-is : {o′ o″ : List ℕ} {b c : ℕ} (o : List ℕ) (a : ℕ) (ws :
 unfolding digits
 field-is o a ws n h d = let p = put-then (text ws h) (piece 20 (digitsTo 20 n) d) in (p .end, (p .text, omega (arith, h .0, d .1 .1)))
 
--- the path as a part of its buffer
-pub path-part : (sp : List ℕ) (x r : ℕ) (o : List ℕ) → r ≡ length (pathTo 64 sp x 0) → o ≡ sets (replicate {A = ℕ} 64 0) 0 (pathTo 64 sp x 0) → take (r - 0) o ≡ pathTo 64 sp x 0
-path-part sp x r o e w = run-whole (replicate 64 0) o (pathTo 64 sp x 0) r e (rw (length-replicate {A = ℕ} 64 0) (path-few 64 sp x 0)) w
-
-pub part-few : (sp : List ℕ) (x r : ℕ) (o : List ℕ) → r ≡ length (pathTo 64 sp x 0) → o ≡ sets (replicate {A = ℕ} 64 0) 0 (pathTo 64 sp x 0) → length (take (r - 0) o) ≤ 64
-part-few sp x r o e w = rw (path-part sp x r o e w) (path-few 64 sp x 0)
-
 pub first-is : (n s m c : ℕ) (o : List ℕ) {o₁ o₂ o₃ o₄ o₅ : List ℕ} {a₁ a₂ a₃ a₄ a₅ : ℕ} → 1400 ≤ length o
     → Wrote 26 o 0 (field (bytes "nodes ") n) o₁ a₁ → Wrote 28 o₁ a₁ (field (bytes " states ") s) o₂ a₂ → Wrote 29 o₂ a₂ (field (bytes " matches ") m) o₃ a₃
     → Wrote 29 o₃ a₃ (field (bytes " clashes ") c) o₄ a₄ → (a₅ ≡ a₄ + 1) × (o₅ ≡ sets o₄ a₄ (bytes "\n")) → outOf (Bytes a₅) o₅ ≡ firstOut n s m c o
@@ -180,14 +177,43 @@ refusal-is r p {k} o room e p₁ p₂ p₃ =
     line-is room (put-then (piece 28 (field (bytes "refused ") k) p₁) (put-then (piece 24 (field (bytes " at ") p) p₂) (text (bytes "\n") p₃)))
     ∙ ap (λ n. written (field (bytes "refused ") n ++ (field (bytes " at ") p ++ bytes "\n")) o) e
 
-pub match-is : (sp : List ℕ) (x j : ℕ) (p : Pos) (most : ℕ) (o : List ℕ) {o₁ o₂ o₃ o₄ o₅ : List ℕ} {a₁ a₂ a₃ a₄ a₅ : ℕ} → 1400 ≤ length o → p ≡ pathTo 64 sp x 0
+pub match-is : (x j : ℕ) (p : Pos) (most : ℕ) (o : List ℕ) {o₁ o₂ o₃ o₄ o₅ : List ℕ} {a₁ a₂ a₃ a₄ a₅ : ℕ} → 1400 ≤ length o
     → Wrote 20 o 0 (digitsTo 20 x) o₁ a₁ → Wrote 21 o₁ a₁ (field (bytes " ") j) o₂ a₂ → (a₃ ≡ a₂ + 1) × (o₃ ≡ sets o₂ a₂ (bytes " "))
-    → Wrote most o₃ a₃ (pathText p) o₄ a₄ → (a₅ ≡ a₄ + 1) × (o₅ ≡ sets o₄ a₄ (bytes "\n")) → outOf (Bytes a₅) o₅ ≡ lineOut sp x j o
+    → Wrote most o₃ a₃ (pathText p) o₄ a₄ → (a₅ ≡ a₄ + 1) × (o₅ ≡ sets o₄ a₄ (bytes "\n")) → outOf (Bytes a₅) o₅ ≡ written (matchLine (matchAt x j) p) o
 unfolding digits
-match-is sp x j p most o room e p₁ p₂ p₃ p₄ p₅ =
+match-is x j p most o room p₁ p₂ p₃ p₄ p₅ =
     line-is room
     (put-then (piece 20 (digits x) p₁)
     (put-then (piece 21 (field (bytes " ") j) p₂)
     (put-then (text (bytes " ") p₃)
     (put-then (piece most (pathText p) p₄) (text (bytes "\n") p₅)))))
-    ∙ ap (λ q. written (digits x ++ (field (bytes " ") j ++ (bytes " " ++ (pathText q ++ bytes "\n")))) o) e
+
+-- a match's line by the spans
+module _ (sp : List ℕ) (x j : ℕ) (o : List ℕ) where
+  pub match-short : length o < 1400 → outOf (Refused ShortBuffers) o ≡ lineOut sp x j o
+  unfolding written
+  match-short h = go (pathOf sp x)
+    where
+      go : (q : Option Pos) → outOf (Refused ShortBuffers) o ≡ writtenIf (Option·map (matchLine (matchAt x j)) q) o
+      go none = rw (lt-leb 1400 (length o) h)
+      go (some p) = rw (lt-leb 1400 (length o) h)
+
+  pub nowhere : 1400 ≤ length o → pathOf sp x ≡ none → outOf (Refused OutOfRange) o ≡ lineOut sp x j o
+  nowhere h e =
+      ap (λ t. unless t (outOf (Refused ShortBuffers) o) (outOf (Refused OutOfRange) o)) (sym (le-leb 1400 (length o) h))
+      ∙ ap (λ q. writtenIf (Option·map (matchLine (matchAt x j)) q) o) (sym e)
+
+-- a line that there is, and one that there is not; d and b are what `put_path` answers and leaves in its buffer
+module _ (sp : List ℕ) (x : ℕ) (d : Depth) (b : List ℕ) (path : pathIn d b ≡ pathOf sp x) where
+  taken : (n : ℕ) → d ≡ depth.Of n → some (take (n - 0) b) ≡ pathOf sp x
+  taken n e = ap (λ k. some (take k b)) (sub-zero n) ∙ ap (λ k. pathIn k b) (sym e) ∙ path
+
+  pub part-few : (n : ℕ) → d ≡ depth.Of n → length (take (n - 0) b) ≤ 64
+  part-few n e = path-few sp x (take (n - 0) b) (sym (taken n e))
+
+  module _ (j : ℕ) (o : List ℕ) where
+    pub line-of : (n : ℕ) → d ≡ depth.Of n → written (matchLine (matchAt x j) (take (n - 0) b)) o ≡ lineOut sp x j o
+    line-of n e = ap (λ q. writtenIf (Option·map (matchLine (matchAt x j)) q) o) (taken n e)
+
+    pub line-nowhere : d ≡ depth.Nowhere → 1400 ≤ length o → outOf (Refused OutOfRange) o ≡ lineOut sp x j o
+    line-nowhere e h = nowhere sp x j o h (sym path ∙ ap (λ k. pathIn k b) e)

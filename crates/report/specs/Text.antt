@@ -4,15 +4,16 @@
 --   dotted        child numbers, each behind a dot
 --   pathText      a position, the root as `-`
 --   field         a text and a number behind it
---   line          one match
+--   matchLine     one match, its node's position given
+--   line          the same by the spans; none where they do not have the node
 --   firstLine     the four numbers
---   lines         by node, then shape
+--   lines         by node, then shape; a match whose node the spans do not have has no line
 --   report        over the spans of the n nodes, the state count and the marks
 --   refusalText   what a refusal prints
 use Prim.Native.Nat.{ℕ, zero, suc, _+_, _/_, _%_}
 use mathlib.Core.List.{List, [], _∷_, _++_}
 use mathlib.Core.Bool.{Bool, cond}
-use mathlib.Core.Option.{Option, none, some}
+use mathlib.Core.Option.{Option, none, some, Option·map}
 use lib.Dec.{ltb}
 use lib.ListN.{length, take}
 use Rattle.kinds.specs.Limits.{numberDigits, pathNumbers}
@@ -23,9 +24,11 @@ use Rattle.kinds.specs.declared.Reason.{Reason}
 use Rattle.counting.specs.Counting.{Match, matchAt, found, total}
 use Rattle.counting.specs.Clashes.{clashNumber, clash}
 use Rattle.report.specs.Quoted.{bytes}
-use Rattle.report.specs.Paths.{pathTo}
+use Rattle.report.specs.Paths.{pathOf}
 use Rattle.report.specs.declared.Step.{Step}
 use Rattle.report.specs.declared.Step.the-variants.{At, Nowhere}
+use Rattle.report.specs.declared.Depth.{Depth}
+use Rattle.report.specs.declared.Depth.the-variants as depth
 
 unfoldable pub digitsTo : ℕ → ℕ → List ℕ
 digitsTo zero n = []
@@ -46,8 +49,11 @@ pathText (i ∷ p) = digits i ++ dotted p
 abbrev pub field : List ℕ → ℕ → List ℕ
 field text n = text ++ digits n
 
-abbrev pub line : List ℕ → Match → List ℕ
-line spans m = digits (m .node) ++ (field (bytes " ") (m .shape) ++ (bytes " " ++ (pathText (pathTo pathNumbers spans (m .node) 0) ++ bytes "\n")))
+abbrev pub matchLine : Match → Pos → List ℕ
+matchLine m p = digits (m .node) ++ (field (bytes " ") (m .shape) ++ (bytes " " ++ (pathText p ++ bytes "\n")))
+
+abbrev pub line : List ℕ → Match → Option (List ℕ)
+line spans m = Option·map (matchLine m) (pathOf spans (m .node))
 
 abbrev pub firstLine : ℕ → ℕ → ℕ → ℕ → List ℕ
 firstLine n s m c =
@@ -61,8 +67,13 @@ unfoldable pub texts : ℕ → (ℕ → List ℕ) → List ℕ
 texts zero t = []
 texts (suc k) t = texts k t ++ t k
 
+-- a text that there is
+abbrev pub textOf : Option (List ℕ) → List ℕ
+textOf none = []
+textOf (some text) = text
+
 unfoldable pub lines : List ℕ → List ℕ → List ℕ
-lines spans ms = texts (length ms) (λ x. texts 16 (λ j. cond (found ms (matchAt x j)) (line spans (matchAt x j)) []))
+lines spans ms = texts (length ms) (λ x. texts 16 (λ j. cond (found ms (matchAt x j)) (textOf (line spans (matchAt x j))) []))
 
 unfoldable pub report : List ℕ → ℕ → List ℕ → List ℕ
 report spans states marks =
@@ -76,3 +87,12 @@ refusalText r p = field (bytes "refused ") (numberOf r) ++ (field (bytes " at ")
 abbrev pub stepOf : Step → Option (ℕ × ℕ)
 stepOf (At i c) = some (i, c)
 stepOf Nowhere = none
+
+-- the path that so many numbers at a buffer's start are
+abbrev pub pathIn : Depth → List ℕ → Option Pos
+pathIn (depth.Of n) out = some (take n out)
+pathIn depth.Nowhere out = none
+
+abbrev pub numbersIn : Depth → ℕ
+numbersIn (depth.Of n) = n
+numbersIn depth.Nowhere = 0

@@ -9,6 +9,12 @@ pub enum Step {
     Nowhere,
 }
 
+// How many numbers a node's path has.
+pub enum Depth {
+    Of(usize),
+    Nowhere,
+}
+
 // How many bytes a line has.
 pub enum Written {
     Bytes(usize),

@@ -1,5 +1,10 @@
 ghost use mathlib.Core.Path.{_≡_};
-ghost use Rattle.report.specs.Lines.{outOf, lineOut, firstOut, refusalOut};
+ghost use Prim.Native.Nat.{_≤_};
+ghost use lib.ListN.{length};
+ghost use Rattle.counting.specs.Counting.{matchAt};
+ghost use Rattle.report.specs.Lines.{outOf, written, lineOut, firstOut, refusalOut};
+ghost use Rattle.report.specs.Text.{matchLine};
+use crate::Depth;
 use crate::Written;
 use crate::text::put_digits;
 use crate::text::put_dotted;
@@ -14,7 +19,7 @@ use kinds::limits::NUMBER_DIGITS;
 use kinds::limits::PATH_NUMBERS;
 use kinds::number;
 
-// The line of a match: its node, its shape and the node's path.
+// The line of a match: its node, its shape and the node's path; 34 for a node that the spans do not have.
 pub fn put_line(spans: &[u16], node: Node, shape: Shape, out: &mut [u8]) -> Written
     ensures { λ r. ⌜ outOf r (now (out .exit)) ≡ lineOut (now (spans .entry)) (node .0) (shape .0) (now (out .entry)) ⌝ }
 {
@@ -22,11 +27,21 @@ pub fn put_line(spans: &[u16], node: Node, shape: Shape, out: &mut [u8]) -> Writ
         return Written::Refused(Reason::ShortBuffers);
     }
     let mut path = [0u16; PATH_NUMBERS];
-    let n = put_path(spans, node.0 as usize, &mut path);
+    match put_path(spans, node.0 as usize, &mut path) {
+        Depth::Nowhere => Written::Refused(Reason::OutOfRange),
+        Depth::Of(n) => put_match(node, shape, &path[0..n], out),
+    }
+}
+
+// The line of a match whose node's path is known.
+fn put_match(node: Node, shape: Shape, path: &[u16], out: &mut [u8]) -> Written
+    requires { ⌜ (length (now path) ≤ 64) × (1400 ≤ length (now out)) ⌝ }
+    ensures { λ r. ⌜ outOf r (now (out .exit)) ≡ written (matchLine (matchAt (node .0) (shape .0)) (now (path .entry))) (now (out .entry)) ⌝ }
+{
     let a = put_digits(node.0 as usize, NUMBER_DIGITS, out, 0);
     let b = put_field(b" ", shape.0 as usize, out, a);
     let c = put_text(b" ", out, b);
-    let d = put_dotted(&path[0..n], out, c);
+    let d = put_dotted(path, out, c);
     let end = put_text(b"\n", out, d);
     Written::Bytes(end)
 }

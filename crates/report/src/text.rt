@@ -2,23 +2,35 @@ ghost use mathlib.Core.Path.{_≡_};
 ghost use Prim.Native.Nat.{ℕ, _+_, _*_, _-_, _<_, _≤_};
 ghost use lib.ListN.{length};
 ghost use lib.Seq.{sets};
-ghost use Rattle.report.specs.Paths.{childOn, pathTo};
-ghost use Rattle.report.specs.Text.{digitsTo, digits, field, pathText, stepOf};
+ghost use Rattle.report.specs.Paths.{childOf, pathOf};
+ghost use Rattle.report.specs.Text.{digitsTo, digits, field, pathText, stepOf, pathIn, numbersIn};
+use crate::Depth;
 use crate::Step;
 use kinds::limits::NUMBER_DIGITS;
 use kinds::limits::PATH_NUMBERS;
 
-// The child number and the node of the first of at most four children, from `from` on, in whose subtree x stands.
-fn find_child(spans: &[u16], x: usize, from: usize) -> Step
-    ensures { λ r. ⌜ stepOf r ≡ childOn (now (spans .entry)) x 4 from 1 ⌝ }
+// The number and the node of the child of `at`, one of the first four, in whose subtree x stands; each child lies inside its parent's span.
+fn find_child(spans: &[u16], x: usize, at: usize) -> Step
+    ensures { λ r. ⌜ stepOf r ≡ childOf (now (spans .entry)) x at ⌝ }
 {
-    let mut here = from;
+    if spans.len() <= at {
+        return Step::Nowhere;
+    }
+    let end = at + spans[at] as usize;
+    let mut here = at + 1;
     let mut k: u16 = 0;
     while k < 4 {
         if spans.len() <= here {
             return Step::Nowhere;
         }
-        let e = here + spans[here] as usize;
+        let size = spans[here] as usize;
+        if size == 0 {
+            return Step::Nowhere;
+        }
+        let e = here + size;
+        if end < e {
+            return Step::Nowhere;
+        }
         if x < e {
             return Step::At(k + 1, here);
         }
@@ -28,22 +40,24 @@ fn find_child(spans: &[u16], x: usize, from: usize) -> Step
     Step::Nowhere
 }
 
-// The child numbers from the root to node x into `out`; answers how many.
-pub fn put_path(spans: &[u16], x: usize, out: &mut [u16]) -> usize
+// The child numbers from the root to node x into `out`; answers how many, or that there is no such node.
+pub fn put_path(spans: &[u16], x: usize, out: &mut [u16]) -> Depth
     requires { ⌜ 64 ≤ length (now out) ⌝ }
-    ensures count { λ r. ⌜ r ≡ length (pathTo 64 (now (spans .entry)) x 0) ⌝ }
-    ensures buffer { λ r. ⌜ now (out .exit) ≡ sets (now (out .entry)) 0 (pathTo 64 (now (spans .entry)) x 0) ⌝ }
-    ensures few { λ r. ⌜ r ≤ 64 ⌝ }
+    ensures path { λ r. ⌜ pathIn r (now (out .exit)) ≡ pathOf (now (spans .entry)) x ⌝ }
+    ensures few { λ r. ⌜ numbersIn r ≤ 64 ⌝ }
 {
+    if spans.len() <= x {
+        return Depth::Nowhere;
+    }
     let mut at: usize = 0;
     let mut d: usize = 0;
     while d < PATH_NUMBERS {
         if at == x {
-            return d;
+            return Depth::Of(d);
         }
-        match find_child(spans, x, at + 1) {
+        match find_child(spans, x, at) {
             Step::Nowhere => {
-                return d;
+                return Depth::Nowhere;
             }
             Step::At(i, c) => {
                 out[d] = i;
@@ -52,7 +66,10 @@ pub fn put_path(spans: &[u16], x: usize, out: &mut [u16]) -> usize
         }
         d += 1;
     }
-    d
+    if at == x {
+        return Depth::Of(d);
+    }
+    Depth::Nowhere
 }
 
 // The decimal digits of n, at most `left` of them, from `at` on; answers the place after them.

@@ -3,18 +3,22 @@
 --   number-place place-number            a number's position is the one whose number it is
 --   number-below node-at                 numbers are those below the span, and each of these is one
 --   number-append                        the number of a position below another
-use mathlib.Core.Path.{_≡_, refl, ap}
-use mathlib.Core.List.{[], _∷_, _++_}
+--   dom-place dom-number                 document order is the order of the numbers
+use mathlib.Core.Path.{_≡_, refl, ap, sym, _∙_}
+use mathlib.Core.List.{List, [], _∷_, _++_, map}
 use mathlib.Core.Option.{Option, none, some, Option·map}
 use Prim.Native.Nat.{ℕ, zero, suc, _+_, _-_, _<_, _≤_}
+use lib.ListN.{length, getElem?, length-map}
 use native.Mathlib.Omega.{arith}
 use native.Mathlib.Nat.{add-zero, zero-add}
 use native.Mathlib.Decide.{decLt}
 use borrow.Author.Tests.{lt-ltb, le-ltb}
 use Rattle.kinds.specs.Positions.{Pos}
 use Rattle.kinds.proofs.Options.{none-not, on-bind, on-map}
+use Rattle.kinds.proofs.Places.{at-right}
 use Rattle.term.specs.Terms.{Term, blank, node, Terms, tnil, tcons, span, spans}
-use Rattle.term.specs.Places.{nth, child, sub, skip, ahead, number, place, places}
+use Rattle.term.specs.Places.{nth, child, sub, skip, ahead, dom, doms, number, place, places}
+use Rattle.term.proofs.Subterms.{length-dom}
 
 pub number-sub : (p : Pos) (t u : Term) → sub t p ≡ some u → (k : ℕ) × (number t p ≡ some k)
 number-sub [] t u e = (0, refl)
@@ -124,3 +128,38 @@ number-append (i ∷ p) q t u x e n =
     go : (y : ℕ) → ahead t i + y ≡ x → (o : Option ℕ) → Option·map (λ k. ahead t i + k) (Option·map (λ k. y + k) o) ≡ Option·map (λ k. x + k) o
     go y d none = refl
     go y d (some k) = let z : ahead t i + (y + k) ≡ x + k = omega arith in ap some z
+
+-- ---- document order
+at-front : {A : Type 0} (a b : List A) (k : ℕ) → k < length a → getElem? (a ++ b) k ≡ getElem? a k
+at-front [] b k h = absurd (omega arith)
+at-front (x ∷ a) b zero h = refl
+at-front (x ∷ a) b (suc k) h = at-front a b k (omega arith)
+
+at-mapped : {A B : Type 0} (f : A → B) (s : List A) (k : ℕ) → getElem? (map f s) k ≡ Option·map f (getElem? s k)
+at-mapped f [] k = refl
+at-mapped f (x ∷ s) zero = refl
+at-mapped f (x ∷ s) (suc k) = at-mapped f s k
+
+mutual
+  pub dom-place : (t : Term) (k : ℕ) → getElem? (dom t) k ≡ place t k
+  dom-place (blank w) zero = refl
+  dom-place (blank w) (suc k) = refl
+  dom-place (node f ts) zero = refl
+  dom-place (node f ts) (suc k) = doms-places ts 1 k
+
+  doms-places : (ts : Terms) (i k : ℕ) → getElem? (doms ts i) k ≡ places ts i k
+  doms-places tnil i k = refl
+  doms-places (tcons t ts) i k = go (decLt k (span t)) (dom-place t k) (doms-places ts (suc i) (k - span t))
+    where
+      long : length (map (λ p. i ∷ p) (dom t)) ≡ span t
+      long = simp length-map (length-dom t)
+
+      go : Dec (k < span t) → getElem? (dom t) k ≡ place t k → getElem? (doms ts (suc i)) (k - span t) ≡ places ts (suc i) (k - span t)
+          → getElem? (map (λ p. i ∷ p) (dom t) ++ doms ts (suc i)) k ≡ places (tcons t ts) i k
+      go (yes h) a b = rw (lt-ltb k (span t) h) (at-front (map (λ p. i ∷ p) (dom t)) (doms ts (suc i)) k (omega (arith, long)) ∙ at-mapped (λ p. i ∷ p) (dom t) k ∙ ap (Option·map (λ p. i ∷ p)) a)
+      go (no h) a b =
+          let z : k ≡ length (map (λ p. i ∷ p) (dom t)) + (k - span t) = omega (arith, long) in
+          rw (le-ltb k (span t) (omega arith)) (ap (getElem? (map (λ p. i ∷ p) (dom t) ++ doms ts (suc i))) z ∙ at-right (map (λ p. i ∷ p) (dom t)) (doms ts (suc i)) (k - span t) ∙ b)
+
+pub dom-number : (t : Term) (k : ℕ) (p : Pos) → getElem? (dom t) k ≡ some p → number t p ≡ some k
+dom-number t k p e = place-number t k p (sym (dom-place t k) ∙ e)

@@ -1,0 +1,46 @@
+-- The report said by matches alone, over the score's positions and the shapes: "Then one line a match, by node, then shape: node, shape, path in dotted child
+-- numbers, the root as `-`." A node's number is its place in document order, which is preorder.
+--   MatchIn         a match: where it stands, and the numbers of its node and its shape
+--   matchOne        a shape's match at a position, if it matches there
+--   matchesAt       the shapes that match at a position, ascending
+--   matchesIn       those of every position, in document order
+--   clashIn         "Two matches clash if one's node is the other's or lies under it"
+--   clashNumberIn   "the clash number counts matches that clash with at least one other"
+--   reportIn        the text: "First line: nodes, states, matches …, clashes", then the lines
+use mathlib.Core.List.{List, [], _∷_, _++_}
+use mathlib.Core.Bool.{Bool, cond, _&&_, _||_}
+use Prim.Native.Nat.{ℕ}
+use lib.ListN.{length}
+use Rattle.kinds.specs.Lists.{any, filter, gather, concat, mapAt}
+use Rattle.kinds.specs.Positions.{Pos, prefix}
+use Rattle.term.specs.Terms.{Term, span}
+use Rattle.term.specs.Places.{dom}
+use Rattle.counting.specs.Counting.{Match, matchAt}
+use Rattle.counting.specs.Clashes.{other}
+use Rattle.report.specs.Text.{matchLine, firstLine}
+
+pub record MatchIn : Type 0 where
+  pub place : Pos
+  pub match : Match
+
+-- test says which shape matches at which position of the score
+module _ (test : Term → Pos → Bool) (shapes : List Term) where
+  abbrev pub matchOne : ℕ → Pos → ℕ → Term → List MatchIn
+  matchOne x p j ℓ = cond (test ℓ p) (record { place = p; match = matchAt x j } ∷ []) []
+
+  abbrev pub matchesAt : ℕ → Pos → List MatchIn
+  matchesAt x p = concat (mapAt (matchOne x p) 0 shapes)
+
+  abbrev pub matchesIn : Term → List MatchIn
+  matchesIn t = concat (mapAt matchesAt 0 (dom t))
+
+abbrev pub clashIn : MatchIn → MatchIn → Bool
+clashIn m o = prefix (m .place) (o .place) || prefix (o .place) (m .place)
+
+abbrev pub clashNumberIn : List MatchIn → ℕ
+clashNumberIn ms = length (filter (λ m. any (λ o. other (m .match) (o .match) && clashIn m o) ms) ms)
+
+abbrev pub reportIn : (Term → Pos → Bool) → List Term → Term → ℕ → List ℕ
+reportIn test shapes t states =
+    let ms = matchesIn test shapes t in
+    firstLine (span t) states (length ms) (clashNumberIn ms) ++ gather (λ m. matchLine (m .match) (m .place)) ms
