@@ -30,10 +30,10 @@ goal-at-requires c κs = search needs
 
 first-owed-requires : tie.Need-first-owed-requires Inv-loop μ-loop
 first-owed-requires c κs =
-    let entry = c .before .before .before .before .before .before .before in
-    let at-loop = c .before .before .before .before .loop in
-    rw (c .before .before .goal-at .ensures)
-    (entry .pre .tabled, low-next (entry .args .ws .now) (at-loop .here) (at-loop .left) (c .before .before .before .loop-test .taken) (at-loop .inv .1) .0)
+    let entry = c .before .before .before .before .before .before .before .before in
+    let at-loop = c .before .before .before .before .before .loop in
+    rw (c .before .before .before .goal-at .ensures)
+    (entry .pre .tabled, low-next (entry .args .ws .now) (at-loop .here) (at-loop .left) (c .before .before .before .before .loop-test .taken) (at-loop .inv .1) .0)
 
 add-here : tie.Need-add-here Inv-loop μ-loop
 add-here c = search needs
@@ -46,10 +46,10 @@ loop-less c = search needs
 
 loop-again : tie.Need-loop-again Inv-loop μ-loop
 loop-again c =
-    let entry = c .before .before .before .before .before .before .before in
-    let at-loop-test = c .before .before .before .loop-test in
-    let at-goal-at = c .before .before .goal-at in
-    let a = entry .args in let l = c .before .before .before .before .loop in
+    let entry = c .before .before .before .before .before .before .before .before in
+    let at-loop-test = c .before .before .before .before .loop-test in
+    let at-goal-at = c .before .before .before .goal-at in
+    let a = entry .args in let l = c .before .before .before .before .before .loop in
     let low = low-next (a .ws .now) (l .here) (l .left) (at-loop-test .taken) (l .inv .1) .1 in
     let at = ap (λ (x : Goal). x .at .0) (at-goal-at .ensures) in
     ⊎-elim
