@@ -24,9 +24,9 @@ use Rattle.kinds.proofs.Options.{none-not}
 use Rattle.kinds.proofs.Places.{at-in, at-getD}
 use Rattle.term.specs.Terms.{Term, blank, node, Terms, tnil, tcons, count, span, flatten, flattens}
 use Rattle.term.specs.Places.{sub, dom}
-use Rattle.folio.specs.Folio.{IsShape, GoodSymbols, Shaped, startsAt, shapeTerms}
+use Rattle.folio.specs.Folio.{IsShape, GoodSymbols, Shaped, startsAt, shapeTerms, AreShapes}
 use Rattle.checks.specs.Again.{shapesGood}
-use Rattle.folio.proofs.ShapesFound.{length-starts, AreShapes}
+use Rattle.folio.proofs.ShapesFound.{length-starts}
 use Rattle.folio.proofs.GoodTables.{shapes-good-shaped}
 use Rattle.folio.proofs.Accepted.{shape-terms}
 use Rattle.automaton.specs.Exploring.{construction}

@@ -12,7 +12,7 @@ use Rattle.term.proofs.Numbers.{sub-number, number-below}
 use Rattle.term.proofs.Sizes.{length-sizes}
 use Rattle.term.proofs.Subterms.{sub-depth, fits-proper}
 use Rattle.following.proofs.FollowTree.{follow-at}
-use Rattle.contents.specs.Tables.{noBlank}
+use Rattle.kinds.specs.Limits.{noBlank}
 use Rattle.folio.specs.Folio.{GoodSymbols, IsScore}
 use Rattle.report.specs.Paths.{pathOf, Leads}
 use Rattle.report.proofs.FollowPath.{leads-path}
