@@ -5,6 +5,11 @@ use bufferstone::Built;
 use bufferstone::Opened;
 use bufferstone::Reason;
 use bufferstone::build;
+use bufferstone::limits::FILE_BYTES;
+use bufferstone::limits::MOST_SHAPES;
+use bufferstone::limits::SCORE_NODES;
+use bufferstone::limits::SCRATCH_WORDS;
+use bufferstone::limits::SHAPES_WORDS;
 use bufferstone::number;
 use bufferstone::open;
 use libc::STDIN_FILENO;
@@ -32,12 +37,12 @@ fn show_argument(i: usize) {
 }
 
 fn show_file(fd: i32) {
-    let mut file = [0u8; 8745];
+    let mut file = [0u8; FILE_BYTES + 1];
     let n = io::read_full(fd, &mut file);
-    let mut words = [9u16; 256];
-    let mut starts = [9u16; 16];
-    let mut score = [9u16; 4096];
-    let mut spans = [9u16; 4096];
+    let mut words = [9u16; SHAPES_WORDS];
+    let mut starts = [9u16; MOST_SHAPES];
+    let mut score = [9u16; SCORE_NODES];
+    let mut spans = [9u16; SCORE_NODES];
     show_answer(open(&file[..n], &mut words, &mut starts, &mut score, &mut spans));
     show_answer(open(
         &file[..n],
@@ -73,7 +78,7 @@ fn show_sample() {
     let symbols = [file[0], file[1], file[2]];
     let mut enough = [9u16; 56];
     let mut short = [9u16; 55];
-    let mut scratch = [9u16; 32768];
+    let mut scratch = [9u16; SCRATCH_WORDS];
     let mut little = [9u16; 32767];
     show_build(&symbols, &words, &starts, &mut enough, &mut scratch);
     show_build(&symbols, &words, &starts, &mut short, &mut scratch);

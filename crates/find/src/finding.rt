@@ -3,25 +3,32 @@ use crate::holding::Held;
 use crate::holding::Shown;
 use crate::printing::show_refusal;
 use crate::printing::show_report;
-use folio::Opened;
-use folio::opening::open;
-use kinds::Reason;
-use plan::Built;
-use plan::building::build;
-use walk::Record;
-use walk::Walked;
-use walk::starting::start;
-use walk::stepping::step;
+use bufferstone::Built;
+use bufferstone::Opened;
+use bufferstone::Reason;
+use bufferstone::Record;
+use bufferstone::Walked;
+use bufferstone::build;
+use bufferstone::limits::FILE_BYTES;
+use bufferstone::limits::MOST_SHAPES;
+use bufferstone::limits::PLAN_WORDS;
+use bufferstone::limits::SCORE_NODES;
+use bufferstone::limits::SCRATCH_WORDS;
+use bufferstone::limits::SHAPES_WORDS;
+use bufferstone::limits::WAITING_WORDS;
+use bufferstone::open;
+use bufferstone::start;
+use bufferstone::step;
 
 // Prints the report of a file of which all bytes are lent, or more than a folio may have; `length` is that of the whole file.
 pub fn find(file: &[u8], length: usize, out: &mut [u8], held: Held) -> Shown {
-    if 8744 < file.len() {
+    if FILE_BYTES < file.len() {
         return show_refusal(Reason::Long, length, out, held);
     }
-    let mut words = [0u16; 256];
-    let mut starts = [0u16; 16];
-    let mut score = [0u16; 4096];
-    let mut spans = [0u16; 4096];
+    let mut words = [0u16; SHAPES_WORDS];
+    let mut starts = [0u16; MOST_SHAPES];
+    let mut score = [0u16; SCORE_NODES];
+    let mut spans = [0u16; SCORE_NODES];
     match open(file, &mut words, &mut starts, &mut score, &mut spans) {
         Opened::Refused(reason, place) => show_refusal(reason, place, out, held),
         Opened::Folio(c) => find_opened(
@@ -45,8 +52,8 @@ fn find_opened(
     out: &mut [u8],
     held: Held,
 ) -> Shown {
-    let mut plan = [0u16; 32768];
-    let mut scratch = [0u16; 32768];
+    let mut plan = [0u16; PLAN_WORDS];
+    let mut scratch = [0u16; SCRATCH_WORDS];
     match build(symbols, words, starts, &mut plan, &mut scratch) {
         Built::Refused(reason) => show_refusal(reason, 0, out, held),
         Built::Stopped(reason, state) => show_refusal(reason, state.0 as usize, out, held),
@@ -71,7 +78,7 @@ fn find_by(
     out: &mut [u8],
     held: Held,
 ) -> Shown {
-    let mut marks = [0u16; 4096];
+    let mut marks = [0u16; SCORE_NODES];
     match walk_whole(plan, symbols, score, spans, &mut marks) {
         Walked::Refused(reason) => show_refusal(reason, 0, out, held),
         Walked::On(end) => show_report(symbols, score, spans, &marks, states, out, held),
@@ -85,8 +92,8 @@ fn walk_whole(
     spans: &[u16],
     marks: &mut [u16],
 ) -> Walked {
-    let mut waiting = [0u16; 8192];
-    let mut log = [0u16; 4096];
+    let mut waiting = [0u16; WAITING_WORDS];
+    let mut log = [0u16; SCORE_NODES];
     match start(symbols, score, spans, &mut waiting, &mut log, marks) {
         Walked::Refused(reason) => Walked::Refused(reason),
         Walked::On(begun) => take_all(plan, score, spans, &mut waiting, &mut log, marks, begun),

@@ -1,10 +1,8 @@
 // Output is held in a lent buffer, and written when there is no room in it for one line more.
 use crate::first;
+use bufferstone::Written;
+use bufferstone::limits::LINE_BYTES;
 use libc::STDOUT_FILENO;
-use report::Written;
-
-// No line of a report is longer.
-const LINE: usize = 1400;
 
 // How many bytes are held; `Lost` from the first write on that fails.
 pub enum Held {
@@ -64,7 +62,7 @@ pub fn room(out: &[u8], held: Held) -> Held {
 
 fn room_behind(n: usize, out: &[u8]) -> Held {
     if n < out.len() {
-        if LINE <= out.len() - n {
+        if LINE_BYTES <= out.len() - n {
             return Held::Bytes(n);
         }
     }

@@ -4,15 +4,15 @@ use crate::holding::longer;
 use crate::holding::put_text;
 use crate::holding::rest;
 use crate::holding::room;
-use counting::Counted;
-use counting::marks::clashes;
-use counting::marks::matches;
-use kinds::Node;
-use kinds::Reason;
-use kinds::Shape;
-use report::lines::put_first;
-use report::lines::put_line;
-use report::lines::put_refusal;
+use bufferstone::Counted;
+use bufferstone::Node;
+use bufferstone::Reason;
+use bufferstone::Shape;
+use bufferstone::clashes;
+use bufferstone::matches;
+use bufferstone::put_first;
+use bufferstone::put_line;
+use bufferstone::put_refusal;
 
 pub fn show_unread(out: &mut [u8], held: Held) -> Shown {
     Shown::Unread(put_text(b"cannot be read\n", out, held))

@@ -3,6 +3,7 @@ use crate::first;
 use crate::holding::Held;
 use crate::holding::Shown;
 use crate::printing::show_unread;
+use bufferstone::limits::FILE_BYTES;
 
 // No input is longer.
 const MOST_BYTES: usize = 0x7fffffffffffffff;
@@ -33,7 +34,7 @@ pub fn find_file(path: &[u8], standard: i32, out: &mut [u8], held: Held) -> Show
 
 // One byte more is read than a folio may have; of a longer input the rest is only counted.
 pub fn find_in(fd: i32, out: &mut [u8], held: Held) -> Shown {
-    let mut file = [0u8; 8745];
+    let mut file = [0u8; FILE_BYTES + 1];
     match read_whole(fd, &mut file) {
         Length::Whole(n) => find(first::bytes(&file, n), n, out, held),
         _ => show_unread(out, held),

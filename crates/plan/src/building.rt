@@ -1,9 +1,9 @@
 use crate::Built;
-use crate::SCRATCH_WORDS;
 use crate::Size;
+use checks::checking::shapes_good;
 use exploring::meeting::explore;
 use kinds::Reason;
-use checks::checking::shapes_good;
+use kinds::limits::SCRATCH_WORDS;
 use states::Explored;
 use tables::TABLE_WORDS;
 use tables::filling::fill_tables;

@@ -9,6 +9,13 @@ use bufferstone::Size;
 use bufferstone::Walked;
 use bufferstone::build;
 use bufferstone::equal;
+use bufferstone::limits::FILE_BYTES;
+use bufferstone::limits::MOST_SHAPES;
+use bufferstone::limits::PLAN_WORDS;
+use bufferstone::limits::SCORE_NODES;
+use bufferstone::limits::SCRATCH_WORDS;
+use bufferstone::limits::SHAPES_WORDS;
+use bufferstone::limits::WAITING_WORDS;
 use bufferstone::number;
 use bufferstone::open;
 use bufferstone::start;
@@ -25,11 +32,11 @@ fn main() {
 }
 
 fn walk_folio(i: usize, j: usize) {
-    let mut file = [0u8; 8745];
+    let mut file = [0u8; FILE_BYTES + 1];
     let n = read_named(i, &mut file);
     let mut text = [0u8; 196608];
     let t = read_named(j, &mut text);
-    let mut stored = [0u16; 32768];
+    let mut stored = [0u16; PLAN_WORDS];
     let p = put_numbers(&text[..t], &mut stored);
     walk_file(&file[..n], first(&stored, p));
 }
@@ -98,10 +105,10 @@ fn first_bytes<'a>(bytes: &'a [u8], n: usize) -> &'a [u8] {
 }
 
 fn walk_file(file: &[u8], stored: &[u16]) {
-    let mut words = [0u16; 256];
-    let mut starts = [0u16; 16];
-    let mut score = [0u16; 4096];
-    let mut spans = [0u16; 4096];
+    let mut words = [0u16; SHAPES_WORDS];
+    let mut starts = [0u16; MOST_SHAPES];
+    let mut score = [0u16; SCORE_NODES];
+    let mut spans = [0u16; SCORE_NODES];
     match open(file, &mut words, &mut starts, &mut score, &mut spans) {
         Opened::Refused(reason, place) => {
             show(b"refused ", number(reason) as usize);
@@ -127,8 +134,8 @@ fn walk_opened(
     spans: &[u16],
     stored: &[u16],
 ) {
-    let mut plan = [9u16; 32768];
-    let mut scratch = [9u16; 32768];
+    let mut plan = [9u16; PLAN_WORDS];
+    let mut scratch = [9u16; SCRATCH_WORDS];
     match build(symbols, words, starts, &mut plan, &mut scratch) {
         Built::Plan(size) => {
             let built = first(&plan, size.words);
@@ -155,7 +162,7 @@ fn show_plan(size: Size, same: bool) {
 }
 
 fn walk_ways(symbols: &[u8], plan: &[u16], score: &[u16], spans: &[u16]) {
-    let mut marks = [9u16; 4096];
+    let mut marks = [9u16; SCORE_NODES];
     walk_whole(symbols, plan, score, spans, &mut marks, 0);
     show_marks(&marks, score.len());
     walk_again(symbols, plan, score, spans, &marks, 1);
@@ -170,7 +177,7 @@ fn walk_again(
     before: &[u16],
     way: usize,
 ) {
-    let mut marks = [9u16; 4096];
+    let mut marks = [9u16; SCORE_NODES];
     walk_whole(symbols, plan, score, spans, &mut marks, way);
     if equal(before, &marks) {
         io::write_all(STDOUT_FILENO, b" the same marks\n");
@@ -187,8 +194,8 @@ fn walk_whole(
     marks: &mut [u16],
     way: usize,
 ) {
-    let mut waiting = [0u16; 8192];
-    let mut log = [0u16; 4096];
+    let mut waiting = [0u16; WAITING_WORDS];
+    let mut log = [0u16; SCORE_NODES];
     match start(symbols, score, spans, &mut waiting, &mut log, marks) {
         Walked::On(r) => {
             take_steps(plan, score, spans, &mut waiting, &mut log, marks, r, way);
