@@ -6,7 +6,7 @@
 use mathlib.Core.Path.{_≡_, refl, ap, ap₂, sym, _∙_}
 use mathlib.Core.List.{List, [], _∷_, _++_}
 use mathlib.Core.Bool.{Bool, true, false, cond, _&&_, _||_}
-use Prim.Native.Nat.{ℕ, zero, suc, _+_, _<_, _≤_}
+use Prim.Native.Nat.{ℕ, zero, suc, _+_}
 use native.Mathlib.Omega.{arith}
 use native.Mathlib.Nat.{add-zero, zero-add}
 use lib.Dec.{eqb}
@@ -125,7 +125,8 @@ total-from ms (n ∷ ns) c e =
     here : sumTo 16 (bit n) ≡ length (foundAt ms c)
     here =
         ap (λ k. sumTo 16 (bit k)) same
-        ∙ length-to 16 0 (bit (getD ms c 0)) (foundOne ms c) (λ j. bit-one (getD ms c 0) j (matchAt c j) ∙ ap (λ n. length (foundOne ms c n)) (sym (zero-add j)))
+        ∙ length-to 16 0 (bit (getD ms c 0)) (foundOne ms c)
+        (λ j. bit-one (getD ms c 0) j (matchAt c j) ∙ ap (λ n. length (foundOne ms c n)) (sym (zero-add j)))
 
 pub total-found : (ms : List ℕ) → total ms ≡ length (foundIn ms)
 total-found ms = total-from ms ms 0 (λ i. ap (λ k. getD ms k 0) (sym (zero-add i)))

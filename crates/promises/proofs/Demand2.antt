@@ -2,7 +2,7 @@
 --   marks-long     there is a mark for each node
 --   right          the marks of a finished walk are set exactly where a test that says the paper's match says yes
 use mathlib.Core.Path.{_≡_, ap, sym, _∙_, subst}
-use mathlib.Core.Bool.{Bool, true, false}
+use mathlib.Core.Bool.{Bool}
 use mathlib.Core.List.{List}
 use mathlib.Core.Logic.{_↔_}
 use mathlib.Core.Option.{some}
@@ -78,7 +78,8 @@ module _ {file : List ℕ} (S : OneFile file) where
         text : reported S choices ≡ reportIn test (shapesIn S) (scoreIn S) (S .size .states)
         text =
             ap (λ sp. report sp (S .size .states) (after S choices .marks)) (score-spans S)
-            ∙ report-right test (shapesIn S) (scoreIn S) (after S choices .marks) right (is-folio S .few-shapes) (λ p n e. rw (score-spans S) at (path p n e)) (S .size .states)
+            ∙ report-right test (shapesIn S) (scoreIn S) (after S choices .marks) right (is-folio S .few-shapes)
+            (λ p n e. rw (score-spans S) at (path p n e)) (S .size .states)
 
 pub demand-2 : {file : List ℕ} (S : OneFile file) → Demand2 S
 demand-2 S = record {

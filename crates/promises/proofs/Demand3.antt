@@ -5,7 +5,7 @@ use mathlib.Core.List.{List, _++_}
 use mathlib.Core.Logic.{_↔_}
 use Prim.Native.Nat.{ℕ, suc, _+_, _<_, _≤_}
 use native.Mathlib.Omega.{arith}
-use lib.ListN.{length, getD, getElem?, take}
+use lib.ListN.{length, getD, getElem?, take, take-append-drop}
 use lib.Seq.{ext-getD, length-take-le, getD-take}
 use Rattle.kinds.specs.Bits.{bit}
 use Rattle.kinds.specs.declared.Reason.the-variants.{NoSuchItem, OutOfRange}
@@ -24,7 +24,7 @@ use Rattle.walk.specs.Starting.{Walk, WalkOutcome, refuseWalk}
 use Rattle.walk.specs.declared.Walked.the-variants.{On, Refused}
 use Rattle.walking.specs.OneFolio.{walkIn}
 use Rattle.walking.proofs.AnyWalk as any-walk
-use Rattle.promises.specs.OneFile.{OneFile, scoreIn, spansIn, after, stepAfter, acceptedIn, reported}
+use Rattle.promises.specs.OneFile.{OneFile, scoreIn, spansIn, bufferIn, after, stepAfter, acceptedIn, reported}
 use Rattle.promises.specs.Demand3.{Demand3}
 use Rattle.promises.proofs.Setting.{score-spans, told, same-shapes, same-score, same-spans, same-states}
 use Rattle.promises.proofs.Demand2.{demand-2, marks-long}
@@ -136,6 +136,7 @@ module _ {file : List ℕ} (S T : OneFile file) (c d : List ℕ) (c-done : after
 
 pub demand-3 : {file : List ℕ} (S : OneFile file) → Demand3 S
 demand-3 S = record {
+  in-buffer = take-append-drop (S .size .words) (bufferIn S);
   never-34 = never-34 S;
   refused = refused S;
   taken = taken S;

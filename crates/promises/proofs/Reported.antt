@@ -7,30 +7,29 @@
 use mathlib.Core.Path.{_≡_, refl, ap, ap₂, sym, _∙_, subst}
 use mathlib.Core.Bool.{Bool, true, false, cond, _&&_, _||_}
 use mathlib.Core.List.{List, [], _∷_, _++_, map, append-nil}
-use mathlib.Core.Logic.{_↔_, ⊎-elim}
-use mathlib.Core.Option.{Option, none, some, Option·map}
+use mathlib.Core.Logic.{⊎-elim}
+use mathlib.Core.Option.{some, Option·map}
 use Prim.Native.Nat.{ℕ, zero, suc, _+_, _-_, _<_, _≤_}
 use native.Mathlib.Omega.{arith}
 use native.Mathlib.Nat.{add-zero, zero-add}
 use lib.Dec.{eqb, ltb}
 use lib.ListN.{length, getD, getElem?, take, length-map}
-use Rattle.kinds.specs.Bits.{bit}
 use Rattle.kinds.specs.Lists.{any, filter, gather, concat, mapAt, range}
 use Rattle.kinds.specs.Members.{_∈_, here, there}
 use Rattle.kinds.specs.Positions.{Pos, prefix}
-use Rattle.kinds.proofs.Bools.{bool-ext, on-or, or-l, or-r, both, and-l, and-r, eqb-is, is-eqb, ltb-is, is-ltb, not-true}
+use Rattle.kinds.proofs.Bools.{bool-ext, on-or, or-l, or-r, both, and-l, and-r, eqb-is, is-eqb, ltb-is, is-ltb}
 use Rattle.kinds.proofs.ListLaws.{map-append, gather-append, gather-map, gather-same, filter-map, filter-same, any-map, any-same, range-append}
 use Rattle.kinds.proofs.Members.{∈-append, in-one, in-none, in-range}
-use Rattle.kinds.proofs.Options.{none-not, on-map}
-use Rattle.kinds.proofs.Places.{at-some, at-below, on-mapAt}
+use Rattle.kinds.proofs.Options.{on-map}
+use Rattle.kinds.proofs.Places.{on-mapAt}
 use Rattle.kinds.proofs.Prefixes.{prefix-is, is-prefix}
 use Rattle.term.specs.Terms.{Term, span, sizes}
-use Rattle.term.specs.Places.{Matches, sub, dom, number, place}
+use Rattle.term.specs.Places.{sub, dom, number, place}
 use Rattle.term.proofs.Numbers.{number-place, number-below, node-at, number-append, sub-number, dom-number}
 use Rattle.term.proofs.Sizes.{length-sizes, span-pos}
 use Rattle.term.proofs.Subterms.{length-dom}
 use Rattle.following.proofs.FollowTree.{span-at}
-use Rattle.counting.specs.Counting.{Match, matchAt, found, total, someMatch, howMany}
+use Rattle.counting.specs.Counting.{Match, matchAt, found, total}
 use Rattle.counting.specs.Clashes.{isOver, clash, other, clashing, clashNumber}
 use Rattle.counting.proofs.FoundLaws.{one, foundOne, foundAt, foundIn, some-found, many-found, total-found}
 use Rattle.report.specs.Paths.{pathOf}
@@ -72,7 +71,8 @@ module _ (t : Term) (p q : Pos) (x y : ℕ) (np : number t p ≡ some x) (nq : n
       up : prefix p q ≡ true → isOver (sizes t) x y ≡ true
       up e =
           let l = prefix-is p q e in
-          let n : Option·map (λ k. x + k) (number (u .0) (l .by)) ≡ some y = sym (number-append p (l .by) t (u .0) x (u .1) np) ∙ ap (number t) (sym (l .eq)) ∙ nq in
+          let n : Option·map (λ k. x + k) (number (u .0) (l .by)) ≡ some y =
+          sym (number-append p (l .by) t (u .0) x (u .1) np) ∙ ap (number t) (sym (l .eq)) ∙ nq in
           on-map (number (u .0) (l .by)) _ n λ k ek z.
           rw (← z) (over-is (sizes t) x k (omega (arith, number-below (l .by) (u .0) k ek, spanned)))
 

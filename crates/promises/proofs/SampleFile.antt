@@ -1,11 +1,11 @@
 -- The sample file opens, is built and is walked: demands 2 and 3 speak of it, and say there what document 01 shows.
---   one-file        the sample, with buffers full of nines
+--   one-file        the sample, with buffers full of nines; a step is lent the whole plan buffer, a word longer than the plan
 --   ended           ten choices of item 0, and none waits
 --   shape-0-at-2-1  by demand 2, shape 0 matches at 2.1; no-shape-1-at-1: shape 1 does not at 1
 --   always-ten      by demand 3, every walk to the end has ten accepted steps
 --   always-reported by demand 3, every walk over the file to its end, in any order and with any buffers, reports the text of document 01
 use mathlib.Core.Path.{_≡_, refl, ap, ap₂, sym, _∙_}
-use mathlib.Core.List.{List, [], _∷_}
+use mathlib.Core.List.{List, [], _∷_, _++_}
 use mathlib.Core.Option.{some}
 use Prim.Native.Nat.{ℕ, _<_}
 use native.Mathlib.Omega.{arith}
@@ -28,7 +28,8 @@ use Rattle.walk.specs.Stepping.{run}
 use Rattle.report.specs.Text.{report}
 use Rattle.promises.specs.Computing.{computing}
 use Rattle.promises.specs.Sample.{file, symbols, shapeWords, starts, score, spans, plan, marks, text, nines}
-use Rattle.promises.specs.OneFile.{OneFile, openedWords, openedStarts, openedNodes, openedSpans, nodesIn, spansIn, shapesIn, scoreIn, planIn, begunIn, after, acceptedIn, reported}
+use Rattle.promises.specs.OneFile.{OneFile, openedWords, openedStarts, openedNodes, openedSpans}
+use Rattle.promises.specs.OneFile.{nodesIn, spansIn, shapesIn, scoreIn, lentIn, begunIn, after, acceptedIn, reported}
 use Rattle.promises.proofs.Demand2.{demand-2}
 use Rattle.promises.proofs.Demand3.{demand-3}
 use Rattle.kinds.specs.Members.{Below}
@@ -88,6 +89,7 @@ one-file = record {
   scratch = nines 32768;
   size = size 3 56;
   builds = ap₂ (λ w s. buildOf symbols w s (nines 57) (nines 32768) .answer) words-are starts-are ∙ build-is;
+  behind = 9 ∷ [];
   walk = walk;
   first = counting 1 0;
   starts = ap₂ (λ n s. started symbols n s walk .answer) nodes-are spans-are ∙ ap (λ (o : WalkOutcome). o .answer) start-is;
@@ -97,15 +99,20 @@ one-file = record {
 abbrev pub zeros : List ℕ
 zeros = replicate 10 0
 
-after-is : (choices : List ℕ) → after one-file choices ≡ run plan score spans choices (begun 10 walk)
+-- the plan as it lies in its buffer
+abbrev buffer : List ℕ
+buffer = plan ++ (9 ∷ [])
+
+after-is : (choices : List ℕ) → after one-file choices ≡ run buffer score spans choices (begun 10 walk)
 after-is choices =
-    let p : planIn one-file ≡ plan = ap₂ (λ w s. take 56 (buildOf symbols w s (nines 57) (nines 32768) .plan)) words-are starts-are ∙ plan-is in
+    let p : lentIn one-file ≡ buffer =
+    ap₂ (λ w s. take 56 (buildOf symbols w s (nines 57) (nines 32768) .plan) ++ (9 ∷ [])) words-are starts-are ∙ ap (λ l. l ++ (9 ∷ [])) plan-is in
     let b : begunIn one-file ≡ begun 10 walk = ap₂ (λ n s. started symbols n s walk .walk) nodes-are spans-are ∙ ap (λ (o : WalkOutcome). o .walk) start-is in
     ap (λ q. run q (nodesIn one-file) (spansIn one-file) choices (begunIn one-file)) p
-    ∙ ap₂ (λ n s. run plan n s choices (begunIn one-file)) nodes-are spans-are
-    ∙ ap (run plan score spans choices) b
+    ∙ ap₂ (λ n s. run buffer n s choices (begunIn one-file)) nodes-are spans-are
+    ∙ ap (run buffer score spans choices) b
 
-walk-ends : (run plan score spans zeros (begun 10 walk) .count .waiting ≡ 0) × (run plan score spans zeros (begun 10 walk) .marks ≡ marks)
+walk-ends : (run buffer score spans zeros (begun 10 walk) .count .waiting ≡ 0) × (run buffer score spans zeros (begun 10 walk) .marks ≡ marks)
 unfolding computing
 walk-ends = (refl, refl)
 

@@ -121,7 +121,7 @@ module _ {file : List ℕ} (S : OneFile file) where
     pub accepted-is : (choices : List ℕ) → acceptedIn S choices ≡ acceptedOn folio choices (S .walk)
 
   pub told : Told
-  told = on-plan is-folio (length (S .plan)) (S .size .states) (planIn S) plan-is λ F em ew.
+  told = on-plan is-folio (length (S .plan)) (S .size .states) (planIn S) (S .behind) plan-is λ F em ew.
       let begins : begunIn S ≡ begun (length (flatten (scoreIn S))) (S .walk) = as-started .1 ∙ ap (λ l. begun (length l) (S .walk)) score-words in
       let walks : (choices : List ℕ) → after S choices ≡ walkIn F choices (S .walk) = λ choices. ap₄ (λ a b c v. run a b c choices v) ew score-words score-spans begins in
       record {

@@ -52,8 +52,8 @@ module _ (plan score spans : List ℕ) (state node : ℕ) (found : Finding) wher
   item-look : ItemFound plan score spans state node found → look plan score spans (state, node) ≡ some found
   unfolding labelWord
   item-look h =
-      look-of plan score spans state node (h .code) (found .node) (h .symbol) (outsAt plan (h .begin)) (nextsAt plan (h .begin)) (found .outs) (found .nexts)
-      (and-l _ (view-good plan states symbols (h .label .view)))
+      look-of plan score spans states symbols (getD plan 2 0) (and-l _ (view-good plan states symbols (h .label .view))) refl refl refl
+      state node (h .code) (found .node) (h .symbol) (outsAt plan (h .begin)) (nextsAt plan (h .begin)) (found .outs) (found .nexts)
       (rw (lt-ltb state states (h .label .state)) (h .label .word))
       (h .node-read) (h .symbol-read)
       (block-start plan states symbols state (h .symbol) ∙ rw (block-of plan states symbols state (h .symbol) (h .begin) (h .block)) refl)

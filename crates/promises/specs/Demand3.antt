@@ -1,5 +1,7 @@
 -- Demand 3: "whoever chooses the order of steps, n symbols take n accepted steps, each symbol is read once, the waiting never outnumber the unread, and the
--- report is the same, bit for bit." For any choices, refused ones among them.
+-- report is the same, bit for bit." For any choices, refused ones among them, and for any words lent behind the plan:
+-- so for the plan alone, and for the plan as it lies in its buffer.
+--   in-buffer       the plan with the rest of its buffer behind it is the buffer that building wrote into
 --   never-34        "In demand 3's setting, where plan and score come from one folio, 34 is never given."
 --   refused         a choice that is not below the number waiting is refused 32 and changes nothing
 --   taken           any other is accepted, and reads one symbol more
@@ -8,17 +10,18 @@
 --   waits           the waiting and the read are at most n together
 --   same-…          two finished walks over the file, by any choices and with any buffers, have the same marks and the same text
 use mathlib.Core.Path.{_≡_}
-use mathlib.Core.List.{List}
+use mathlib.Core.List.{List, _++_}
 use mathlib.Core.Logic.{_↔_}
 use Prim.Native.Nat.{ℕ, suc, _+_, _<_, _≤_}
-use lib.ListN.{getD, take}
+use lib.ListN.{getD, take, drop}
 use Rattle.kinds.specs.declared.Reason.the-variants.{NoSuchItem, OutOfRange}
 use Rattle.term.specs.Terms.{span}
 use Rattle.walk.specs.Starting.{refuseWalk}
 use Rattle.walk.specs.declared.Walked.the-variants.{On, Refused}
-use Rattle.promises.specs.OneFile.{OneFile, scoreIn, after, stepAfter, acceptedIn, reported}
+use Rattle.promises.specs.OneFile.{OneFile, scoreIn, bufferIn, planIn, after, stepAfter, acceptedIn, reported}
 
 pub record Demand3 {file : List ℕ} (S : OneFile file) : Type 0 where
+  pub in-buffer : planIn S ++ drop (S .size .words) (bufferIn S) ≡ bufferIn S
   pub never-34 : (choices : List ℕ) (i : ℕ) → stepAfter S choices i .answer ≡ Refused OutOfRange → ⊥
   pub refused : (choices : List ℕ) (i : ℕ) → after S choices .count .waiting ≤ i → stepAfter S choices i ≡ refuseWalk NoSuchItem (after S choices)
   pub taken : (choices : List ℕ) (i : ℕ) → i < after S choices .count .waiting

@@ -1,14 +1,16 @@
 -- The setting of demands 2 and 3: one file that opens, whose build is accepted, and a walk over it that is started; the buffers lent are any.
 --   symbolsIn …     what opening wrote, each by the count answered
---   OneFile         the three calls, each with what the one before it wrote
+--   OneFile         the three calls, each with what the one before it wrote; and the words that a step is lent behind the plan, which are any
 --   shapesIn scoreIn   the terms that opening read
---   planIn begunIn  the plan that building wrote; the walk that starting began
+--   bufferIn planIn begunIn  the buffer as building left it, the plan in it; the walk that starting began
+--   lentIn          the plan words lent to a step: the plan, and what is lent behind it. None behind it is the plan alone; the rest of its buffer behind it
+--                   is the whole buffer (`Demand3.in-buffer`)
 --   after           the walk after any choices, each step "lent the same buffers and record as the one before left them"
 --   stepAfter       one more step then
 --   acceptedIn      how many of the choices were accepted
 --   reported        the text that find prints
 use mathlib.Core.Path.{_≡_}
-use mathlib.Core.List.{List}
+use mathlib.Core.List.{List, _++_}
 use Prim.Native.Nat.{ℕ}
 use lib.ListN.{take}
 use Rattle.term.specs.Terms.{Term}
@@ -51,6 +53,7 @@ pub record OneFile (file : List ℕ) : Type 0 where
   pub scratch : List ℕ
   pub size : Size
   pub builds : buildOf (openedSymbols file tables counts) (openedWords file tables counts) (openedStarts file tables counts) plan scratch .answer ≡ building.Plan size
+  pub behind : List ℕ
   pub walk : Walk
   pub first : Record
   pub starts : started (openedSymbols file tables counts) (openedNodes file tables counts) (openedSpans file tables counts) walk .answer ≡ walking.On first
@@ -77,20 +80,26 @@ module _ {file : List ℕ} (S : OneFile file) where
   abbrev pub scoreIn : Term
   scoreIn = scoreTerm symbolsIn nodesIn
 
+  abbrev pub bufferIn : List ℕ
+  bufferIn = buildOf symbolsIn wordsIn startsIn (S .plan) (S .scratch) .plan
+
   abbrev pub planIn : List ℕ
-  planIn = take (S .size .words) (buildOf symbolsIn wordsIn startsIn (S .plan) (S .scratch) .plan)
+  planIn = take (S .size .words) bufferIn
+
+  abbrev pub lentIn : List ℕ
+  lentIn = planIn ++ S .behind
 
   abbrev pub begunIn : Walk
   begunIn = started symbolsIn nodesIn spansIn (S .walk) .walk
 
   abbrev pub after : List ℕ → Walk
-  after choices = run planIn nodesIn spansIn choices begunIn
+  after choices = run lentIn nodesIn spansIn choices begunIn
 
   abbrev pub stepAfter : List ℕ → ℕ → WalkOutcome
-  stepAfter choices i = stepped planIn nodesIn spansIn i (after choices)
+  stepAfter choices i = stepped lentIn nodesIn spansIn i (after choices)
 
   abbrev pub acceptedIn : List ℕ → ℕ
-  acceptedIn choices = accepted planIn nodesIn spansIn choices begunIn
+  acceptedIn choices = accepted lentIn nodesIn spansIn choices begunIn
 
   abbrev pub reported : List ℕ → List ℕ
   reported choices = report spansIn (S .size .states) (after choices .marks)

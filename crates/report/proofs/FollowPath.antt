@@ -2,20 +2,20 @@
 --   follow-within          what is reached from a node lies in its span
 --   path-leads leads-path  a path is found exactly if it leads to the node
 use Prim.Native.Nat.{ℕ, zero, suc, _+_, _<_, _≤_}
-use mathlib.Core.Path.{_≡_, refl, ap, sym, _∙_}
-use mathlib.Core.Bool.{Bool, true, false, cond, _&&_}
+use mathlib.Core.Path.{_≡_, refl, ap}
+use mathlib.Core.Bool.{Bool, true, false, cond}
 use mathlib.Core.List.{List, [], _∷_}
-use mathlib.Core.Option.{Option, none, some, Option·map}
+use mathlib.Core.Option.{some, Option·map}
 use native.Mathlib.Omega.{arith}
 use native.Mathlib.Nat.{add-zero}
 use native.Mathlib.Numerals.{add-one}
 use borrow.Author.Tests.{lt-ltb, le-ltb, eq-eqb, ne-eqb}
-use lib.Dec.{eqb, ltb, leb}
+use lib.Dec.{eqb, ltb}
 use lib.ListN.{length, getD}
-use Rattle.kinds.specs.Lists.{bind, need}
-use Rattle.kinds.specs.Members.{_∈_, here, there, Below}
+use Rattle.kinds.specs.Lists.{bind}
+use Rattle.kinds.specs.Members.{here, there, Below}
 use Rattle.kinds.specs.Positions.{Pos}
-use Rattle.kinds.proofs.Bools.{and-l, and-r, eqb-is, ltb-is, ltb-not, leb-is}
+use Rattle.kinds.proofs.Bools.{and-l, and-r, eqb-is, ltb-is, leb-is}
 use Rattle.kinds.proofs.Members.{in-none}
 use Rattle.kinds.proofs.Options.{none-not, on-bind, on-map, on-need}
 use Rattle.following.specs.Following.{inside, sibling, childAt, follow}
@@ -100,14 +100,18 @@ module _ (sp : List ℕ) where
   leads-path x p h = rw (lt-ltb x (length sp) (h .node)) (leads-to p 64 0 x (h .few) (h .children) (h .there))
 
   -- ---- what the search finds leads there
-  on-found : (end x k at i n c : ℕ) → childOn sp end x k at i ≡ some (n, c) → (j : ℕ) × (n ≡ i + j) × (j < k) × (sibling sp end j at ≡ some c)
+  -- child n is child j of k from `at` on, which is number i
+  abbrev Among : ℕ → ℕ → ℕ → ℕ → ℕ → ℕ → Type 0
+  Among end k at i n c = (j : ℕ) × (n ≡ i + j) × (j < k) × (sibling sp end j at ≡ some c)
+
+  on-found : (end x k at i n c : ℕ) → childOn sp end x k at i ≡ some (n, c) → Among end k at i n c
   unfolding sibling childOn
   on-found end x zero at i n c e = none-not e
-  on-found end x (suc k) at i n c e = on-need (inside sp end at) _ e λ t f. go (ltb x (at + getD sp at 0)) t f (on-found end x k (at + getD sp at 0) (i + 1) n c)
+  on-found end x (suc k) at i n c e = on-need (inside sp end at) _ e λ t f.
+      go (ltb x (at + getD sp at 0)) t f (on-found end x k (at + getD sp at 0) (i + 1) n c)
     where
       go : (b : Bool) → inside sp end at ≡ true → cond b (some (i, at)) (childOn sp end x k (at + getD sp at 0) (i + 1)) ≡ some (n, c)
-          → (childOn sp end x k (at + getD sp at 0) (i + 1) ≡ some (n, c) → (j : ℕ) × (n ≡ i + 1 + j) × (j < k) × (sibling sp end j (at + getD sp at 0) ≡ some c))
-          → (j : ℕ) × (n ≡ i + j) × (j < suc k) × (sibling sp end j at ≡ some c)
+          → (childOn sp end x k (at + getD sp at 0) (i + 1) ≡ some (n, c) → Among end k (at + getD sp at 0) (i + 1) n c) → Among end (suc k) at i n c
       go true t f ih =
           let q : _≡_ {A = ℕ × ℕ} (i, at) (n, c) = cc in
           let z : at ≡ c = ap (λ (p : ℕ × ℕ). p .1) q in

@@ -8,13 +8,12 @@ use mathlib.Core.Path.{_≡_, refl, ap, sym, _∙_}
 use mathlib.Core.List.{List, [], _∷_, _++_, append-assoc, append-nil}
 use mathlib.Core.Option.{Option, none, some, Option·map}
 use native.Mathlib.Omega.{arith}
-use native.Mathlib.Nat.{add-zero}
 use native.Mathlib.Numerals.{add-one}
 use borrow.Author.Tests.{lt-ltb, le-ltb, le-leb, lt-leb, eq-eqb, ne-eqb}
 use lib.ListN.{length, getD, set, take}
 use mathlib.Core.Bool.{Bool, true, false, cond}
 use lib.Dec.{eqb, ltb}
-use Rattle.kinds.specs.Lists.{bind, need}
+use Rattle.kinds.specs.Lists.{bind}
 use Rattle.kinds.specs.Positions.{Pos}
 use Rattle.kinds.proofs.Options.{on-bind, on-map, on-need}
 use Rattle.kinds.proofs.ListLaws.{take-set}

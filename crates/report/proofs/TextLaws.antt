@@ -8,18 +8,16 @@
 --   field-is first-is refusal-is match-is   a text and a number; the three lines
 --   part-few         a path that is found is short
 --   match-short nowhere line-of line-nowhere   a match's line by the spans: there is no room, none, one; none
-use Prim.Native.Nat.{ℕ, zero, suc, _+_, _*_, _-_, _<_, _≤_}
+use Prim.Native.Nat.{ℕ, suc, _+_, _*_, _-_, _<_, _≤_}
 use mathlib.Core.Path.{_≡_, refl, ap, ap₂, sym, _∙_}
 use mathlib.Core.List.{List, [], _∷_, _++_}
 use native.Mathlib.Omega.{arith}
-use native.Mathlib.Nat.{add-zero, zero-add, sub-zero}
-use mathlib.Core.Bool.{Bool, true, false, cond}
+use native.Mathlib.Nat.{zero-add, sub-zero}
 use mathlib.Core.Option.{Option, none, some, Option·map}
 use borrow.Author.Tests.{lt-leb, le-leb}
-use lib.Dec.{eqb}
 use native.Mathlib.Numerals.{add-one}
 use lib.ListN.{length, getD, take, drop, set, length-append, length-set}
-use lib.Seq.{sets, drop-cons, length-sets}
+use lib.Seq.{sets, length-sets}
 use Rattle.kinds.specs.Lists.{gather, unless}
 use Rattle.kinds.specs.Positions.{Pos}
 use Rattle.kinds.proofs.ListLaws.{sets-append, from, from-end}

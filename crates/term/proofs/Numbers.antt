@@ -156,10 +156,13 @@ mutual
 
       go : Dec (k < span t) → getElem? (dom t) k ≡ place t k → getElem? (doms ts (suc i)) (k - span t) ≡ places ts (suc i) (k - span t)
           → getElem? (map (λ p. i ∷ p) (dom t) ++ doms ts (suc i)) k ≡ places (tcons t ts) i k
-      go (yes h) a b = rw (lt-ltb k (span t) h) (at-front (map (λ p. i ∷ p) (dom t)) (doms ts (suc i)) k (omega (arith, long)) ∙ at-mapped (λ p. i ∷ p) (dom t) k ∙ ap (Option·map (λ p. i ∷ p)) a)
+      go (yes h) a b =
+          rw (lt-ltb k (span t) h)
+          (at-front (map (λ p. i ∷ p) (dom t)) (doms ts (suc i)) k (omega (arith, long)) ∙ at-mapped (λ p. i ∷ p) (dom t) k ∙ ap (Option·map (λ p. i ∷ p)) a)
       go (no h) a b =
           let z : k ≡ length (map (λ p. i ∷ p) (dom t)) + (k - span t) = omega (arith, long) in
-          rw (le-ltb k (span t) (omega arith)) (ap (getElem? (map (λ p. i ∷ p) (dom t) ++ doms ts (suc i))) z ∙ at-right (map (λ p. i ∷ p) (dom t)) (doms ts (suc i)) (k - span t) ∙ b)
+          rw (le-ltb k (span t) (omega arith))
+          (ap (getElem? (map (λ p. i ∷ p) (dom t) ++ doms ts (suc i))) z ∙ at-right (map (λ p. i ∷ p) (dom t)) (doms ts (suc i)) (k - span t) ∙ b)
 
 pub dom-number : (t : Term) (k : ℕ) (p : Pos) → getElem? (dom t) k ≡ some p → number t p ≡ some k
 dom-number t k p e = place-number t k p (sym (dom-place t k) ∙ e)

@@ -1,5 +1,6 @@
--- The words of a plan, read back; and what a plan is planned from.
+-- The words of a plan, read back with any words behind them; and what a plan is planned from.
 --   counts-read label-read block-read   header, labels and blocks
+--   plan-reads                          a plan's words and any behind them read as that plan
 --   on-planned                          the states and blocks that a plan's words are of
 use mathlib.Core.Path.{_≡_, refl, ap, sym, _∙_}
 use mathlib.Core.Bool.{Bool, true, false, cond, _||_}
@@ -16,9 +17,9 @@ use Rattle.kinds.specs.Positions.{code}
 use Rattle.kinds.proofs.Bools.{both, is-ltb, is-leb}
 use Rattle.kinds.proofs.Options.{none-not}
 use Rattle.kinds.proofs.Places.{at-below, at-left, at-map, getElem-some}
-use Rattle.automaton.specs.Goals.{Announcement}
-use Rattle.automaton.specs.Exploring.{Construction, Succ, Block, Made, refused, made, explored}
+use Rattle.automaton.specs.Exploring.{Construction, Block, Made, refused, made, explored}
 use Rattle.automaton.specs.PlanWords.{blockWords, startsFrom, too-long, plan-of, planWords, toPlan, planned}
+use Rattle.walking.specs.OneFolio.{outPair, succPair, ReadsAs}
 use Rattle.readers.specs.PlanParts.{countsGood, pairs, countedPairs, blockAt, labelWord, blockOf}
 
 -- ---- a block at the head of the words
@@ -26,12 +27,6 @@ pairs-of : {A : Type 0} (F G : A → ℕ) (xs : List A) (r : List ℕ) → pairs
 unfolding pairs
 pairs-of F G [] r = refl
 pairs-of F G (x ∷ xs) r = rw (pairs-of F G xs r)
-
-abbrev pub outPair : Announcement → ℕ × ℕ
-outPair a = (a .shape, code (a .at))
-
-abbrev pub succPair : Succ → ℕ × ℕ
-succPair x = (x .to, code (x .by))
 
 block-of : (b : Block) (r : List ℕ) → blockAt (blockWords b ++ r) ≡ some (map outPair (b .out), map succPair (b .succs))
 unfolding blockAt countedPairs
@@ -43,42 +38,63 @@ block-of b r =
     )
 
 -- ---- where block j starts, and what stands there
-record Starts (at : ℕ) (bw : List (List ℕ)) (j : ℕ) (b : List ℕ) : Type 0 where
+record Starts (at : ℕ) (bw : List (List ℕ)) (behind : List ℕ) (j : ℕ) (b : List ℕ) : Type 0 where
   offset : ℕ
   start : (rest : List ℕ) → getD (startsFrom at bw ++ rest) j 0 ≡ at + offset
   after : List ℕ
-  there : drop offset (concat bw) ≡ b ++ after
+  there : drop offset (concat bw ++ behind) ≡ b ++ after
 
-starts : (bw : List (List ℕ)) (at j : ℕ) (b : List ℕ) → getElem? bw j ≡ some b → Starts at bw j b
-starts [] at j b e = none-not e
-starts (w ∷ bw) at zero b e = let z : w ≡ b = cc in record { offset = 0; start = λ r. sym (add-zero at); after = concat bw; there = rw z }
-starts (w ∷ bw) at (suc j) b e =
-    let s = starts bw (at + length w) j b e in
+starts : (bw : List (List ℕ)) (behind : List ℕ) (at j : ℕ) (b : List ℕ) → getElem? bw j ≡ some b → Starts at bw behind j b
+starts [] behind at j b e = none-not e
+starts (w ∷ bw) behind at zero b e =
+    let z : w ≡ b = cc in
+    record {
+      offset = 0;
+      start = λ r. sym (add-zero at);
+      after = concat bw ++ behind;
+      there = append-assoc w (concat bw) behind ∙ ap (λ l. l ++ (concat bw ++ behind)) z;
+    }
+starts (w ∷ bw) behind at (suc j) b e =
+    let s = starts bw behind (at + length w) j b e in
     record {
       offset = length w + s .offset;
       start = λ r. s .start r ∙ add-assoc at (length w) (s .offset);
       after = s .after;
-      there = drop-append-add w (concat bw) (s .offset) ∙ s .there;
+      there = ap (drop (length w + s .offset)) (append-assoc w (concat bw) behind) ∙ drop-append-add w (concat bw ++ behind) (s .offset) ∙ s .there;
     }
 
 length-starts : (bw : List (List ℕ)) (at : ℕ) → length (startsFrom at bw) ≡ length bw
 length-starts [] at = refl
 length-starts (w ∷ bw) at = ap suc (length-starts bw (at + length w))
 
--- words in front, then the starts, then the blocks
-read-block : (H : List ℕ) (bw : List (List ℕ)) (at j : ℕ) (b : List ℕ) → at ≡ length H + length bw → getElem? bw j ≡ some b
-    → (r : List ℕ) × (drop (getD (H ++ (startsFrom at bw ++ concat bw)) (length H + j) 0) (H ++ (startsFrom at bw ++ concat bw)) ≡ b ++ r)
-read-block H bw at j b h e =
-    let s = starts bw at j b e in
-    let z : at + s .offset ≡ length H + (length (startsFrom at bw) + s .offset) = omega (arith, length-starts bw at) in
-    (s .after, rw (getD-append-add H (startsFrom at bw ++ concat bw) j 0, s .start (concat bw), z, drop-append-add H (startsFrom at bw ++ concat bw) (length (startsFrom at bw) + s .offset), drop-append-add (startsFrom at bw) (concat bw) (s .offset)) (s .there))
+-- words in front, then the starts, then the blocks, then any words
+read-block : (H : List ℕ) (bw : List (List ℕ)) (behind : List ℕ) (at j : ℕ) (b : List ℕ) → at ≡ length H + length bw → getElem? bw j ≡ some b
+    → let ws = H ++ (startsFrom at bw ++ (concat bw ++ behind)) in (r : List ℕ) × (drop (getD ws (length H + j) 0) ws ≡ b ++ r)
+read-block H bw behind at j b h e =
+    let s = starts bw behind at j b e in
+    let z : at + s .offset ≡ length H + (length (startsFrom at bw) + s .offset) = omega (arith, length-starts bw at) in (
+      s .after,
+      rw (
+        getD-append-add H (startsFrom at bw ++ (concat bw ++ behind)) j 0,
+        s .start (concat bw ++ behind),
+        z,
+        drop-append-add H (startsFrom at bw ++ (concat bw ++ behind)) (length (startsFrom at bw) + s .offset),
+        drop-append-add (startsFrom at bw) (concat bw ++ behind) (s .offset),
+      ) (s .there),
+    )
 
-module _ {S : Type 0} (C : Construction S) (k n : ℕ) (ss : List S) (bs : List Block) where
+module _ {S : Type 0} (C : Construction S) (k n : ℕ) (ss : List S) (bs : List Block) (behind : List ℕ) where
   abbrev words : List ℕ
-  words = planWords C k n ss bs
+  words = planWords C k n ss bs ++ behind
 
   abbrev labels : List ℕ
   labels = map (λ s. code (C .label s)) ss
+
+  abbrev begins : List ℕ
+  begins = startsFrom (4 + length ss + length ss * k) (map blockWords bs)
+
+  abbrev blocks : List ℕ
+  blocks = concat (map blockWords bs)
 
   pub counts-read : 1 ≤ length ss → length ss ≤ 128 → 1 ≤ k → k ≤ 32 → 1 ≤ n → n ≤ 16 → countsGood words ≡ true
   counts-read a b c d e f =
@@ -91,7 +107,7 @@ module _ {S : Type 0} (C : Construction S) (k n : ℕ) (ss : List S) (bs : List 
   label-read s st e =
       let four : 4 + s ≡ suc (suc (suc (suc s))) = omega arith in
       let l : getElem? words (suc (suc (suc (suc s)))) ≡ some (code (C .label st)) =
-      at-left labels (startsFrom (4 + length ss + length ss * k) (map blockWords bs) ++ concat (map blockWords bs)) s (at-map (λ x. code (C .label x)) ss s e) in
+      at-left (labels ++ (begins ++ blocks)) behind s (at-left labels (begins ++ blocks) s (at-map (λ x. code (C .label x)) ss s e)) in
       rw (is-ltb s (length ss) (at-below ss s e), four) l
 
   module _ (full : length bs ≡ length ss * k) where
@@ -101,15 +117,20 @@ module _ {S : Type 0} (C : Construction S) (k n : ℕ) (ss : List S) (bs : List 
         let m = length-map ss (λ s. code (C .label s)) in
         let l = length-map bs blockWords in
         let q = length-starts (map blockWords bs) (4 + length ss + length ss * k) in
-        let a = length-append labels (startsFrom (4 + length ss + length ss * k) (map blockWords bs) ++ concat (map blockWords bs)) in
-        let c = length-append (startsFrom (4 + length ss + length ss * k) (map blockWords bs)) (concat (map blockWords bs)) in
+        let a = length-append labels (begins ++ blocks) in
+        let c = length-append begins blocks in
+        let d = length-append (labels ++ (begins ++ blocks)) behind in
         omega arith
 
     block-there : (j : ℕ) (b : Block) → getElem? bs j ≡ some b → (r : List ℕ) × (drop (getD words (4 + length ss + j) 0) words ≡ blockWords b ++ r)
-    block-there j b e = rw index (read-block H (map blockWords bs) (4 + length ss + length ss * k) j (blockWords b) whole (at-map blockWords bs j e))
+    block-there j b e =
+        rw (index, apart) (read-block H (map blockWords bs) behind (4 + length ss + length ss * k) j (blockWords b) whole (at-map blockWords bs j e))
       where
         H : List ℕ
         H = length ss ∷ k ∷ n ∷ (4 + length ss + length ss * k + length (concat (map blockWords bs))) ∷ map (λ s. code (C .label s)) ss
+
+        apart : words ≡ H ++ (begins ++ (blocks ++ behind))
+        apart = simp append-assoc
 
         index : 4 + length ss + j ≡ length H + j
         index = omega (arith, length-map ss (λ s. code (C .label s)))
@@ -122,6 +143,16 @@ module _ {S : Type 0} (C : Construction S) (k n : ℕ) (ss : List S) (bs : List 
     block-read s f b hs hf e =
         let w = block-there (s * k + f) b e in
         rw (is-ltb s (length ss) hs, is-ltb f k hf, getElem-some words (4 + length ss + (s * k + f)) (start-there (s * k + f) b e)) (ap blockAt (w .1) ∙ block-of b (w .0))
+
+    pub plan-reads : 1 ≤ length ss → length ss ≤ 128 → 1 ≤ k → k ≤ 32 → 1 ≤ n → n ≤ 16 → ReadsAs C k n ss bs words
+    plan-reads a b c d e f = record {
+      counts-good = counts-read a b c d e f;
+      states-are = refl;
+      symbols-are = refl;
+      shapes-are = refl;
+      label-read = label-read;
+      block-read = block-read;
+    }
 
 -- ---- what is planned
 pub on-planned {κ} : {Z : Type κ} {S : Type 0} (C : Construction S) (ar : List ℕ) (n room m : ℕ) (w : List ℕ) → planned C ar n room ≡ plan-of m w

@@ -24,12 +24,14 @@ targets-of limit to N C D (x ∷ xs) h =
     let a = h x (here refl) in
     rw (is-ltb (N x) limit (a .0), a .1, targets-of limit to N C D xs (λ y m. h y (there m)))
 
-pub look-of : (plan score spans : List ℕ) (s x c y f : ℕ) (os ns os′ ns′ : List (ℕ × ℕ)) → countsGood plan ≡ true → labelWord plan (getD plan 0 0) s ≡ some c → target (length score) spans x c ≡ some y
-    → getElem? score y ≡ some f → blockOf plan (getD plan 0 0) (getD plan 1 0) s f ≡ some (os, ns)
-    → targets (getD plan 2 0) (target (length score) spans x) os ≡ some os′ → targets (getD plan 0 0) (target (length score) spans x) ns ≡ some ns′
+-- in a plan of m states, k symbols and n shapes
+pub look-of : (plan score spans : List ℕ) (m k n : ℕ) → countsGood plan ≡ true → getD plan 0 0 ≡ m → getD plan 1 0 ≡ k → getD plan 2 0 ≡ n
+    → (s x c y f : ℕ) (os ns os′ ns′ : List (ℕ × ℕ)) → labelWord plan m s ≡ some c → target (length score) spans x c ≡ some y
+    → getElem? score y ≡ some f → blockOf plan m k s f ≡ some (os, ns)
+    → targets n (target (length score) spans x) os ≡ some os′ → targets m (target (length score) spans x) ns ≡ some ns′
     → look plan score spans (s, x) ≡ some (record { node = y; outs = os′; nexts = ns′ })
 unfolding look
-look-of plan score spans s x c y f os ns os′ ns′ good el et ef eb eo es = rw (good, el, et, ef, eb, eo, es)
+look-of plan score spans m k n good em ek en s x c y f os ns os′ ns′ el et ef eb eo es = rw (good, em, ek, en, el, et, ef, eb, eo, es)
 
 pub tried-of : (plan score spans : List ℕ) (i : ℕ) (v : Walk) (its : List (ℕ × ℕ)) (rest : List ℕ) (it : ℕ × ℕ) (found : Finding) → pairs (v .count .waiting) (v .items) ≡ some (its, rest) → getElem? its i ≡ some it
     → look plan score spans it ≡ some found → roomy v found (onward i its (found .nexts)) ≡ true → tried plan score spans i v ≡ some (moved v found (onward i its (found .nexts)))

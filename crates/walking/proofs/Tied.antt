@@ -29,11 +29,11 @@ use Rattle.following.specs.Following.{target}
 use Rattle.following.proofs.FollowTree.{word-at}
 use Rattle.following.proofs.NodeNumbers.{num, num-is, num-below, num-inj, target-num}
 use Rattle.automaton.specs.Goals.{Calculus, Goal, State, label, Announcement, outputs, announcement}
-use Rattle.automaton.specs.Exploring.{construction, Succ, Block}
+use Rattle.automaton.specs.Exploring.{Succ, Block}
 use Rattle.automaton.specs.Walking.{Setting, Scored, calculus, Item, looks, placed, announces, Walked, step}
 use Rattle.automaton.proofs.Derivative.{expects-owes}
 use Rattle.automaton.proofs.Sound.{SoundState}
-use Rattle.term.proofs.Subterms.{sub-prefix, fits-at, whole-at}
+use Rattle.term.proofs.Subterms.{sub-prefix, fits-at}
 use Rattle.automaton.proofs.Reachable.{reachable-sound}
 use Rattle.automaton.proofs.Announced.{on-outputs, announces-differ}
 use Rattle.automaton.proofs.Numbered.{Says, Numbered}
@@ -41,13 +41,12 @@ use Rattle.automaton.proofs.Explored.{explored-numbered, label-small, out-small
 use Rattle.automaton.proofs.Invariant.{announced}
 use Rattle.automaton.proofs.Steps.{walked-invariant, new-only}
 use Rattle.automaton.proofs.Counts.{can-look, waiting-unread}
-use Rattle.readers.specs.PlanParts.{countsGood, pairWords}
+use Rattle.readers.specs.PlanParts.{pairWords}
 use Rattle.walk.specs.Starting.{Walk}
 use Rattle.walk.specs.Stepping.{Finding, look, onward, roomy, moved, tried}
 use Rattle.queue.specs.Targets.{marked}
-use Rattle.walking.specs.OneFolio.{OneFolio, planIn}
+use Rattle.walking.specs.OneFolio.{outPair, succPair, OneFolio, planIn}
 use Rattle.readers.proofs.LawsPairs.{pairs-words}
-use Rattle.walking.proofs.PlanRead.{outPair, succPair, counts-read, label-read, block-read}
 use Rattle.walking.proofs.MarkLaws.{Marked, marked-is, marked-length}
 use Rattle.walking.proofs.StepParts.{targets-of, look-of, tried-of}
 
@@ -92,15 +91,6 @@ module _ {C : Scored} (F : OneFolio C) where
 
   arity-at : (p : Pos) (f : ℕ) (us : Terms) → sub t p ≡ some (node f us) → getElem? (S .counts) f ≡ some (count us)
   arity-at p f us e = fits-at (S .counts) (C .score-blanks) t (C .score-fits) p f us e
-
-  counts-good : countsGood (planIn F) ≡ true
-  counts-good =
-      let z = whole-at t (C .whole) [] t refl in
-      let m = at-below ss 0 (made .first) in
-      counts-read (construction K) (length (S .counts)) (length (S .shapes)) ss bs (omega arith) (made .few) (some-symbol (z .0) (z .1) (z .2)) (F .few-symbols) (S .some-shape) (S .few-shapes)
-    where
-      some-symbol : (f : ℕ) (us : Terms) → t ≡ node f us → 1 ≤ length (S .counts)
-      some-symbol f us e = let h = at-below (S .counts) f (arity-at [] f us (ap some e)) in omega arith
 
   -- one item of a walk, at symbol f
   module _ (cs ds : List Item) (read : List Pos) (told : List Announcement) (y : ℕ × Pos) (w : Walked C (cs ++ (posItem ss y ∷ ds)) read told)
@@ -149,13 +139,14 @@ module _ {C : Scored} (F : OneFolio C) where
     look-is : look (planIn F) (flatten t) (sizes t) (wordItem t y)
         ≡ some (record { node = num t (looks S (posItem ss y)); outs = map (outWord t (y .1)) (blk .0 .out); nexts = map (λ x. wordItem t (succItem (y .1) x)) (blk .0 .succs) })
     look-is =
-        look-of (planIn F) (flatten t) (sizes t) (y .0) (num t (y .1)) (code (label K st)) (num t (looks S (posItem ss y))) f
+        look-of (planIn F) (flatten t) (sizes t) (length ss) (length (S .counts)) (length (S .shapes))
+        (F .reads .counts-good) (F .reads .states-are) (F .reads .symbols-are) (F .reads .shapes-are)
+        (y .0) (num t (y .1)) (code (label K st)) (num t (looks S (posItem ss y))) f
         (map outPair (blk .0 .out)) (map succPair (blk .0 .succs)) (map (outWord t (y .1)) (blk .0 .out)) (map (λ x. wordItem t (succItem (y .1) x)) (blk .0 .succs))
-        counts-good
-        (label-read (construction K) (length (S .counts)) (length (S .shapes)) ss bs (y .0) st (at-getD ss (y .0) [] known))
+        (F .reads .label-read (y .0) st (at-getD ss (y .0) [] known))
         (target-num t (y .1) (label K st) (node f ts) (F .few-nodes) (label-small S st sound) seen)
         (word-at t (looks S (posItem ss y)) f ts (num t (looks S (posItem ss y))) seen (num-is t (looks S (posItem ss y)) (node f ts) seen))
-        (block-read (construction K) (length (S .counts)) (length (S .shapes)) ss bs (made .blocks) (y .0) f (blk .0) known (at-below (S .counts) f arity) (blk .1))
+        (F .reads .block-read (y .0) f (blk .0) known (at-below (S .counts) f arity) (blk .1))
         (targets-of (length (S .shapes)) (target (length (flatten t)) (sizes t) (num t (y .1))) (λ a. a .shape) (λ a. code (a .at)) (λ a. num t (y .1 ++ a .at)) (blk .0 .out) (λ a m. let o = out-ok a m in (o .below, o .to)))
         (targets-of (length ss) (target (length (flatten t)) (sizes t) (num t (y .1))) (λ x. x .to) (λ x. code (x .by)) (λ x. num t (y .1 ++ x .by)) (blk .0 .succs) succ-ok)
 

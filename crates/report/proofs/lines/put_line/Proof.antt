@@ -63,7 +63,8 @@ returns-2 : tie.Need-returns-2
 returns-2 c =
     let entry = c .before .before .before .before .before .before .before .before .before in
     let at-if1 = c .before .before .before .before .before .before .if1 in
-    line-nowhere (entry .args .spans .now) (entry .args .node .0) _ _ (c .before .before .before .put-path .ensures .0) (entry .args .shape .0) (entry .args .out .now) (c .enum-told .given .1) (at-if1 .left)
+    line-nowhere (entry .args .spans .now) (entry .args .node .0) _ _ (c .before .before .before .put-path .ensures .0)
+    (entry .args .shape .0) (entry .args .out .now) (c .enum-told .given .1) (at-if1 .left)
 
 -- src/lines.rt:23:1
 same-length : tie.Need-same-length
@@ -75,7 +76,8 @@ returns-3 c =
     let entry = c .before .before .before .before .before .before .before .before .before .before .before .before .before .before .before .before in
     let at-put-path = c .before .before .before .before .before .before .before .before .before .before .put-path in
     let at-n = c .before .before .before .before .before .before .before .n in
-    c .before .before .put-match .ensures ∙ line-of (entry .args .spans .now) (entry .args .node .0) _ _ (at-put-path .ensures .0) (entry .args .shape .0) (entry .args .out .now) _ (at-n .given .1)
+    c .before .before .put-match .ensures
+    ∙ line-of (entry .args .spans .now) (entry .args .node .0) _ _ (at-put-path .ensures .0) (entry .args .shape .0) (entry .args .out .now) _ (at-n .given .1)
 
 pub put-line-spec : {M : Type 1} → statement M
 put-line-spec =

@@ -76,7 +76,8 @@ returns c =
     let at-put-field = c .before .before .before .before .before .before .before .before .before .before .before .before .before .before .before .before .put-field in
     let at-put-text = c .before .before .before .before .before .before .before .before .before .before .before .put-text in
     let at-put-dotted = c .before .before .before .before .before .before .before .put-dotted in
-    match-is (entry .args .node .0) (entry .args .shape .0) (entry .args .path .now) _ (entry .args .out .now) (entry .pre .1) (at-put-digits .ensures) (at-put-field .ensures) (at-put-text .ensures) (at-put-dotted .ensures) (c .before .before .put-text2 .ensures)
+    match-is (entry .args .node .0) (entry .args .shape .0) (entry .args .path .now) _ (entry .args .out .now) (entry .pre .1)
+    (at-put-digits .ensures) (at-put-field .ensures) (at-put-text .ensures) (at-put-dotted .ensures) (c .before .before .put-text2 .ensures)
 
 pub put-match-spec : {M : Type 1} → statement M
 put-match-spec =

@@ -1,7 +1,6 @@
-use Prim.Native.Nat.{ℕ, _+_, _-_, _≤_, _<_}
-use mathlib.Core.Path.{_≡_, refl, ap, sym, _∙_}
+use Prim.Native.Nat.{_+_, _-_, _≤_, _<_}
+use mathlib.Core.Path.{_≡_, refl, sym, _∙_}
 use native.Mathlib.Omega.{arith}
-use lib.ListN.{length, getD}
 use Rattle.report.specs.Paths.{childOn, childOf}
 use Rattle.report.proofs.PathLaws.{child-last, child-out, child-empty, child-past, child-here, child-next, child-end}
 use borrow.Author.Needs.{needs}
@@ -66,7 +65,8 @@ cast-size c = omega (arith, c .shared-slice-known2 .given (c .before .before .be
 returns-3 : tie.Need-returns-3 Inv-loop μ-loop
 returns-3 c =
     let at-loop = c .before .before .before .before .loop in
-    sym (at-loop .inv .1 ∙ child-empty _ _ _ (at-loop .k) (at-loop .here) (omega (arith, c .before .before .before .loop-test .taken)) (c .before .before .if2 .left) (c .if3 .taken))
+    let more : at-loop .k < 4 = omega (arith, c .before .before .before .loop-test .taken) in
+    sym (at-loop .inv .1 ∙ child-empty _ _ _ _ _ more (c .before .before .if2 .left) (c .if3 .taken))
 
 -- src/text.rt:30:17
 add-e : tie.Need-add-e Inv-loop μ-loop
@@ -76,7 +76,8 @@ add-e c = omega (arith, c .before .shared-slice-known2 .given (c .before .before
 returns-4 : tie.Need-returns-4 Inv-loop μ-loop
 returns-4 c =
     let at-loop = c .before .before .before .before .before .loop in
-    sym (at-loop .inv .1 ∙ child-past _ _ _ (at-loop .k) (at-loop .here) (omega (arith, c .before .before .before .before .loop-test .taken)) (c .before .before .before .if2 .left) (c .before .if3 .left) (c .if4 .taken))
+    let more : at-loop .k < 4 = omega (arith, c .before .before .before .before .loop-test .taken) in
+    sym (at-loop .inv .1 ∙ child-past _ _ _ _ _ more (c .before .before .before .if2 .left) (c .before .if3 .left) (c .if4 .taken))
 
 -- src/text.rt:35:29
 add-t18 : tie.Need-add-t18 Inv-loop μ-loop
@@ -86,7 +87,8 @@ add-t18 c = search needs
 returns-5 : tie.Need-returns-5 Inv-loop μ-loop
 returns-5 c =
     let at-loop = c .before .before .before .before .before .before .loop in
-    sym (at-loop .inv .1 ∙ child-here _ _ _ (at-loop .k) (at-loop .here) (omega (arith, c .before .before .before .before .before .loop-test .taken)) (c .before .before .before .before .if2 .left) (c .before .before .if3 .left) (c .before .if4 .left) (c .if5 .taken))
+    let more : at-loop .k < 4 = omega (arith, c .before .before .before .before .before .loop-test .taken) in
+    sym (at-loop .inv .1 ∙ child-here _ _ _ _ _ more (c .before .before .before .before .if2 .left) (c .before .before .if3 .left) (c .before .if4 .left) (c .if5 .taken))
 
 -- src/text.rt:38:9
 add-k : tie.Need-add-k Inv-loop μ-loop
@@ -100,7 +102,9 @@ loop-less c = search needs
 loop-again : tie.Need-loop-again Inv-loop μ-loop
 loop-again c =
     let at-loop = c .before .before .before .before .before .before .loop in
-    (omega arith, at-loop .inv .1 ∙ child-next _ _ _ (at-loop .k) (at-loop .here) (omega (arith, c .before .before .before .before .before .loop-test .taken)) (c .before .before .before .before .if2 .left) (c .before .before .if3 .left) (c .before .if4 .left) (c .if5 .left))
+    let more : at-loop .k < 4 = omega (arith, c .before .before .before .before .before .loop-test .taken) in
+    let next = child-next _ _ _ _ _ more (c .before .before .before .before .if2 .left) (c .before .before .if3 .left) (c .before .if4 .left) (c .if5 .left) in
+    (omega arith, at-loop .inv .1 ∙ next)
 
 -- src/text.rt:13:1
 returns-6 : tie.Need-returns-6 Inv-loop μ-loop

@@ -1,9 +1,10 @@
-use Prim.Native.Nat.{ℕ, _+_, _-_, _≤_, _<_}
+use Prim.Native.Nat.{_-_, _≤_}
 use mathlib.Core.Path.{_≡_, refl, ap, sym, _∙_}
 use native.Mathlib.Omega.{arith}
 use lib.ListN.{length, length-set}
 use Rattle.report.specs.Text.{stepOf}
-use Rattle.report.proofs.PathLaws.{place-here, place-none, place-next, place-end, place-over, path-out, Written, written-none-yet, written-done, written-nowhere, written-next}
+use Rattle.report.proofs.PathLaws.{place-here, place-none, place-next, place-end, place-over, path-out}
+use Rattle.report.proofs.PathLaws.{Written, written-none-yet, written-done, written-nowhere, written-next}
 use borrow.Author.Needs.{needs}
 use Rattle.report.proofs.text.put_path.Statement.{statement}
 use Rattle.report.proofs.text.put_path.Tie as tie
@@ -49,7 +50,10 @@ same-length-2 c = c .before .before .before .before .before .loop .inv .1
 
 -- src/text.rt:60:17
 returns-3 : tie.Need-returns-3 Inv-loop μ-loop
-returns-3 c = (written-nowhere (c .before .before .before .before .before .loop .inv .2) (place-none _ _ _ _ (c .before .before .before .before .loop-test .taken) (c .before .before .before .if2 .left) (sym (c .before .before .find-child .ensures) ∙ ap stepOf (c .enum-told .given .1))), omega arith)
+returns-3 c =
+    let none-is = sym (c .before .before .find-child .ensures) ∙ ap stepOf (c .enum-told .given .1) in
+    let rest = place-none _ _ _ _ (c .before .before .before .before .loop-test .taken) (c .before .before .before .if2 .left) none-is in
+    (written-nowhere (c .before .before .before .before .before .loop .inv .2) rest, omega arith)
 
 -- src/text.rt:62:22
 enum-known-i : tie.Need-enum-known-i Inv-loop μ-loop
@@ -75,7 +79,9 @@ loop-less c = search needs
 loop-again : tie.Need-loop-again Inv-loop μ-loop
 loop-again c =
     let at-loop = c .before .before .before .before .before .before .loop in
-    (omega arith, simp length-set (at-loop .inv .1), written-next (at-loop .inv .2) _ _ (omega arith) (place-next _ _ _ _ _ _ (c .before .before .before .before .before .loop-test .taken) (c .before .before .before .before .if2 .left) (sym (c .before .before .before .find-child .ensures) ∙ ap stepOf (c .before .i .given .1))))
+    let child-is = sym (c .before .before .before .find-child .ensures) ∙ ap stepOf (c .before .i .given .1) in
+    let rest = place-next _ _ _ _ _ _ (c .before .before .before .before .before .loop-test .taken) (c .before .before .before .before .if2 .left) child-is in
+    (omega arith, simp length-set (at-loop .inv .1), written-next (at-loop .inv .2) _ _ (omega arith) rest)
 
 -- src/text.rt:70:9
 same-length-3 : tie.Need-same-length-3 Inv-loop μ-loop
