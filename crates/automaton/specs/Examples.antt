@@ -1,4 +1,4 @@
--- Document 000's running example, ℓ = f(f(ω, g(ω)), g(ω)), computed: Examples 4.2 to 4.5. The paper takes the second of two labels in state s₁ where
+-- Inside: document 000's running example, ℓ = f(f(ω, g(ω)), g(ω)), computed: Examples 4.1 to 4.6. The paper takes the second of two labels in state s₁ where
 -- document 01 takes the first, so its examples stand here with f's arguments turned round.
 use mathlib.Core.Path.{_≡_, refl}
 use mathlib.Core.List.{List, [], _∷_, map}
@@ -71,9 +71,10 @@ example-4-5 = refl
 example-4-6 : outputs K (getD (classes K (deriv K s₂ 0 2)) 0 []) 1 1 ≡ record { shape = 0; at = [] } ∷ []
 example-4-6 = refl
 
-abbrev s₃ : State Ob
-s₃ = let p = paper (ℓ ∷ []) in deriv p (deriv p (initial p) 0 2) 0 2
+-- ℓ as the paper has it, after f and f again
+abbrev twice : State Ob
+twice = let p = paper (ℓ ∷ []) in deriv p (deriv p (initial p) 0 2) 0 2
 
--- the paper's L(s₃): the first position of a root goal is 1.2, though another goal has an obligation at 1.1
-example-4-1 : label (paper (ℓ ∷ [])) s₃ ≡ 1 ∷ 2 ∷ []
+-- Example 4.1, of labels: the first position of a root goal is 1.2, though another goal has an obligation at 1.1
+example-4-1 : label (paper (ℓ ∷ [])) twice ≡ 1 ∷ 2 ∷ []
 example-4-1 = refl

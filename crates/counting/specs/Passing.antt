@@ -1,4 +1,4 @@
--- The one pass that counts clashing matches: what it tests at a node.
+-- Inside: the one pass that counts clashing matches: what it tests at a node.
 --   markedIn   one of the nodes from a on and before b is marked
 --   hits       k ones at node x, r the furthest end of marked nodes before x, e the end of x: do the matches at x clash
 --   further    the furthest end after x

@@ -5,7 +5,7 @@
 --   cleared     the first 32,768 scratch words zero, later ones as they were
 --   refuseBuild      a refusal before any work writes nothing
 --   planOf      the plan of the paper's construction for the shapes that the shape words hold
---   built       19, 23, 20 or 21, 22; then the plan at the buffer's start
+--   buildOf     19, 23, 20 or 21, 22; then the plan at the buffer's start
 --   builtSays   the answer in document 01's numbers: "Build answers m and the length"
 use Prim.Native.Nat.{ℕ}
 use mathlib.Core.List.{List, [], _∷_}

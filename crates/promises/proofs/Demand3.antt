@@ -20,8 +20,11 @@ use Rattle.term.proofs.Sizes.{length-sizes}
 use Rattle.counting.specs.Counting.{total}
 use Rattle.counting.specs.Clashes.{clash, clashNumber}
 use Rattle.report.specs.Text.{firstLine, lines, report}
-use Rattle.walk.specs.Starting.{Walk, WalkOutcome, refuseWalk}
-use Rattle.walk.specs.declared.Walked.the-variants.{On, Refused}
+use Rattle.walk.specs.Starting.{Walk, WalkOutcome, refuseWalk, walkedSays}
+use Rattle.kinds.specs.Reasons.{Says, gives, refusal}
+use Rattle.promises.specs.Told.{Told, told as telling}
+use Rattle.promises.specs.Demand1.{walkTold}
+use Rattle.walk.specs.declared.Walked.the-variants.{On}
 use Rattle.walking.specs.OneFolio.{walkIn}
 use Rattle.walking.proofs.AnyWalk as any-walk
 use Rattle.promises.specs.OneFile.{OneFile, scoreIn, spansIn, bufferIn, after, stepAfter, acceptedIn, reported}
@@ -65,22 +68,29 @@ module _ {file : List ℕ} (S : OneFile file) (choices : List ℕ) where
   logged-is : after S choices .count .logged ≡ F-after .count .logged
   logged-is = ap (λ (v : Walk). v .count .logged) is
 
-  never-34 : (i : ℕ) → stepAfter S choices i .answer ≡ Refused OutOfRange → ⊥
-  never-34 i e = any-walk.never-34 (told S .folio) (S .walk) (told S .lent) choices i (sym (ap (λ (o : WalkOutcome). o .answer) (told S .step-is choices i)) ∙ e)
-
-  refused : (i : ℕ) → after S choices .count .waiting ≤ i → stepAfter S choices i ≡ refuseWalk NoSuchItem (after S choices)
+  refused : (i : ℕ) → after S choices .count .waiting ≤ i → walkTold (stepAfter S choices i) ≡ telling (refusal 32 0) (after S choices)
   refused i h =
-      told S .step-is choices i ∙ any-walk.refused-32 (told S .folio) (S .walk) (told S .lent) choices i (rw waiting-is at h)
-      ∙ ap (refuseWalk NoSuchItem) (sym is)
+      ap walkTold
+      (told S .step-is choices i ∙ any-walk.refused-32 (told S .folio) (S .walk) (told S .lent) choices i (rw waiting-is at h)
+      ∙ ap (refuseWalk NoSuchItem) (sym is))
 
   taken : (i : ℕ) → i < after S choices .count .waiting
-      → (stepAfter S choices i .answer ≡ On (stepAfter S choices i .walk .count)) × (stepAfter S choices i .walk .count .logged ≡ suc (after S choices .count .logged))
+      → (walkedSays (stepAfter S choices i .answer) ≡ gives (stepAfter S choices i .walk .count .waiting ∷ stepAfter S choices i .walk .count .logged ∷ []))
+      × (stepAfter S choices i .walk .count .logged ≡ suc (after S choices .count .logged))
   taken i h =
       let d = told S .step-is choices i in
       let l = rw waiting-is at h in (
-        ap (λ (o : WalkOutcome). o .answer) d ∙ any-walk.taken (told S .folio) (S .walk) (told S .lent) choices i l ∙ ap (λ (o : WalkOutcome). On (o .walk .count)) (sym d),
+        ap walkedSays (ap (λ (o : WalkOutcome). o .answer) d ∙ any-walk.taken (told S .folio) (S .walk) (told S .lent) choices i l ∙ ap (λ (o : WalkOutcome). On (o .walk .count)) (sym d)),
         ap (λ (o : WalkOutcome). o .walk .count .logged) d ∙ any-walk.one-logged (told S .folio) (S .walk) (told S .lent) choices i l ∙ ap suc (sym logged-is),
       )
+
+  -- a step is accepted, or refused 32
+  never-34 : (i : ℕ) → walkedSays (stepAfter S choices i .answer) .number ≡ 34 → ⊥
+  never-34 i e = go (decLt i (after S choices .count .waiting))
+    where
+      go : Dec (i < after S choices .count .waiting) → ⊥
+      go (yes h) = let z : _≡_ {A = ℕ} 0 34 = sym (ap (λ (s : Says). s .number) (taken i h .0)) ∙ e in omega arith
+      go (no h) = let z : _≡_ {A = ℕ} 32 34 = sym (ap (λ (t : Told Walk). t .says .number) (refused i (omega arith))) ∙ e in omega arith
 
   steps : (acceptedIn S choices ≡ after S choices .count .logged) × (acceptedIn S choices ≤ span (scoreIn S)) × ((after S choices .count .waiting ≡ 0) ↔ (acceptedIn S choices ≡ span (scoreIn S)))
   steps =

@@ -21,5 +21,6 @@ pub mod Demand2
 pub mod Demand3
 pub mod SampleFile
 pub mod Calls
+pub mod Runs
 pub mod Determined
 pub mod ChildRows

@@ -1,4 +1,4 @@
--- Every definition that is shut elsewhere, opened for computing: who says `unfolding computing` has all of them.
+-- Inside: every definition that is shut elsewhere, opened for computing: who says `unfolding computing` has all of them.
 use Prim.Native.Nat.{ℕ}
 use Rattle.kinds.specs.Positions.{decodeTo}
 use Rattle.term.specs.Reading.{childrenOf, headOf, reading}

@@ -10,22 +10,24 @@
 --   waits           the waiting and the read are at most n together
 --   same-…          two finished walks over the file, by any choices and with any buffers, have the same marks and the same text
 use mathlib.Core.Path.{_≡_}
-use mathlib.Core.List.{List, _++_}
+use mathlib.Core.List.{List, [], _∷_, _++_}
 use mathlib.Core.Logic.{_↔_}
 use Prim.Native.Nat.{ℕ, suc, _+_, _<_, _≤_}
 use lib.ListN.{getD, take, drop}
-use Rattle.kinds.specs.declared.Reason.the-variants.{NoSuchItem, OutOfRange}
+use Rattle.kinds.specs.Reasons.{gives, refusal}
 use Rattle.term.specs.Terms.{span}
-use Rattle.walk.specs.Starting.{refuseWalk}
-use Rattle.walk.specs.declared.Walked.the-variants.{On, Refused}
+use Rattle.walk.specs.Starting.{walkedSays}
+use Rattle.promises.specs.Told.{told}
+use Rattle.promises.specs.Demand1.{walkTold}
 use Rattle.promises.specs.OneFile.{OneFile, scoreIn, bufferIn, planIn, after, stepAfter, acceptedIn, reported}
 
 pub record Demand3 {file : List ℕ} (S : OneFile file) : Type 0 where
   pub in-buffer : planIn S ++ drop (S .size .words) (bufferIn S) ≡ bufferIn S
-  pub never-34 : (choices : List ℕ) (i : ℕ) → stepAfter S choices i .answer ≡ Refused OutOfRange → ⊥
-  pub refused : (choices : List ℕ) (i : ℕ) → after S choices .count .waiting ≤ i → stepAfter S choices i ≡ refuseWalk NoSuchItem (after S choices)
+  pub never-34 : (choices : List ℕ) (i : ℕ) → walkedSays (stepAfter S choices i .answer) .number ≡ 34 → ⊥
+  pub refused : (choices : List ℕ) (i : ℕ) → after S choices .count .waiting ≤ i → walkTold (stepAfter S choices i) ≡ told (refusal 32 0) (after S choices)
   pub taken : (choices : List ℕ) (i : ℕ) → i < after S choices .count .waiting
-      → (stepAfter S choices i .answer ≡ On (stepAfter S choices i .walk .count)) × (stepAfter S choices i .walk .count .logged ≡ suc (after S choices .count .logged))
+      → (walkedSays (stepAfter S choices i .answer) ≡ gives (stepAfter S choices i .walk .count .waiting ∷ stepAfter S choices i .walk .count .logged ∷ []))
+      × (stepAfter S choices i .walk .count .logged ≡ suc (after S choices .count .logged))
   pub steps : (choices : List ℕ)
       → (acceptedIn S choices ≡ after S choices .count .logged) × (acceptedIn S choices ≤ span (scoreIn S)) × ((after S choices .count .waiting ≡ 0) ↔ (acceptedIn S choices ≡ span (scoreIn S)))
   pub log-nodes : (choices : List ℕ) (i : ℕ) → i < after S choices .count .logged → getD (after S choices .log) i 0 < span (scoreIn S)

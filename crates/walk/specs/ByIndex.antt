@@ -1,4 +1,4 @@
--- A step's parts, by index into the words.
+-- Inside: a step's parts, by index into the words.
 --   lookHead     the node that an item reads, and where its block begins
 --   leadsFine    each announcement is a shape's and leads to a mark, each successor is a state's and leads to a node
 --   roomLeft     the log has room for one more, the waiting words for all items after the step

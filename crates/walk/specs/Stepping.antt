@@ -43,7 +43,6 @@ look plan score spans it =
     bind (targets m to (b .1)) (λ ns.
     some (record { node = x; outs = os; nexts = ns }))))))))
 
--- shape by shape and node by node
 abbrev pub onward : ℕ → List (ℕ × ℕ) → List (ℕ × ℕ) → List (ℕ × ℕ)
 onward i its ns = take i its ++ (drop (suc i) its ++ ns)
 

@@ -1,4 +1,4 @@
--- "In demand 3's setting, where plan and score come from one folio": what a walk is lent there.
+-- Inside: "in demand 3's setting, where plan and score come from one folio": what a walk is lent there.
 --   outPair succPair        a pair of a block, as its words are read
 --   ReadsAs                 words that read as a plan of states and blocks, whatever else stands in them
 --   OneFolio                the states and blocks that exploring a setting makes, words that read as their plan, beside a score of its symbols

@@ -1,0 +1,120 @@
+-- Demands 2 and 3 of the calls themselves: for any results and buffers that the contracts of `open`, `build`, `start` and `step` allow, one after the other, each
+-- call lent what the one before it left. `Learnt` is what the checker reads off a contract; κs, a, r and e as in `Calls`.
+--   Stepped Walked     a step that the contract allows; any number of them, by a list of choices
+--   steps-run          what they leave is what the definition runs
+--   one-file           three calls that the contracts allow, each accepted, are the setting of demands 2 and 3
+--   demands            so both demands hold of them, and of every walk that the contracts allow behind them
+use mathlib.Core.Path.{_≡_, refl, ap, ap₂, sym, _∙_}
+use mathlib.Core.List.{List, [], _∷_, _++_}
+use Prim.Native.Nat.{ℕ}
+use denote.Ref.{now}
+use lib.ListN.{take}
+use Rattle.kinds.specs.Members.{Below}
+use Rattle.folio.specs.Opening.{Lent, OpenOutcome, lent, opened}
+use Rattle.folio.specs.declared.Counts.{Counts}
+use Rattle.folio.specs.declared.Opened.the-variants as opening
+use Rattle.plan.specs.Building.{BuildOutcome, buildOf}
+use Rattle.plan.specs.declared.Size.{Size}
+use Rattle.plan.specs.declared.Built.the-variants as building
+use Rattle.walk.specs.Starting.{Walk, WalkOutcome, walkOf, counting, recordAfter, started}
+use Rattle.walk.specs.Stepping.{stepped, run}
+use Rattle.walk.specs.declared.Record.{Record}
+use Rattle.walk.specs.declared.Walked.the-variants as walking
+use Rattle.folio.proofs.opening.open.Reads as open-folio
+use Rattle.plan.proofs.building.build.Reads as build
+use Rattle.walk.proofs.starting.start.Reads as start
+use Rattle.walk.proofs.stepping.step.Reads as step
+use Rattle.promises.specs.OneFile.{OneFile, nodesIn, spansIn, lentIn, begunIn, after}
+use Rattle.promises.specs.Demand2.{Demand2}
+use Rattle.promises.specs.Demand3.{Demand3}
+use Rattle.promises.proofs.Demand2.{demand-2}
+use Rattle.promises.proofs.Demand3.{demand-3}
+
+-- ---- steps
+module _ (plan score spans : List ℕ) where
+  pub data Stepped (i : ℕ) (w : Walk) : Walk → Type 0 where
+    by-step : (κs : _) (a : _) (r : _) (e : _) → step.Learnt κs a r e → now (a .0) ≡ plan → now (a .1 .0) ≡ score → now (a .1 .1 .0) ≡ spans
+        → walkOf (now (a .1 .1 .1 .0)) (now (a .1 .1 .1 .1 .0)) (now (a .1 .1 .1 .1 .1 .0)) (a .1 .1 .1 .1 .1 .1 .0) ≡ w → a .1 .1 .1 .1 .1 .1 .1 .0 ≡ i
+        → Stepped i w (walkOf (now (e .1 .1 .1 .0)) (now (e .1 .1 .1 .1 .0)) (now (e .1 .1 .1 .1 .1 .0)) (recordAfter r (a .1 .1 .1 .1 .1 .1 .0)))
+
+  pub data Walked (w : Walk) : List ℕ → Walk → Type 0 where
+    none : Walked w [] w
+    then : {v u : Walk} (i : ℕ) (is : List ℕ) → Stepped i w v → Walked v is u → Walked w (i ∷ is) u
+
+  same-step : {p s t : List ℕ} {i j : ℕ} {w v : Walk} → p ≡ plan → s ≡ score → t ≡ spans → w ≡ v → j ≡ i → stepped p s t j w ≡ stepped plan score spans i v
+  same-step {p} {s} {t} {i} {j} {w} {v} ep es et ew ei =
+      ap₂ (λ x y. stepped x y t j w) ep es ∙ ap₂ (λ x y. stepped plan score x j y) et ew ∙ ap (λ x. stepped plan score spans x v) ei
+
+  one-step : {i : ℕ} {w v : Walk} → Stepped i w v → v ≡ stepped plan score spans i w .walk
+  one-step (by-step κs a r e h ep es et ew ei) = ap (λ (o : WalkOutcome). o .walk) (h ∙ same-step ep es et ew ei)
+
+  pub steps-run : {w u : Walk} {is : List ℕ} → Walked w is u → u ≡ run plan score spans is w
+  unfolding run
+  steps-run none = refl
+  steps-run (then i is s more) = steps-run more ∙ ap (run plan score spans is) (one-step s)
+
+-- ---- one file
+module _ {file : List ℕ} (bytes : Below 256 file)
+    (κo : _) (ao : _) (counts : Counts) (eo : _) (opens : open-folio.Learnt κo ao (opening.Folio counts) eo) (of-file : now (ao .0) ≡ file)
+    (κb : _) (ab : _) (size : Size) (eb : _) (builds : build.Learnt κb ab (building.Plan size) eb)
+    (b-symbols : now (ab .0) ≡ take (counts .symbols) file) (b-words : now (ab .1 .0) ≡ take (counts .words) (now (eo .1 .0)))
+    (b-starts : now (ab .1 .1 .0) ≡ take (counts .shapes) (now (eo .1 .1 .0)))
+    (κs : _) (as′ : _) (first : Record) (es : _) (starts : start.Learnt κs as′ (walking.On first) es)
+    (s-symbols : now (as′ .0) ≡ take (counts .symbols) file) (s-score : now (as′ .1 .0) ≡ take (counts .nodes) (now (eo .1 .1 .1 .0)))
+    (s-spans : now (as′ .1 .1 .0) ≡ take (counts .nodes) (now (eo .1 .1 .1 .1 .0)))
+    (behind : List ℕ) where
+  abbrev tables : Lent
+  tables = lent (now (ao .1 .0)) (now (ao .1 .1 .0)) (now (ao .1 .1 .1 .0)) (now (ao .1 .1 .1 .1 .0))
+
+  abbrev begun : Walk
+  begun = walkOf (now (as′ .1 .1 .1 .0)) (now (as′ .1 .1 .1 .1 .0)) (now (as′ .1 .1 .1 .1 .1 .0)) (counting 0 0)
+
+  was-opened : opened file tables ≡ _
+  was-opened = ap (λ f. opened f tables) (sym of-file) ∙ sym opens
+
+
+  same-build : {ar ar′ ws ws′ st st′ : List ℕ} (p s : List ℕ) → ar ≡ ar′ → ws ≡ ws′ → st ≡ st′ → buildOf ar ws st p s ≡ buildOf ar′ ws′ st′ p s
+  same-build {ar′ = ar′} {ws′ = ws′} {st = st} p s ea ew et = ap₂ (λ x y. buildOf x y st p s) ea ew ∙ ap (λ x. buildOf ar′ ws′ x p s) et
+
+  same-start : {ar ar′ sc sc′ sp sp′ : List ℕ} (w : Walk) → ar ≡ ar′ → sc ≡ sc′ → sp ≡ sp′ → started ar sc sp w ≡ started ar′ sc′ sp′ w
+  same-start {ar′ = ar′} {sc′ = sc′} {sp = sp} w ea ec ep = ap₂ (λ x y. started x y sp w) ea ec ∙ ap (λ x. started ar′ sc′ x w) ep
+
+  built-is : buildOf (take (counts .symbols) file) (take (counts .words) (opened file tables .tables .words)) (take (counts .shapes) (opened file tables .tables .starts)) (now (ab .1 .1 .1 .0)) (now (ab .1 .1 .1 .1 .0)) ≡ _
+  built-is =
+      same-build (now (ab .1 .1 .1 .0)) (now (ab .1 .1 .1 .1 .0)) (sym b-symbols)
+      (ap (λ (o : OpenOutcome). take (counts .words) (o .tables .words)) was-opened ∙ sym b-words)
+      (ap (λ (o : OpenOutcome). take (counts .shapes) (o .tables .starts)) was-opened ∙ sym b-starts)
+      ∙ sym builds
+
+  started-is : started (take (counts .symbols) file) (take (counts .nodes) (opened file tables .tables .score)) (take (counts .nodes) (opened file tables .tables .spans)) begun ≡ _
+  started-is =
+      same-start begun (sym s-symbols)
+      (ap (λ (o : OpenOutcome). take (counts .nodes) (o .tables .score)) was-opened ∙ sym s-score)
+      (ap (λ (o : OpenOutcome). take (counts .nodes) (o .tables .spans)) was-opened ∙ sym s-spans)
+      ∙ sym starts
+
+  abbrev pub one-file : OneFile file
+  one-file = record {
+    bytes = bytes;
+    tables = tables;
+    counts = counts;
+    opens = ap (λ (o : OpenOutcome). o .answer) was-opened;
+    plan = now (ab .1 .1 .1 .0);
+    scratch = now (ab .1 .1 .1 .1 .0);
+    size = size;
+    builds = ap (λ (o : BuildOutcome). o .answer) built-is;
+    behind = behind;
+    walk = begun;
+    first = first;
+    starts = ap (λ (o : WalkOutcome). o .answer) started-is;
+  }
+
+  pub demands : Demand2 one-file × Demand3 one-file
+  demands = (demand-2 one-file, demand-3 one-file)
+
+  -- the walk as starting left it, and after any steps that the contract allows, is the one that the demands speak of
+  pub walk-is : {is : List ℕ} {u : Walk}
+      → Walked (lentIn one-file) (nodesIn one-file) (spansIn one-file) (walkOf (now (es .1 .1 .1 .0)) (now (es .1 .1 .1 .1 .0)) (now (es .1 .1 .1 .1 .1 .0)) first) is u
+      → u ≡ after one-file is
+  walk-is {is} s = steps-run (lentIn one-file) (nodesIn one-file) (spansIn one-file) s
+      ∙ ap (run (lentIn one-file) (nodesIn one-file) (spansIn one-file) is) (sym (ap (λ (o : WalkOutcome). o .walk) started-is))
