@@ -55,7 +55,8 @@ module _ (ar ws st : List ℕ) where
   unfolding shapesGood
   again-refused e f = rw (symbols-good ar e, f)
 
-  pub again-found : (n : ℕ) (z f : List ℕ) → symbolsOf ar ≡ Good → shapesOf ar blankWord ws .answer ≡ shapes.Whole n → length z ≡ 16 → f ≡ sets z 0 (shapesOf ar blankWord ws .starts)
+  pub again-found : (n : ℕ) (z f : List ℕ) → symbolsOf ar ≡ Good → shapesOf ar blankWord ws .answer ≡ shapes.Whole n → length z ≡ 16
+      → f ≡ sets z 0 (shapesOf ar blankWord ws .starts)
       → shapesGood ar ws st ≡ same st (take (n - 0) f)
   unfolding shapesGood
   again-found n z f e g lz ef =
@@ -120,7 +121,13 @@ unfolding shapesGood
 shapes-good-is ar ws st e = go (shapesOf ar blankWord ws .answer) refl (and-r (symbolsGood ar) e)
   where
     go : (a : Shapes) → shapesOf ar blankWord ws .answer ≡ a → (isFound a && same st (shapesOf ar blankWord ws .starts)) ≡ true → ShapeTables ar ws st
-    go (shapes.Whole n) q k = record { symbols = symbols-good-is ar (and-l _ e); number = n; found = q; starts = same-is st (shapesOf ar blankWord ws .starts) k }
+    go (shapes.Whole n) q k = record {
+      symbols = symbols-good-is ar (and-l _ e);
+      number = n;
+      found = q;
+      starts =
+          same-is st (shapesOf ar blankWord ws .starts) k;
+    }
     go (shapes.Refused r i) q k = false-true k
 
 pub shapes-good-of : (ar ws st : List ℕ) → ShapeTables ar ws st → shapesGood ar ws st ≡ true

@@ -127,7 +127,8 @@ module _ (n k i : ℕ) (hn : n ≤ 96) (hk : k < n) (hi : i < n) (e : Square) wh
         within = omega arith;
         square = square-put 96 d (r .square) i j i96 j96;
         grown = grown-trans n (r .grown) g;
-        joined = below-more (λ (b : ℕ). cell e k b ≡ true → cell (put d i j) i b ≡ true) j (λ b h x. g .grows i b (r .joined b h x)) (λ h. cell-same 96 d (r .square) i j i96 j96);
+        joined = below-more (λ (b : ℕ). cell e k b ≡ true → cell (put d i j) i b ≡ true) j (λ b h x. g .grows i b (r .joined b h x))
+            (λ h. cell-same 96 d (r .square) i j i96 j96);
       }
 
 pub rows-more : {n k i : ℕ} {e d x : Square} → i < n → RowsJoined n k e d i → RowJoined n k i d x → RowsJoined n k e x (i + 1)

@@ -73,7 +73,8 @@ goals-same xs ys a b (suc k) h =
     let z : getD xs a 0 ≡ getD ys b 0 = ap (λ n. getD xs n 0) (sym (add-zero a)) ∙ h 0 (omega arith) ∙ ap (λ n. getD ys n 0) (add-zero b) in
     ap₂ (λ g gs. g ∷ gs)
     (λ i. record { sh = z i; an = h 1 (omega arith) i; mask = h 2 (omega arith) i })
-    (goals-same xs ys (a + 3) (b + 3) k (λ i l. ap (λ n. getD xs n 0) (add-assoc a 3 i) ∙ h (3 + i) (omega arith) ∙ ap (λ n. getD ys n 0) (sym (add-assoc b 3 i))))
+    (goals-same xs ys (a + 3) (b + 3) k (λ i l. ap (λ n. getD xs n 0) (add-assoc a 3 i) ∙ h (3 + i) (omega arith)
+    ∙ ap (λ n. getD ys n 0) (sym (add-assoc b 3 i))))
 
 pub copied : (ws out : List ℕ) (at n k : ℕ) → n ≡ 3 * k → at + n ≤ length ws → n ≤ length out
     → goalsFrom (sets out 0 (take n (drop at ws))) 0 k ≡ goalsFrom ws at k

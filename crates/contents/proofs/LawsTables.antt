@@ -33,17 +33,20 @@ module _ (ar : List ℕ) (bl : ℕ) (ws : List ℕ) (n at : ℕ) where
   unfolding shapesFrom
   shapes-full h e = let z : 16 - n ≡ 0 = omega arith in rw (z, lt-ltb _ _ h)
 
-  pub shapes-refused : {f : Fault} {p : ℕ} → at < length ws → n ≤ 16 → (n ≡ 16 → ⊥) → reading ar ws (shapeLimits bl at) shapeLevels at ≡ read.Refused f p
+  pub shapes-refused : {f : Fault} {p : ℕ} → at < length ws → n ≤ 16 → (n ≡ 16 → ⊥)
+      → reading ar ws (shapeLimits bl at) shapeLevels at ≡ read.Refused f p
       → shapesFrom ar bl ws (16 - n) n at ≡ shapesRead (shapes.Refused (shapeReason f) p) []
   unfolding shapesFrom
   shapes-refused h g k e = let z : 16 - n ≡ suc (16 - (n + 1)) = omega arith in rw (z, lt-ltb _ _ h, e)
 
-  pub shapes-lone : {m : Met} → at < length ws → n ≤ 16 → (n ≡ 16 → ⊥) → reading ar ws (shapeLimits bl at) shapeLevels at ≡ read.Whole m → bl ≤ getD ws at 0
+  pub shapes-lone : {m : Met} → at < length ws → n ≤ 16 → (n ≡ 16 → ⊥) → reading ar ws (shapeLimits bl at) shapeLevels at ≡ read.Whole m
+      → bl ≤ getD ws at 0
       → shapesFrom ar bl ws (16 - n) n at ≡ shapesRead (shapes.Refused reason.LoneBlank at) []
   unfolding shapesFrom
   shapes-lone h g k e b = let z : 16 - n ≡ suc (16 - (n + 1)) = omega arith in rw (z, lt-ltb _ _ h, e, le-leb _ _ b)
 
-  pub shapes-next : {m : Met} → at < length ws → n ≤ 16 → (n ≡ 16 → ⊥) → reading ar ws (shapeLimits bl at) shapeLevels at ≡ read.Whole m → getD ws at 0 < bl
+  pub shapes-next : {m : Met} → at < length ws → n ≤ 16 → (n ≡ 16 → ⊥) → reading ar ws (shapeLimits bl at) shapeLevels at ≡ read.Whole m
+      → getD ws at 0 < bl
       → shapesFrom ar bl ws (16 - n) n at ≡ push at (shapesFrom ar bl ws (16 - (n + 1)) (n + 1) (m .end))
   unfolding shapesFrom
   shapes-next h g k e b = let z : 16 - n ≡ suc (16 - (n + 1)) = omega arith in rw (z, lt-ltb _ _ h, e, lt-leb _ _ b)
@@ -70,8 +73,10 @@ pub record Left (S R : ShapesRead) (s₀ s : List ℕ) (n : ℕ) : Type 0 where
 pub left-first : {S R : ShapesRead} (s : List ℕ) → S ≡ R → Left S R s s 0
 left-first s e = record { long = refl; answers = ap (λ (r : ShapesRead). r .answer) e; writes = ap (λ (r : ShapesRead). sets s 0 (r .starts)) e }
 
-pub left-end : {S R : ShapesRead} {s₀ s : List ℕ} {n : ℕ} {a : Shapes} → Left S R s₀ s n → R ≡ shapesRead a [] → (a ≡ S .answer) × (s ≡ sets s₀ 0 (S .starts))
-left-end {S} {R} {s₀} {s} {n} l e = (sym (l .answers ∙ ap (λ (r : ShapesRead). r .answer) e), sym (l .writes ∙ ap (λ (r : ShapesRead). sets s n (r .starts)) e))
+pub left-end : {S R : ShapesRead} {s₀ s : List ℕ} {n : ℕ} {a : Shapes} → Left S R s₀ s n → R ≡ shapesRead a [] → (a ≡ S .answer)
+    × (s ≡ sets s₀ 0 (S .starts))
+left-end {S} {R} {s₀} {s} {n} l e =
+    (sym (l .answers ∙ ap (λ (r : ShapesRead). r .answer) e), sym (l .writes ∙ ap (λ (r : ShapesRead). sets s n (r .starts)) e))
 
 pub left-next : {S R T : ShapesRead} {s₀ s : List ℕ} {n at : ℕ} → Left S R s₀ s n → R ≡ push at T → Left S T s₀ (set s n at) (n + 1)
 left-next {S} {R} {T} {s₀} {s} {n} {at} l e = record {
@@ -83,11 +88,13 @@ left-next {S} {R} {T} {s₀} {s} {n} {at} l e = record {
 -- ---- the score
 
 module _ (ar ws : List ℕ) where
-  pub score-refused : {f : Fault} {p : ℕ} → reading ar ws (scoreLimits 0) scoreLevels 0 ≡ read.Refused f p → scoreOf ar ws ≡ score.Refused (scoreReason f) p
+  pub score-refused : {f : Fault} {p : ℕ} → reading ar ws (scoreLimits 0) scoreLevels 0 ≡ read.Refused f p
+      → scoreOf ar ws ≡ score.Refused (scoreReason f) p
   unfolding scoreOf
   score-refused e = rw e
 
-  pub score-surplus : {m : Met} → reading ar ws (scoreLimits 0) scoreLevels 0 ≡ read.Whole m → m .end < length ws → scoreOf ar ws ≡ score.Refused reason.Surplus (m .end)
+  pub score-surplus : {m : Met} → reading ar ws (scoreLimits 0) scoreLevels 0 ≡ read.Whole m → m .end < length ws
+      → scoreOf ar ws ≡ score.Refused reason.Surplus (m .end)
   unfolding scoreOf
   score-surplus e h = rw (e, lt-ltb _ _ h)
 
@@ -109,17 +116,21 @@ found-from ar bl ws zero n at k e = go (ltb at (length ws)) e
         → (k ≡ n + length (cond b (shapesRead (shapes.Refused reason.Shapes at) []) (shapesRead (shapes.Whole n) []) .starts)) × (k ≤ n + 0)
     go true e = never-found e
     go false e = let s : n ≡ k = cc in (omega arith, omega arith)
-found-from ar bl ws (suc c) n at k e = go (ltb at (length ws)) (reading ar ws (shapeLimits bl at) shapeLevels at) (leb bl (getD ws at 0)) e (λ a. found-from ar bl ws c (n + 1) a k)
+found-from ar bl ws (suc c) n at k e = go (ltb at (length ws)) (reading ar ws (shapeLimits bl at) shapeLevels at) (leb bl (getD ws at 0)) e
+    (λ a. found-from ar bl ws c (n + 1) a k)
   where
-    go : (b : Bool) (r : Reading) (lone : Bool) → cond b (oneShape r at lone (shapesFrom ar bl ws c (n + 1))) (shapesRead (shapes.Whole n) []) .answer ≡ shapes.Whole k
-        → ((a : ℕ) → shapesFrom ar bl ws c (n + 1) a .answer ≡ shapes.Whole k → (k ≡ n + 1 + length (shapesFrom ar bl ws c (n + 1) a .starts)) × (k ≤ n + 1 + c))
+    go : (b : Bool) (r : Reading) (lone : Bool)
+        → cond b (oneShape r at lone (shapesFrom ar bl ws c (n + 1))) (shapesRead (shapes.Whole n) []) .answer ≡ shapes.Whole k
+        → ((a : ℕ) → shapesFrom ar bl ws c (n + 1) a .answer ≡ shapes.Whole k → (k ≡ n + 1 + length (shapesFrom ar bl ws c (n + 1) a .starts))
+        × (k ≤ n + 1 + c))
         → (k ≡ n + length (cond b (oneShape r at lone (shapesFrom ar bl ws c (n + 1))) (shapesRead (shapes.Whole n) []) .starts)) × (k ≤ n + suc c)
     go false r lone e ih = let s : n ≡ k = cc in (omega arith, omega arith)
     go true (read.Refused f p) lone e ih = never-found e
     go true (read.Whole m) true e ih = never-found e
     go true (read.Whole m) false e ih = let w = ih (m .end) e in (omega (arith, w .0), omega (arith, w .1))
 
-pub found-count : (ar : List ℕ) (bl : ℕ) (ws : List ℕ) (k : ℕ) → shapesOf ar bl ws .answer ≡ shapes.Whole k → (k ≡ length (shapesOf ar bl ws .starts)) × (k ≤ 16)
+pub found-count : (ar : List ℕ) (bl : ℕ) (ws : List ℕ) (k : ℕ) → shapesOf ar bl ws .answer ≡ shapes.Whole k → (k ≡ length (shapesOf ar bl ws .starts))
+    × (k ≤ 16)
 unfolding shapesOf
 found-count ar bl ws k e = go (ltb 0 (length ws)) e
   where
@@ -131,15 +142,18 @@ found-count ar bl ws k e = go (ltb 0 (length ws)) e
 same-place : {r q : Reason} {i j : ℕ} → shapes.Refused r i ≡ shapes.Refused q j → i ≡ j
 same-place e = cc
 
-from-refused-in : (ar : List ℕ) (bl : ℕ) (ws : List ℕ) (c n at : ℕ) (r : Reason) (i : ℕ) → at ≤ length ws → shapesFrom ar bl ws c n at .answer ≡ shapes.Refused r i → i ≤ length ws
+from-refused-in : (ar : List ℕ) (bl : ℕ) (ws : List ℕ) (c n at : ℕ) (r : Reason) (i : ℕ) → at ≤ length ws
+    → shapesFrom ar bl ws c n at .answer ≡ shapes.Refused r i → i ≤ length ws
 unfolding shapesFrom
 from-refused-in ar bl ws zero n at r i h e = go (ltb at (length ws)) e
   where
-    go : (b : Bool) → cond b (shapesRead (shapes.Refused reason.Shapes at) []) (shapesRead (shapes.Whole n) []) .answer ≡ shapes.Refused r i → i ≤ length ws
+    go : (b : Bool) → cond b (shapesRead (shapes.Refused reason.Shapes at) []) (shapesRead (shapes.Whole n) []) .answer ≡ shapes.Refused r i
+        → i ≤ length ws
     go true e = let s : at ≡ i = same-place e in omega arith
     go false e = never-found (sym e)
 from-refused-in ar bl ws (suc c) n at r i h e =
-    go (ltb at (length ws)) (reading ar ws (shapeLimits bl at) shapeLevels at) refl (leb bl (getD ws at 0)) e (λ a. from-refused-in ar bl ws c (n + 1) a r i)
+    go (ltb at (length ws)) (reading ar ws (shapeLimits bl at) shapeLevels at) refl (leb bl (getD ws at 0)) e
+    (λ a. from-refused-in ar bl ws c (n + 1) a r i)
   where
     go : (b : Bool) (t : Reading) → reading ar ws (shapeLimits bl at) shapeLevels at ≡ t → (lone : Bool)
         → cond b (oneShape t at lone (shapesFrom ar bl ws c (n + 1))) (shapesRead (shapes.Whole n) []) .answer ≡ shapes.Refused r i
@@ -153,7 +167,8 @@ pub shapes-refused-in : (ar : List ℕ) (bl : ℕ) (ws : List ℕ) (r : Reason) 
 unfolding shapesOf
 shapes-refused-in ar bl ws r i e = go (ltb 0 (length ws)) e
   where
-    go : (b : Bool) → cond b (shapesFrom ar bl ws 16 0 0) (shapesRead (shapes.Refused reason.Shapes 0) []) .answer ≡ shapes.Refused r i → i ≤ length ws
+    go : (b : Bool) → cond b (shapesFrom ar bl ws 16 0 0) (shapesRead (shapes.Refused reason.Shapes 0) []) .answer ≡ shapes.Refused r i
+        → i ≤ length ws
     go true e = from-refused-in ar bl ws 16 0 0 r i (omega arith) e
     go false e = let s : 0 ≡ i = same-place e in omega arith
 

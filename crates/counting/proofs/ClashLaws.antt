@@ -22,7 +22,8 @@ use Rattle.counting.proofs.AnyLaws.{any-of, on-any, any-none}
 abbrev one : Bool → ℕ
 one b = cond b 1 0
 
-pub some-of : (ms : List ℕ) (p : Match → Bool) (y k : ℕ) → y < length ms → k < 16 → bit (getD ms y 0) k ≡ 1 → p (matchAt y k) ≡ true → someMatch ms p ≡ true
+pub some-of : (ms : List ℕ) (p : Match → Bool) (y k : ℕ) → y < length ms → k < 16 → bit (getD ms y 0) k ≡ 1 → p (matchAt y k) ≡ true
+    → someMatch ms p ≡ true
 unfolding someMatch
 some-of ms p y k h l b e =
     any-of (length ms) (λ x. anyTo 16 (λ j. _&&_ (found ms (matchAt x j)) (p (matchAt x j)))) y h
@@ -120,7 +121,8 @@ other-shape x j k ne = rw (eq-eqb x x refl, ne-eqb j k ne)
 same-shape : (x j y k : ℕ) → x ≡ y → other (matchAt x j) (matchAt y k) ≡ true → j ≡ k → ⊥
 same-shape x j y k e o q = false-true (sym (rw (eq-eqb x y e, eq-eqb j k q)) ∙ o)
 
-module _ (ms sp : List ℕ) (x r j : ℕ) (fits : (y : ℕ) → getD ms y 0 < 2 ^ 16) (inside : x < length ms) (reach : Reach ms sp x r) (low : j < 16) (set : bit (getD ms x 0) j ≡ 1) where
+module _ (ms sp : List ℕ) (x r j : ℕ) (fits : (y : ℕ) → getD ms y 0 < 2 ^ 16) (inside : x < length ms) (reach : Reach ms sp x r) (low : j < 16)
+    (set : bit (getD ms x 0) j ≡ 1) where
   positive : (y : ℕ) → 0 < ones (getD ms y 0) → 0 < getD ms y 0
   positive y h = go (decLt 0 (getD ms y 0))
     where
@@ -158,46 +160,57 @@ module _ (ms sp : List ℕ) (x r j : ℕ) (fits : (y : ℕ) → getD ms y 0 < 2 
       or-r (ltb 1 (ones (getD ms x 0)))
       (or-r (ltb x r)
       (both {a = ltb 0 (ones (getD ms x 0))} (lt-ltb _ _ (ones-some (getD ms x 0) (fits x) j low set))
-      (any-of (x + getD sp x 0) (λ z. _&&_ (leb (x + 1) z) (ltb 0 (getD ms z 0))) y g (both {a = leb (x + 1) y} (le-leb (x + 1) y (omega arith)) (lt-ltb _ _ m)))))
+      (any-of (x + getD sp x 0) (λ z. _&&_ (leb (x + 1) z) (ltb 0 (getD ms z 0))) y g
+      (both {a = leb (x + 1) y} (le-leb (x + 1) y (omega arith)) (lt-ltb _ _ m)))))
 
-  clash-test : someMatch ms (λ o. _&&_ (other (matchAt x j) o) (clash sp (matchAt x j) o)) ≡ true → hits ms (ones (getD ms x 0)) x r (x + getD sp x 0) ≡ true
+  clash-test : someMatch ms (λ o. _&&_ (other (matchAt x j) o) (clash sp (matchAt x j) o)) ≡ true
+      → hits ms (ones (getD ms x 0)) x r (x + getD sp x 0) ≡ true
   clash-test e = on-some ms (λ o. _&&_ (other (matchAt x j) o) (clash sp (matchAt x j) o)) e λ y k h l b q.
       let o = and-l (clash sp (matchAt x j) (matchAt y k)) q in
       let c = and-r (other (matchAt x j) (matchAt y k)) q in
       on-or (isOver sp x y) c
       (λ v. on-covers sp x y v (λ z. at-same y k z l b o) (λ z w. if-below y z w (positive y (ones-some (getD ms y 0) (fits y) k l b))))
-      (λ v. on-covers sp y x v (λ z. at-same y k (sym z) l b o) (λ z w. let a = reach .all y z (ones-some (getD ms y 0) (fits y) k l b) in if-above (omega arith)))
+      (λ v. on-covers sp y x v (λ z. at-same y k (sym z) l b o)
+      (λ z w. let a = reach .all y z (ones-some (getD ms y 0) (fits y) k l b) in if-above (omega arith)))
     where
-      at-same : (y k : ℕ) → x ≡ y → k < 16 → bit (getD ms y 0) k ≡ 1 → other (matchAt x j) (matchAt y k) ≡ true → hits ms (ones (getD ms x 0)) x r (x + getD sp x 0) ≡ true
+      at-same : (y k : ℕ) → x ≡ y → k < 16 → bit (getD ms y 0) k ≡ 1 → other (matchAt x j) (matchAt y k) ≡ true
+          → hits ms (ones (getD ms x 0)) x r (x + getD sp x 0) ≡ true
       at-same y k z l b o = if-many (ones-two (getD ms x 0) (fits x) j k low l (same-shape x j y k z o) set (rw z b))
 
-  test-clash : hits ms (ones (getD ms x 0)) x r (x + getD sp x 0) ≡ true → someMatch ms (λ o. _&&_ (other (matchAt x j) o) (clash sp (matchAt x j) o)) ≡ true
+  test-clash : hits ms (ones (getD ms x 0)) x r (x + getD sp x 0) ≡ true
+      → someMatch ms (λ o. _&&_ (other (matchAt x j) o) (clash sp (matchAt x j) o)) ≡ true
   test-clash e = on-or (ltb 1 (ones (getD ms x 0))) e
       (λ h. on-other (getD ms x 0) (fits x) j (ltb-true _ _ h) λ k l ne b.
       give x k inside l b (other-shape x j k ne) (or-l (isOver sp x x) (or-l (_&&_ (ltb x x) (ltb x (x + getD sp x 0))) (eq-eqb x x refl))))
       (λ q. on-or (ltb x r) q
       (λ h. let a = reach .only x (ltb-true _ _ h) in let u = a .before in
       on-ones (getD ms (a .up) 0) (fits (a .up)) (a .marked) λ k l b.
-      give (a .up) k (omega arith) l b (other-node x j (a .up) k (λ z. omega arith)) (or-r (isOver sp x (a .up)) (covers-under sp (a .up) x (a .before) (a .within))))
+      give (a .up) k (omega arith) l b (other-node x j (a .up) k (λ z. omega arith))
+      (or-r (isOver sp x (a .up)) (covers-under sp (a .up) x (a .before) (a .within))))
       (λ h. on-any (x + getD sp x 0) (λ z. _&&_ (leb (x + 1) z) (ltb 0 (getD ms z 0))) (and-r (ltb 0 (ones (getD ms x 0))) h) λ y g v.
       let lo : x + 1 ≤ y = leb-true (x + 1) y (and-l (ltb 0 (getD ms y 0)) v) in
       let m : 0 < getD ms y 0 = ltb-true 0 (getD ms y 0) (and-r (leb (x + 1) y) v) in
       on-ones (getD ms y 0) (fits y) (has-one y m) λ k l b.
       give y k (in-list y m) l b (other-node x j y k (λ z. omega arith)) (or-l (isOver sp y x) (covers-under sp x y (omega arith) g))))
     where
-      give : (y k : ℕ) → y < length ms → k < 16 → bit (getD ms y 0) k ≡ 1 → other (matchAt x j) (matchAt y k) ≡ true → clash sp (matchAt x j) (matchAt y k) ≡ true
+      give : (y k : ℕ) → y < length ms → k < 16 → bit (getD ms y 0) k ≡ 1 → other (matchAt x j) (matchAt y k) ≡ true
+          → clash sp (matchAt x j) (matchAt y k) ≡ true
           → someMatch ms (λ o. _&&_ (other (matchAt x j) o) (clash sp (matchAt x j) o)) ≡ true
-      give y k h l b o c = some-of ms (λ o. _&&_ (other (matchAt x j) o) (clash sp (matchAt x j) o)) y k h l b (both {a = other (matchAt x j) (matchAt y k)} o c)
+      give y k h l b o c = some-of ms (λ o. _&&_ (other (matchAt x j) o) (clash sp (matchAt x j) o)) y k h l b
+          (both {a = other (matchAt x j) (matchAt y k)} o c)
 
   pub clash-at : clashing (clash sp) ms (matchAt x j) ≡ hits ms (ones (getD ms x 0)) x r (x + getD sp x 0)
   clash-at = bool-ext _ _ clash-test test-clash
 
 -- one turn
 pub count-next : (ms sp : List ℕ) (x r : ℕ) → ((y : ℕ) → getD ms y 0 < 2 ^ 16) → x < length ms → Reach ms sp x r
-    → sumTo (x + 1) (numberAt ms (clashing (clash sp) ms)) ≡ sumTo x (numberAt ms (clashing (clash sp) ms)) + cond (hits ms (ones (getD ms x 0)) x r (x + getD sp x 0)) (ones (getD ms x 0)) 0
+    → sumTo (x + 1) (numberAt ms (clashing (clash sp) ms)) ≡ sumTo x (numberAt ms (clashing (clash sp) ms)) + cond
+    (hits ms (ones (getD ms x 0)) x r (x + getD sp x 0)) (ones (getD ms x 0)) 0
 count-next ms sp x r fits h reach =
     ap (λ (n : ℕ). sumTo n (numberAt ms (clashing (clash sp) ms))) (add-one x) ∙ up-last x (numberAt ms (clashing (clash sp) ms))
-    ∙ ap (λ (n : ℕ). sumTo x (numberAt ms (clashing (clash sp) ms)) + n) (number-at ms (clashing (clash sp) ms) x (hits ms (ones (getD ms x 0)) x r (x + getD sp x 0)) (fits x) (λ j l b. clash-at ms sp x r j fits h reach l b))
+    ∙ ap (λ (n : ℕ). sumTo x (numberAt ms (clashing (clash sp) ms)) + n)
+    (number-at ms (clashing (clash sp) ms) x (hits ms (ones (getD ms x 0)) x r (x + getD sp x 0)) (fits x)
+    (λ j l b. clash-at ms sp x r j fits h reach l b))
 
 pub further-end : (r k e : ℕ) → 0 < k → r < e → further r k e ≡ e
 further-end r k e h g = rw (lt-ltb 0 k h, lt-ltb r e g)
@@ -210,7 +223,8 @@ further-none r k e h = rw (le-ltb 0 k h)
 
 -- nodes before i are not marked
 pub marked-here : (ms : List ℕ) (a b i : ℕ) → a ≤ i → i < b → (getD ms i 0 ≡ 0 → ⊥) → markedIn ms a b ≡ true
-marked-here ms a b i h g ne = any-of b (λ y. _&&_ (leb a y) (ltb 0 (getD ms y 0))) i g (both {a = leb a i} (le-leb a i h) (lt-ltb 0 (getD ms i 0) (omega arith)))
+marked-here ms a b i h g ne = any-of b (λ y. _&&_ (leb a y) (ltb 0 (getD ms y 0))) i g
+    (both {a = leb a i} (le-leb a i h) (lt-ltb 0 (getD ms i 0) (omega arith)))
 
 pub marked-none : (ms : List ℕ) (a b i : ℕ) → ((y : ℕ) → a ≤ y → y < i → getD ms y 0 ≡ 0) → (b ≤ i) ⊎ (length ms ≤ i) → markedIn ms a b ≡ false
 marked-none ms a b i free o = any-none b (λ y. _&&_ (leb a y) (ltb 0 (getD ms y 0))) (λ y h. each y h (decLt y a) (decLt y i))
@@ -222,9 +236,14 @@ marked-none ms a b i free o = any-none b (λ y. _&&_ (leb a y) (ltb 0 (getD ms y
     each : (y : ℕ) → y < b → Dec (y < a) → Dec (y < i) → _&&_ (leb a y) (ltb 0 (getD ms y 0)) ≡ false
     each y h (yes l) d = rw (lt-leb a y l)
     each y h (no l) (yes d) = rw (le-leb a y (omega arith), le-ltb 0 (getD ms y 0) (let z = free y (omega arith) d in omega arith))
-    each y h (no l) (no d) = rw (le-leb a y (omega arith), le-ltb 0 (getD ms y 0) (let z = List·getD-eq-default ms 0 (past y h (omega arith) o) in omega arith))
+    each y h (no l) (no d) = rw (
+      le-leb a y (omega arith),
+      le-ltb 0 (getD ms y 0)
+          (let z = List·getD-eq-default ms 0 (past y h (omega arith) o) in omega arith),
+    )
 
-pub free-next : (ms : List ℕ) (a i : ℕ) → ((y : ℕ) → a ≤ y → y < i → getD ms y 0 ≡ 0) → getD ms i 0 ≡ 0 → (y : ℕ) → a ≤ y → y < i + 1 → getD ms y 0 ≡ 0
+pub free-next : (ms : List ℕ) (a i : ℕ) → ((y : ℕ) → a ≤ y → y < i → getD ms y 0 ≡ 0) → getD ms i 0 ≡ 0 → (y : ℕ) → a ≤ y → y < i + 1
+    → getD ms y 0 ≡ 0
 free-next ms a i free z y h g = go (ℕ-discrete y i)
   where
     go : Dec (y ≡ i) → getD ms y 0 ≡ 0

@@ -84,7 +84,8 @@ filter-gather p f (x ∷ xs) = filter-append p (f x) (gather f xs) ∙ ap (λ l.
 pub many-found : (ms : List ℕ) (p : Match → Bool) → howMany ms p ≡ length (filter p (foundIn ms))
 unfolding numberAt
 many-found ms p =
-    length-to (length ms) 0 (numberAt ms p) (λ x. filter p (foundAt ms x)) (λ x. each x ∙ ap (λ n. length (filter p (foundAt ms n))) (sym (zero-add x)))
+    length-to (length ms) 0 (numberAt ms p) (λ x. filter p (foundAt ms x))
+    (λ x. each x ∙ ap (λ n. length (filter p (foundAt ms n))) (sym (zero-add x)))
     ∙ sym (ap length (filter-gather p (foundAt ms) (range 0 (length ms))))
   where
     at : (b : Bool) (m : Match) → cond (b && p m) 1 0 ≡ length (filter p (one b m))
@@ -109,7 +110,8 @@ bit-one m j y = go (eqb (bit m j) 1) refl
     go true e = eqb-is (bit m j) 1 e
     go false e = clear-or-set m j (λ h. false-true (sym e ∙ is-eqb (bit m j) 1 h))
 
-total-from : (ms : List ℕ) (ns : List ℕ) (c : ℕ) → ((i : ℕ) → getD ns i 0 ≡ getD ms (c + i) 0) → total ns ≡ length (gather (foundAt ms) (range c (length ns)))
+total-from : (ms : List ℕ) (ns : List ℕ) (c : ℕ) → ((i : ℕ) → getD ns i 0 ≡ getD ms (c + i) 0)
+    → total ns ≡ length (gather (foundAt ms) (range c (length ns)))
 unfolding total
 total-from ms [] c e = refl
 total-from ms (n ∷ ns) c e =

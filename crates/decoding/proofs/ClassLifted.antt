@@ -104,10 +104,15 @@ module _ {ar tab : List ℕ} {n : ℕ} (r : Ready ar tab n) where
     pub lifted-good : length c ≤ 32 → GoodFor r (map (liftW (displacementW c)) c)
     lifted-good few = record {
       sound = subst (SoundState (settingOf r)) (sym part-lifted)
-          (root-label (settingOf r) (lift (bare (r .shapes)) s) (lift-sound (settingOf r) s (part .sound)) (liftGoal (bare (r .shapes)) (gcp s) (part .top .goal)) (map-in (liftGoal (bare (r .shapes)) (gcp s)) (part .top .inside))
+          (root-label (settingOf r) (lift (bare (r .shapes)) s) (lift-sound (settingOf r) s (part .sound))
+          (liftGoal (bare (r .shapes)) (gcp s) (part .top .goal)) (map-in (liftGoal (bare (r .shapes)) (gcp s)) (part .top .inside))
           (ap (strip (gcp s)) (sym (part .top .at)) ∙ strip-self (gcp s)));
       few = let e = length-map c (liftW (displacementW c)) in omega arith;
-      bounded = record { code = λ g m. on-map (liftW (displacementW c)) c m λ h i e. rw e (low h i); mask = λ g m. on-map (liftW (displacementW c)) c m λ h i e. rw e (part .bounded .mask h i) };
+      bounded = record {
+        code = λ g m. on-map (liftW (displacementW c)) c m λ h i e. rw e (low h i);
+        mask =
+            λ g m. on-map (liftW (displacementW c)) c m λ h i e. rw e (part .bounded .mask h i);
+      };
     }
       where
         low : (h : GoalWords) → h ∈ c → underCode (displacementW c) (h .an) < codesEnd

@@ -42,7 +42,8 @@ module _ (shapes : List Term) (tab : List ℕ) (tables : (s : ℕ) → s < lengt
   closed-words gs fine =
       ap₂ (λ k m. close (range 0 k) m) (sym (length-map gs (goalMeant shapes)))
       (map-same (λ g. map (depW tab g) gs) (λ g. map (dep (bare shapes) (goalMeant shapes g)) (stateMeant shapes gs)) gs
-      (λ g i. map-same (depW tab g) (λ h. dep (bare shapes) (goalMeant shapes g) (goalMeant shapes h)) gs (λ h j. dep-is shapes tab tables g h (fine g i) (fine h j))
+      (λ g i. map-same (depW tab g) (λ h. dep (bare shapes) (goalMeant shapes g) (goalMeant shapes h)) gs
+      (λ h j. dep-is shapes tab tables g h (fine g i) (fine h j))
       ∙ sym (map-map (dep (bare shapes) (goalMeant shapes g)) (goalMeant shapes) gs))
       ∙ sym (map-map (λ g. map (dep (bare shapes) g) (stateMeant shapes gs)) (goalMeant shapes) gs))
 
@@ -72,7 +73,8 @@ module _ (shapes : List Term) (tab : List ℕ) (tables : (s : ℕ) → s < lengt
   key-is gs w =
       ap (λ cs. pad (firstCode noCode cs)) (owed-all gs (w .fine))
       ∙ ap pad
-      (first-from (allObs (stateMeant shapes gs)) (all-fit gs (w .fine)) (λ e. let i : w .some-ob ∈ [] = subst (λ os. w .some-ob ∈ os) e (w .owed) in in-none i))
+      (first-from (allObs (stateMeant shapes gs)) (all-fit gs (w .fine))
+      (λ e. let i : w .some-ob ∈ [] = subst (λ os. w .some-ob ∈ os) e (w .owed) in in-none i))
 
   first-fit : (gs : List GoalWords) → Owing gs → Fit (firstOf gs ∷ [])
   first-fit gs w q (here e) =
@@ -111,7 +113,8 @@ module _ (shapes : List Term) (tab : List ℕ) (tables : (s : ℕ) → s < lengt
       ap (λ m. map (stateMeant shapes) (sort (classBeforeW tab) (map (λ bs. pickedW bs gs) (rowsFrom 0 m)))) (closed-words gs fine)
       ∙ sort-map-in (stateMeant shapes) (classBeforeW tab) (classBefore (bare shapes)) (map (λ bs. pickedW bs gs) rows) ordered
       ∙ ap (sort (classBefore (bare shapes)))
-      (map-map (stateMeant shapes) (λ bs. pickedW bs gs) rows ∙ map-same (λ bs. stateMeant shapes (pickedW bs gs)) (λ bs. picked bs (stateMeant shapes gs)) rows (λ bs i. picked-is shapes bs gs))
+      (map-map (stateMeant shapes) (λ bs. pickedW bs gs) rows
+      ∙ map-same (λ bs. stateMeant shapes (pickedW bs gs)) (λ bs. picked bs (stateMeant shapes gs)) rows (λ bs i. picked-is shapes bs gs))
     where
       rows : Square
       rows = rowsFrom 0 (closed (bare shapes) (stateMeant shapes gs))

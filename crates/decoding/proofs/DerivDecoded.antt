@@ -57,7 +57,9 @@ module _ (shapes : List Term) (tab : List ℕ) (tables : (s : ℕ) → s < lengt
         ∙ go (any (same P) (goalMeant shapes g .obs))
       where
         go : (b : Bool)
-            → map (goalMeant shapes) (cond (not b) (g ∷ []) []) ++ filter (λ g. not (any (same P) (g .obs))) (stateMeant shapes gs) ≡ cond (not b) (goalMeant shapes g ∷ filter (λ g. not (any (same P) (g .obs))) (stateMeant shapes gs)) (filter (λ g. not (any (same P) (g .obs))) (stateMeant shapes gs))
+            → map (goalMeant shapes) (cond (not b) (g ∷ []) []) ++ filter (λ g. not (any (same P) (g .obs))) (stateMeant shapes gs) ≡ cond (not b)
+            (goalMeant shapes g ∷ filter (λ g. not (any (same P) (g .obs))) (stateMeant shapes gs))
+            (filter (λ g. not (any (same P) (g .obs))) (stateMeant shapes gs))
         go true = refl
         go false = refl
 
@@ -65,7 +67,8 @@ module _ (shapes : List Term) (tab : List ℕ) (tables : (s : ℕ) → s < lengt
         (arity : (s : ℕ) (p : Pos) (ts : Terms) → sub (shapeAt shapes s) p ≡ some (node f ts) → count ts ≡ k)
         (blanks : (s : ℕ) (p : Pos) (w : ℕ) → sub (shapeAt shapes s) p ≡ some (blank w) → blankWord ≤ w) where
       moving : (gs : List GoalWords) → ((g : GoalWords) → g ∈ gs → Fine shapes g)
-          → map (goalMeant shapes) (gather (moves tab (code P) f) gs) ≡ filter (λ g. not (isNil (g .obs))) (map (reduced (bare shapes) P k) (filter (bare shapes .expects f P) (stateMeant shapes gs)))
+          → map (goalMeant shapes) (gather (moves tab (code P) f) gs) ≡ filter (λ g. not (isNil (g .obs)))
+          (map (reduced (bare shapes) P k) (filter (bare shapes .expects f P) (stateMeant shapes gs)))
       moving [] fine = refl
       moving (g ∷ gs) fine =
           map-append (goalMeant shapes) (moves tab (code P) f g) (gather (moves tab (code P) f) gs)
@@ -76,7 +79,8 @@ module _ (shapes : List Term) (tab : List ℕ) (tables : (s : ℕ) → s < lengt
           (goalMeant shapes g)
         where
           go : (b : Bool) (rest : List (Goal Pos)) (h : (Goal Pos))
-              → cond b (cond (not (isNil (reduced (bare shapes) P k h .obs))) (reduced (bare shapes) P k h ∷ []) []) [] ++ filter (λ g. not (isNil (g .obs))) (map (reduced (bare shapes) P k) rest)
+              → cond b (cond (not (isNil (reduced (bare shapes) P k h .obs))) (reduced (bare shapes) P k h ∷ []) []) [] ++ filter
+              (λ g. not (isNil (g .obs))) (map (reduced (bare shapes) P k) rest)
               ≡ filter (λ g. not (isNil (g .obs))) (map (reduced (bare shapes) P k) (cond b (h ∷ rest) rest))
           go true rest h =
               last (not (isNil (reduced (bare shapes) P k h .obs))) (reduced (bare shapes) P k h)
@@ -90,7 +94,8 @@ module _ (shapes : List Term) (tab : List ℕ) (tables : (s : ℕ) → s < lengt
           map-append (goalMeant shapes) (freshesW (length shapes) (5 * code P + i))
           (gather (λ i′. freshesW (length shapes) (5 * code P + i′)) is)
           ∙ ap₂ (λ xs ys. xs ++ ys)
-          (freshes-are shapes (5 * code P + i) (range 0 (length shapes)) ∙ ap (λ p. map (fresh p) (range 0 (length shapes))) (child-is P i proper short (h i (here refl) .0) (h i (here refl) .1)))
+          (freshes-are shapes (5 * code P + i) (range 0 (length shapes))
+          ∙ ap (λ p. map (fresh p) (range 0 (length shapes))) (child-is P i proper short (h i (here refl) .0) (h i (here refl) .1)))
           (born is (λ j m. h j (there m)))
 
       pub deriv-is : (gs : List GoalWords) → ((g : GoalWords) → g ∈ gs → Fine shapes g) → P ≡ label (bare shapes) (stateMeant shapes gs)

@@ -218,5 +218,6 @@ module _ {ar tab : List ℕ} {n : ℕ} (r : Ready ar tab n) where
 pub class-within : (tab : List ℕ) (gs c : List GoalWords) → c ∈ classesW tab gs → c ⊆ gs
 unfolding classesW pickedW
 class-within tab gs c m g i =
-    on-map (λ bs. pickedW bs gs) (rowsFrom 0 (closedW tab gs)) (in-sort (classBeforeW tab) (map (λ bs. pickedW bs gs) (rowsFrom 0 (closedW tab gs))) m) λ bs j e.
+    on-map (λ bs. pickedW bs gs) (rowsFrom 0 (closedW tab gs))
+    (in-sort (classBeforeW tab) (map (λ bs. pickedW bs gs) (rowsFrom 0 (closedW tab gs))) m) λ bs j e.
     picked-in bs gs g (rw (← e) i)

@@ -77,7 +77,8 @@ from-any : (T q : Pos) (s : (State Pos)) → Tops T s → TopIn T s → gcpFrom 
 from-any T q (g ∷ s) (more r e m) (now z) =
     ap (λ p. gcpFrom p s) (ap (commonPrefix (T ++ q)) (z ∙ sym (append-nil T)) ∙ join-append T q [] ∙ ap (λ x. T ++ x) (join-nil q) ∙ append-nil T)
     ∙ from-top T s m
-from-any T q (g ∷ s) (more r e m) (late i) = ap (λ p. gcpFrom p s) (ap (commonPrefix (T ++ q)) e ∙ join-append T q r) ∙ from-any T (commonPrefix q r) s m i
+from-any T q (g ∷ s) (more r e m) (late i) =
+    ap (λ p. gcpFrom p s) (ap (commonPrefix (T ++ q)) e ∙ join-append T q r) ∙ from-any T (commonPrefix q r) s m i
 
 pub top-is-gcp : (T : Pos) (s : (State Pos)) → Tops T s → TopIn T s → gcp s ≡ T
 top-is-gcp T (g ∷ s) (more q e m) (now z) = ap (λ p. gcpFrom p s) z ∙ from-top T s m

@@ -67,7 +67,8 @@ module _ (tab : List ℕ) (s a : ℕ) (pa : Pos) where
     where
       go : (b : Bool) → codeAt tab s a r ≡ code (pa ++ p)
           → owedFrom tab s a (length ps) (suc r) (m / 2) ≡ map code (map (λ q. pa ++ q) (select (m / 2) ps))
-          → cond b (codeAt tab s a r ∷ owedFrom tab s a (length ps) (suc r) (m / 2)) (owedFrom tab s a (length ps) (suc r) (m / 2)) ≡ map code (map (λ q. pa ++ q) (cond b (p ∷ select (m / 2) ps) (select (m / 2) ps)))
+          → cond b (codeAt tab s a r ∷ owedFrom tab s a (length ps) (suc r) (m / 2)) (owedFrom tab s a (length ps) (suc r) (m / 2)) ≡ map code
+          (map (λ q. pa ++ q) (cond b (p ∷ select (m / 2) ps) (select (m / 2) ps)))
       go true e i = ap₂ (λ x xs. x ∷ xs) e i
       go false e i = i
 
@@ -101,7 +102,8 @@ module _ (tab : List ℕ) (s a : ℕ) (pa : Pos) where
         go true e f true d c ih =
             let l = f p (here refl) in
             found 0 (sym (add-zero r)) (omega arith) (ap (λ k. k % 2) (div-one m) ∙ eqb-is (m % 2) 1 e)
-            (sym (decode-proper (pa ++ p) (l .0) (omega (arith, l .1))) ∙ ap decode (sym c ∙ eqb-is (codeAt tab s a r) (code P) d) ∙ decode-proper P proper short)
+            (sym (decode-proper (pa ++ p) (l .0) (omega (arith, l .1))) ∙ ap decode (sym c ∙ eqb-is (codeAt tab s a r) (code P) d)
+            ∙ decode-proper P proper short)
         go true e f false d c ih =
             let l = f p (here refl) in
             let n : same P (pa ++ p) ≡ false =
@@ -214,7 +216,8 @@ module _ (shapes : List Term) (tab : List ℕ) (tables : (s : ℕ) → s < lengt
       ended x l d e = rw (d, ← e) (go (eqb x 0) refl)
         where
           go : (b : Bool) → eqb x 0 ≡ b
-              → map (goalMeant shapes) (cond b [] (cond (ltb x unexpected) (withMask g x ∷ []) [])) ≡ cond (not (isNil (goalMeant shapes (withMask g x) .obs))) (goalMeant shapes (withMask g x) ∷ []) []
+              → map (goalMeant shapes) (cond b [] (cond (ltb x unexpected) (withMask g x ∷ []) [])) ≡ cond
+              (not (isNil (goalMeant shapes (withMask g x) .obs))) (goalMeant shapes (withMask g x) ∷ []) []
           go true z = rw (eqb-is x 0 z, select-zero (dom (shapeAt shapes (g .sh)))) refl
           go false z = rw (lt-ltb x unexpected small-mask) (full (select x (dom (shapeAt shapes (g .sh)))) refl)
             where
@@ -222,9 +225,11 @@ module _ (shapes : List Term) (tab : List ℕ) (tables : (s : ℕ) → s < lengt
               small-mask = let w = pow-le (fine .low) in omega (arith, l, w)
 
               full : (ys : List Pos) → select x (dom (shapeAt shapes (g .sh))) ≡ ys
-                  → _≡_ {A = List (Goal Pos)} (goalMeant shapes (withMask g x) ∷ []) (cond (not (isNil (map (λ r. decode (g .an) ++ r) ys))) (goalMeant shapes (withMask g x) ∷ []) [])
+                  → _≡_ {A = List (Goal Pos)} (goalMeant shapes (withMask g x) ∷ [])
+                  (cond (not (isNil (map (λ r. decode (g .an) ++ r) ys))) (goalMeant shapes (withMask g x) ∷ []) [])
               full [] n =
-                  absurd (false≢true (sym z ∙ eq-eqb x 0 (select-none x (dom (shapeAt shapes (g .sh))) (rw (length-dom (shapeAt shapes (g .sh))) l) n)))
+                  absurd (false≢true (sym z ∙ eq-eqb x 0
+                  (select-none x (dom (shapeAt shapes (g .sh))) (rw (length-dom (shapeAt shapes (g .sh))) l) n)))
               full (y ∷ ys) n = refl
 
       mask-fits : (r : ℕ) (o : Node (shapeAt shapes (g .sh)) r)

@@ -48,7 +48,8 @@ start-decoded shapes =
 module _ {ar tab : List ℕ} {n : ℕ} (r : Ready ar tab n) where
   pub start-good : GoodFor r (freshesW n 0)
   start-good = record {
-    sound = subst (SoundState (settingOf r)) (sym (ap (λ m. stateMeant (r .shapes) (freshesW m 0)) (sym (r .count)) ∙ start-decoded (r .shapes))) (initial-sound (settingOf r));
+    sound = subst (SoundState (settingOf r)) (sym (ap (λ m. stateMeant (r .shapes) (freshesW m 0)) (sym (r .count)) ∙ start-decoded (r .shapes)))
+        (initial-sound (settingOf r));
     few = let e = length-map (range 0 n) (freshW 0) in let d = length-range 0 n in let h = r .few-shapes in omega arith;
     bounded = record {
       code = λ g m. on-map (freshW 0) (range 0 n) m λ j i e. rw e (omega arith);

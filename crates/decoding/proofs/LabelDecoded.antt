@@ -80,7 +80,9 @@ module _ (shapes : List Term) (tab : List ℕ) (tables : (s : ℕ) → s < lengt
       rest = filter (λ g. isRoot (g .ann)) (stateMeant shapes gs)
 
       go : (b : Bool) → owedBy tab g ≡ map code (goalMeant shapes g .obs) → rootCodes tab gs ≡ map code (rootObs gs)
-          → cond b (owedBy tab g ++ rootCodes tab gs) (map code (rootObs gs)) ≡ map code (allObs (cond b (goalMeant shapes g ∷ filter (λ g. isRoot (g .ann)) (stateMeant shapes gs)) (filter (λ g. isRoot (g .ann)) (stateMeant shapes gs))))
+          → cond b (owedBy tab g ++ rootCodes tab gs) (map code (rootObs gs)) ≡ map code
+          (allObs (cond b (goalMeant shapes g ∷ filter (λ g. isRoot (g .ann)) (stateMeant shapes gs))
+          (filter (λ g. isRoot (g .ann)) (stateMeant shapes gs))))
       go true e i = ap₂ (λ xs ys. xs ++ ys) e i ∙ sym (map-append code (goalMeant shapes g .obs) (rootObs gs))
       go false e i = refl
 

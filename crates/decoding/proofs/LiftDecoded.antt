@@ -101,5 +101,6 @@ lift-is shapes G q g small e h l =
     ap (λ x. record { shape = g .sh; ann = x; obs = map (λ r. x ++ r) S }) p
     ∙ ap₂ (λ x y. record { shape = g .sh; ann = x; obs = y })
     (sym (ap (strip G) e ∙ strip-append G q))
-    (map-same (λ r. q ++ r) (λ r. strip G (decode (g .an) ++ r)) S (λ r m. sym (ap (λ x. strip G (x ++ r)) e ∙ ap (strip G) (append-assoc G q r) ∙ strip-append G (q ++ r)))
+    (map-same (λ r. q ++ r) (λ r. strip G (decode (g .an) ++ r)) S
+    (λ r m. sym (ap (λ x. strip G (x ++ r)) e ∙ ap (strip G) (append-assoc G q r) ∙ strip-append G (q ++ r)))
     ∙ sym (map-map (strip G) (λ r. decode (g .an) ++ r) S))

@@ -167,7 +167,8 @@ module _ (a : Pos) (new : List Pos) where
       let A : select (maskAfter m r (z * 2 ^ suc r)) (L ++ (U ++ R)) ≡ select lo L ++ (map (λ q. p ++ q) (select z (below u)) ++ select hi R) =
       ap (λ k. select k (L ++ (U ++ R))) (after-is m r sp z one small)
       ∙ select-three L U R hi (z * 2) lo r (suc sp) c len lt (omega (arith, pow-suc 2 sp, small))
-      ∙ ap (λ qs. select lo L ++ (qs ++ select hi R)) (select-map (λ q. p ++ q) (z * 2) ([] ∷ below u) ∙ ap (map (λ q. p ++ q)) (select-even z [] (below u))) in
+      ∙ ap (λ qs. select lo L ++ (qs ++ select hi R))
+      (select-map (λ q. p ++ q) (z * 2) ([] ∷ below u) ∙ ap (map (λ q. p ++ q)) (select-even z [] (below u))) in
       let B : select m (L ++ (U ++ R)) ≡ select lo L ++ ((p ++ []) ∷ select hi R) =
       ap (λ k. select k (L ++ (U ++ R))) (mask-is m r sp z one small)
       ∙ select-three L U R hi 1 lo r (suc sp) c len lt (omega (arith, pow-suc 2 sp, pos))
@@ -193,9 +194,11 @@ module _ (a : Pos) (new : List Pos) where
   pub swap-mask : (t : Term) (r m : ℕ) (o : Node t r)
       → m / 2 ^ r % 2 ^ span (o .under) ≡ 1
       → new ≡ map (λ q. (a ++ o .at) ++ q) (select (roots (kidsIn (o .under))) (below (o .under)))
-      → map (λ q. a ++ q) (select (maskAfter m r (roots (kidsIn (o .under)) * 2 ^ suc r)) (dom t)) ≡ gather (swapped (a ++ o .at) new) (map (λ q. a ++ q) (select m (dom t)))
+      → map (λ q. a ++ q) (select (maskAfter m r (roots (kidsIn (o .under)) * 2 ^ suc r)) (dom t)) ≡ gather (swapped (a ++ o .at) new)
+      (map (λ q. a ++ q) (select m (dom t)))
   swap-mask t r m o one is =
       let s : dom t ≡ o .left ++ (map (λ q. o .at ++ q) ([] ∷ below (o .under)) ++ o .right) =
       o .split ∙ ap (λ d. o .left ++ (map (λ q. o .at ++ q) d ++ o .right)) (dom-below (o .under)) in
       rw s
-      (swap-at (o .under) (o .at) (o .left) (o .right) m r (o .count) (o .not-left) (o .not-right) (ap (λ k. m / 2 ^ r % 2 ^ k) (sym (span-below (o .under))) ∙ one) is)
+      (swap-at (o .under) (o .at) (o .left) (o .right) m r (o .count) (o .not-left) (o .not-right)
+      (ap (λ k. m / 2 ^ r % 2 ^ k) (sym (span-below (o .under))) ∙ one) is)

@@ -47,10 +47,12 @@ pad-same p q sp sq = go (same p q) refl
   where
     not-both : pad (code p) ≡ pad (code q) → Before p q ⊎ ((p ≡ q) ⊎ Before q p) → p ≡ q
     not-both e (inl b) =
-        absurd (false≢true (sym (ltb-irrefl (pad (code q))) ∙ ap (λ x. ltb x (pad (code q))) (sym e) ∙ code-before p q (sp .digits) (sq .digits) (sp .short) (sq .short) ∙ b))
+        absurd (false≢true (sym (ltb-irrefl (pad (code q))) ∙ ap (λ x. ltb x (pad (code q))) (sym e)
+        ∙ code-before p q (sp .digits) (sq .digits) (sp .short) (sq .short) ∙ b))
     not-both e (inr (inl d)) = d
     not-both e (inr (inr b)) =
-        absurd (false≢true (sym (ltb-irrefl (pad (code q))) ∙ ap (λ x. ltb (pad (code q)) x) (sym e) ∙ code-before q p (sq .digits) (sp .digits) (sq .short) (sp .short) ∙ b))
+        absurd (false≢true (sym (ltb-irrefl (pad (code q))) ∙ ap (λ x. ltb (pad (code q)) x) (sym e)
+        ∙ code-before q p (sq .digits) (sp .digits) (sq .short) (sp .short) ∙ b))
 
     go : (b : Bool) → same p q ≡ b → eqb (pad (code p)) (pad (code q)) ≡ b
     go true e = eq-eqb _ _ (ap (λ x. pad (code x)) (same-is p q e))
@@ -89,7 +91,8 @@ module _ (shapes : List Term) (tab : List ℕ) (c : ℕ) (P : Pos) (f k : ℕ) w
 
   one-is : (g : GoalWords) (x : ℕ) → Reduct shapes g P f k x → (rest : List (Goal Pos))
       → map announcementW (cond (eqb x 0) (g ∷ []) []) ++ map announcement (filter ends (map (reduced (bare shapes) P k) rest))
-      ≡ map announcement (filter ends (map (reduced (bare shapes) P k) (cond (bare shapes .expects f P (goalMeant shapes g)) (goalMeant shapes g ∷ rest) rest)))
+      ≡ map announcement (filter ends
+      (map (reduced (bare shapes) P k) (cond (bare shapes .expects f P (goalMeant shapes g)) (goalMeant shapes g ∷ rest) rest)))
   one-is g x (missed e n) rest = rw (e, n) refl
   one-is g x (cut l y is) rest =
       let e : isNil (reduced (bare shapes) P k (goalMeant shapes g) .obs) ≡ eqb x 0 = ap isNil (sym is) ∙ mask-nil shapes g x l in
@@ -97,12 +100,14 @@ module _ (shapes : List Term) (tab : List ℕ) (c : ℕ) (P : Pos) (f k : ℕ) w
     where
       go : (b : Bool)
           → map announcementW (cond b (g ∷ []) []) ++ map announcement (filter ends (map (reduced (bare shapes) P k) rest))
-          ≡ map announcement (cond b (reduced (bare shapes) P k (goalMeant shapes g) ∷ filter ends (map (reduced (bare shapes) P k) rest)) (filter ends (map (reduced (bare shapes) P k) rest)))
+          ≡ map announcement (cond b (reduced (bare shapes) P k (goalMeant shapes g) ∷ filter ends (map (reduced (bare shapes) P k) rest))
+          (filter ends (map (reduced (bare shapes) P k) rest)))
       go true = refl
       go false = refl
 
   pub announced-is : (gs : List GoalWords) → ((g : GoalWords) → g ∈ gs → Reduct shapes g P f k (reduct tab c f g))
-      → map announcementW (gather (announces tab c f) gs) ≡ map announcement (filter ends (map (reduced (bare shapes) P k) (filter (bare shapes .expects f P) (stateMeant shapes gs))))
+      → map announcementW (gather (announces tab c f) gs) ≡ map announcement
+      (filter ends (map (reduced (bare shapes) P k) (filter (bare shapes .expects f P) (stateMeant shapes gs))))
   announced-is [] h = refl
   announced-is (g ∷ gs) h =
       map-append announcementW (announces tab c f g) (gather (announces tab c f) gs)

@@ -23,7 +23,8 @@ module _ (tab : List ℕ) (n c f k : ℕ) where
   one-of : (g : GoalWords) → length (stays tab c g) + length (moves tab c f g) ≤ 1
   one-of g =
       go (eqb (nodeAt tab (g .sh) (g .an) (g .mask) c) 16)
-      (cond (eqb (symOf tab (g .sh) (nodeAt tab (g .sh) (g .an) (g .mask) c)) f) (maskAfter (g .mask) (nodeAt tab (g .sh) (g .an) (g .mask) c) (kidsOf tab (g .sh) (nodeAt tab (g .sh) (g .an) (g .mask) c))) unexpected)
+      (cond (eqb (symOf tab (g .sh) (nodeAt tab (g .sh) (g .an) (g .mask) c)) f)
+      (maskAfter (g .mask) (nodeAt tab (g .sh) (g .an) (g .mask) c) (kidsOf tab (g .sh) (nodeAt tab (g .sh) (g .an) (g .mask) c))) unexpected)
     where
       short : (x : ℕ) (a b : Bool) → length (cond {A = List GoalWords} a [] (cond b (withMask g x ∷ []) [])) ≤ 1
       short x true b = omega arith

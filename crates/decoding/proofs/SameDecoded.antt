@@ -95,7 +95,8 @@ has-self o xs i = any-of (same o) i (same-refl o)
 same-self : (shapes : List Term) (g : Goal Pos) → sameGoal (bare shapes) g g ≡ true
 same-self shapes g =
     both
-    (both (both (eq-eqb (g .shape) (g .shape) refl) (same-refl (g .ann))) (all-of (λ o. any (same o) (g .obs)) (g .obs) (λ o i. has-self o (g .obs) i)))
+    (both (both (eq-eqb (g .shape) (g .shape) refl) (same-refl (g .ann)))
+    (all-of (λ o. any (same o) (g .obs)) (g .obs) (λ o i. has-self o (g .obs) i)))
     (all-of (λ o. any (same o) (g .obs)) (g .obs) (λ o i. has-self o (g .obs) i))
 
 module _ (shapes : List Term) where
@@ -111,7 +112,8 @@ module _ (shapes : List Term) where
       there-and e =
           let r = and-r (eqb (g .sh) (h .sh)) e in
           rw
-          (words (eqb-is (g .sh) (h .sh) (and-l _ e)) (eqb-is (g .an) (h .an) (and-l _ r)) (eqb-is (g .mask) (h .mask) (and-r (eqb (g .an) (h .an)) r)))
+          (words (eqb-is (g .sh) (h .sh) (and-l _ e)) (eqb-is (g .an) (h .an) (and-l _ r))
+          (eqb-is (g .mask) (h .mask) (and-r (eqb (g .an) (h .an)) r)))
           (same-self shapes (goalMeant shapes h))
 
       masks : g .sh ≡ h .sh → g .an ≡ h .an
@@ -119,9 +121,11 @@ module _ (shapes : List Term) where
           → all (λ o. any (same o) (goalMeant shapes g .obs)) (goalMeant shapes h .obs) ≡ true → g .mask ≡ h .mask
       masks a b c d =
           let ps = dom (shapeAt shapes (h .sh)) in
-          let c′ : all (λ o. any (same o) (map (λ q. decode (h .an) ++ q) (select (h .mask) ps))) (map (λ q. decode (h .an) ++ q) (select (g .mask) ps)) ≡ true =
+          let c′ : all (λ o. any (same o) (map (λ q. decode (h .an) ++ q) (select (h .mask) ps)))
+          (map (λ q. decode (h .an) ++ q) (select (g .mask) ps)) ≡ true =
           rw (a, b) at c in
-          let d′ : all (λ o. any (same o) (map (λ q. decode (h .an) ++ q) (select (g .mask) ps))) (map (λ q. decode (h .an) ++ q) (select (h .mask) ps)) ≡ true =
+          let d′ : all (λ o. any (same o) (map (λ q. decode (h .an) ++ q) (select (g .mask) ps)))
+          (map (λ q. decode (h .an) ++ q) (select (h .mask) ps)) ≡ true =
           rw (a, b) at d in
           let l : g .mask < 2 ^ span (shapeAt shapes (h .sh)) = rw a at (fg .bits) in
           select-inj ps (g .mask) (h .mask) (dom-distinct (shapeAt shapes (h .sh))) (rw (length-dom (shapeAt shapes (h .sh))) l)
@@ -140,7 +144,8 @@ module _ (shapes : List Term) where
           ∙ code-of 7 (h .an) (fh .small) in
           let m =
           masks a b (and-r (eqb (g .sh) (h .sh) && same (decode (g .an)) (decode (h .an))) e₁)
-          (and-r (eqb (g .sh) (h .sh) && same (decode (g .an)) (decode (h .an)) && all (λ o. any (same o) (goalMeant shapes h .obs)) (goalMeant shapes g .obs)) e) in
+          (and-r (eqb (g .sh) (h .sh) && same (decode (g .an)) (decode (h .an)) && all (λ o. any (same o) (goalMeant shapes h .obs))
+          (goalMeant shapes g .obs)) e) in
           both (eq-eqb _ _ a) (both (eq-eqb _ _ b) (eq-eqb _ _ m))
 
   among-is : (g : GoalWords) (hs : List GoalWords) → Fine shapes g → ((h : GoalWords) → h ∈ hs → Fine shapes h)

@@ -29,7 +29,8 @@ module _ {ℓ} {A : Type ℓ} where
       (go (eqb (low % 2) 1) (select-append xs ys h (low / 2) (omega (arith, pow-suc 2 (length xs)))))
     where
       go : (b : Bool) → select (h * 2 ^ length xs + low / 2) (xs ++ ys) ≡ select (low / 2) xs ++ select h ys
-          → cond b (x ∷ select (h * 2 ^ length xs + low / 2) (xs ++ ys)) (select (h * 2 ^ length xs + low / 2) (xs ++ ys)) ≡ cond b (x ∷ select (low / 2) xs) (select (low / 2) xs) ++ select h ys
+          → cond b (x ∷ select (h * 2 ^ length xs + low / 2) (xs ++ ys)) (select (h * 2 ^ length xs + low / 2) (xs ++ ys)) ≡ cond b
+          (x ∷ select (low / 2) xs) (select (low / 2) xs) ++ select h ys
       go true e = ap (λ zs. x ∷ zs) e
       go false e = e
 

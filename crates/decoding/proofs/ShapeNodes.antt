@@ -102,7 +102,8 @@ in-first t ts i r h o = record {
       (map-append (λ p. i ∷ p) (map (λ q. o .at ++ q) (dom (o .under))) (o .right))
       ∙ ap (λ ps. map (λ p. i ∷ p) (o .left) ++ ps)
       (append-assoc (map (λ p. i ∷ p) (map (λ q. o .at ++ q) (dom (o .under)))) (map (λ p. i ∷ p) (o .right)) (doms ts (suc i)))
-      ∙ ap (λ ps. map (λ p. i ∷ p) (o .left) ++ (ps ++ (map (λ p. i ∷ p) (o .right) ++ doms ts (suc i)))) (map-map (λ p. i ∷ p) (λ q. o .at ++ q) (dom (o .under)));
+      ∙ ap (λ ps. map (λ p. i ∷ p) (o .left) ++ (ps ++ (map (λ p. i ∷ p) (o .right) ++ doms ts (suc i))))
+      (map-map (λ p. i ∷ p) (λ q. o .at ++ q) (dom (o .under)));
   count = length-map (o .left) (λ p. i ∷ p) ∙ o .count;
   is = o .is;
   word = List·getD-append (flatten t) (flattens ts) 0 r (rw (length-flatten t) h) ∙ o .word;
@@ -129,14 +130,16 @@ in-rest t ts i r d e o = record {
       ∙ sym (append-assoc (map (λ p. i ∷ p) (dom t)) (o .left) (map (λ q. o .num ∷ (o .at ++ q)) (dom (o .under)) ++ o .right));
   count = length-append (map (λ p. i ∷ p) (dom t)) (o .left) ∙ ap₂ (λ a b. a + b) (length-map (dom t) (λ p. i ∷ p) ∙ length-dom t) (o .count) ∙ sym e;
   is = o .is;
-  word = ap (λ k. getD (flatten t ++ flattens ts) k 0) (e ∙ ap (λ k. k + d) (sym (length-flatten t))) ∙ getD-append-add (flatten t) (flattens ts) d 0 ∙ o .word;
+  word = ap (λ k. getD (flatten t ++ flattens ts) k 0) (e ∙ ap (λ k. k + d) (sym (length-flatten t))) ∙ getD-append-add (flatten t) (flattens ts) d 0
+      ∙ o .word;
   mask = λ b.
       ap (λ k. getD (kidMasks b t ++ kidMaskss (b + span t) ts) k 0) (e ∙ ap (λ k. k + d) (sym (length-kids b t)))
       ∙ getD-append-add (kidMasks b t) (kidMaskss (b + span t) ts) d 0
       ∙ o .mask (b + span t)
       ∙ ap (λ k. roots (kidsIn (o .under)) * 2 ^ suc k) (add-assoc b (span t) d ∙ ap (λ k. b + k) (sym e));
   not-left = λ q m. ⊎-elim
-      (λ (k : q ∈ map (λ p. i ∷ p) (dom t)). on-map (λ p. i ∷ p) (dom t) k (λ p j z. let w = o .num-is in rw (z, ne-eqb (o .num) i (λ v. omega arith)) refl))
+      (λ (k : q ∈ map (λ p. i ∷ p) (dom t)). on-map (λ p. i ∷ p) (dom t) k
+      (λ p j z. let w = o .num-is in rw (z, ne-eqb (o .num) i (λ v. omega arith)) refl))
       (λ (k : q ∈ o .left). o .not-left q k)
       (∈-append (map (λ p. i ∷ p) (dom t)) m);
   not-right = o .not-right;

@@ -72,7 +72,8 @@ module _ (ar ws : List ℕ) (few-symbols : length ar ≤ blankWord) (st : ℕ) w
     kids-nodes tnil c r h s q b = absurd (omega arith)
     kids-nodes (tcons t ts) c r h s q b =
         go (decLt r (span t)) (λ y. kids-node t c r y (s .0) (q .0) (omega arith))
-        (λ y. let z : st + c + span t ≡ st + (c + span t) = omega arith in kids-nodes ts (c + span t) (r - span t) (omega arith) (rw z at (s .1)) (q .1) (omega arith))
+        (λ y. let z : st + c + span t ≡ st + (c + span t) = omega arith in
+        kids-nodes ts (c + span t) (r - span t) (omega arith) (rw z at (s .1)) (q .1) (omega arith))
       where
         go : Dec (r < span t) → (r < span t → kidsAt ar ws st (c + r) ≡ getD (kidMasks c t) r 0 % 65536)
             → (span t ≤ r → kidsAt ar ws st (c + span t + (r - span t)) ≡ getD (kidMaskss (c + span t) ts) (r - span t) 0 % 65536)
@@ -84,4 +85,5 @@ module _ (ar ws : List ℕ) (few-symbols : length ar ≤ blankWord) (st : ℕ) w
             let d : r ≡ span t + (r - span t) = omega arith in
             ap (kidsAt ar ws st) e ∙ g (omega arith)
             ∙ ap (λ u. u % 65536)
-            (sym (ap (λ u. getD (kidMasks c t ++ kidMaskss (c + span t) ts) u 0) (d ∙ ap (λ u. u + (r - span t)) (sym (length-kids c t))) ∙ getD-append-add (kidMasks c t) (kidMaskss (c + span t) ts) (r - span t) 0))
+            (sym (ap (λ u. getD (kidMasks c t ++ kidMaskss (c + span t) ts) u 0) (d ∙ ap (λ u. u + (r - span t)) (sym (length-kids c t)))
+            ∙ getD-append-add (kidMasks c t) (kidMaskss (c + span t) ts) (r - span t) 0))

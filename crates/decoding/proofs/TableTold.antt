@@ -43,7 +43,8 @@ module _ (ws : List ℕ) where
             let d : r ≡ span t + (r - span t) = omega arith in
             ap (wordAt ws) e ∙ g (omega arith)
             ∙ sym
-            (ap (λ u. getD (flatten t ++ flattens ts) u 0) (d ∙ ap (λ u. u + (r - span t)) (sym (length-flatten t))) ∙ getD-append-add (flatten t) (flattens ts) (r - span t) 0)
+            (ap (λ u. getD (flatten t ++ flattens ts) u 0) (d ∙ ap (λ u. u + (r - span t)) (sym (length-flatten t)))
+            ∙ getD-append-add (flatten t) (flattens ts) (r - span t) 0)
 
 grow : (x P : ℕ) → 1 ≤ P → x ≤ x * P
 grow x zero h = absurd (omega arith)
@@ -75,17 +76,21 @@ module _ (ar ws ss tab : List ℕ) (few-symbols : length ar ≤ blankWord) (fill
   start : Stands ws (getD ss s 0 + 0) t
   start = rw (add-zero (getD ss s 0)) stands
 
-  pub table-of : ((r : ℕ) → r < span t → (code (getD (dom t) r []) < 65536) × (5 ^ length (getD (dom t) r []) < 65536) × (getD (kidMasks 0 t) r 0 < 65536))
+  pub table-of : ((r : ℕ) → r < span t → (code (getD (dom t) r []) < 65536) × (5 ^ length (getD (dom t) r []) < 65536)
+      × (getD (kidMasks 0 t) r 0 < 65536))
       → TableOf tab s t
   table-of small = record {
     size = let p = span-pos t in let e : 512 + 16 * s ≡ 256 * 2 + (16 * s + 0) = omega arith in
-        ap (λ k. getD tab k 0) e ∙ word-in 2 0 (omega arith) p ∙ word-2 ar ws (getD ss s 0) 2 0 refl ∙ span-is ar ws few-symbols t (getD ss s 0 + 0) start fits few;
+        ap (λ k. getD tab k 0) e ∙ word-in 2 0 (omega arith) p ∙ word-2 ar ws (getD ss s 0) 2 0 refl
+        ∙ span-is ar ws few-symbols t (getD ss s 0 + 0) start fits few;
     codes = λ r h. let e : 16 * s + r ≡ 256 * 0 + (16 * s + r) = omega arith in
         ap (λ k. getD tab k 0) e ∙ word-in 0 r (omega arith) h ∙ word-0 ar ws (getD ss s 0) 0 r refl
-        ∙ seek-term ar ws few-symbols (getD ss s 0) r 1 t 16 0 0 r (omega arith) h (omega arith) start fits few ∙ val-code (getD (dom t) r []) 0 (small r h .0);
+        ∙ seek-term ar ws few-symbols (getD ss s 0) r 1 t 16 0 0 r (omega arith) h (omega arith) start fits few
+        ∙ val-code (getD (dom t) r []) 0 (small r h .0);
     pows = λ r h. let z = small r h .1 in let o = one-mul (5 ^ length (getD (dom t) r [])) in
         word-in 1 r (omega arith) h ∙ word-1 ar ws (getD ss s 0) 1 r refl
-        ∙ seek-term ar ws few-symbols (getD ss s 0) r 0 t 16 0 1 r (omega arith) h (omega arith) start fits few ∙ val-pow (getD (dom t) r []) 1 (omega (arith, z, o)) ∙ o;
+        ∙ seek-term ar ws few-symbols (getD ss s 0) r 0 t 16 0 1 r (omega arith) h (omega arith) start fits few
+        ∙ val-pow (getD (dom t) r []) 1 (omega (arith, z, o)) ∙ o;
     syms = λ r h. word-in 3 r (omega arith) h ∙ word-3 ar ws (getD ss s 0) 3 r refl ∙ word-node ws t (getD ss s 0) r h stands;
     kids = λ r h. let z = small r h .2 in
         word-in 4 r (omega arith) h

@@ -29,7 +29,8 @@ use Rattle.decoding.proofs.GoodLaws.{start-decoded, start-good}
 
 module _ {ar tab : List ℕ} {n : ℕ} (r : Ready ar tab n) where
   classes-for : (gs : List GoalWords) (w : GoodFor r gs) (f k : ℕ) (a : getElem? ar f ≡ some k)
-      → map (stateMeant (r .shapes)) (classesW tab (derivW tab n (labelCode tab gs) f k gs)) ≡ construction (bare (r .shapes)) .classes (stateMeant (r .shapes) gs) f k
+      → map (stateMeant (r .shapes)) (classesW tab (derivW tab n (labelCode tab gs) f k gs)) ≡ construction (bare (r .shapes)) .classes
+      (stateMeant (r .shapes) gs) f k
   classes-for gs w f k a =
       classes-is (r .shapes) tab (r .tables) (derivW tab n (labelCode tab gs) f k gs) (deriv-fine r gs w f k a)
       (deriv-goals-sound r gs w f k a .owing)

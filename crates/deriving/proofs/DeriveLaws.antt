@@ -221,7 +221,8 @@ deriv-words tab n c f k gs =
     ∙ ap (λ ws. flat (gather (stays tab c) gs) ++ ws) (flat-append (gather (moves tab c f) gs) (bornW n c k))
 
 pub deriv-size : (tab : List ℕ) (n c f k : ℕ) (gs : List GoalWords)
-    → length (flat (derivW tab n c f k gs)) ≡ length (flat (gather (stays tab c) gs)) + (length (flat (gather (moves tab c f) gs)) + length (flat (bornW n c k)))
+    → length (flat (derivW tab n c f k gs)) ≡ length (flat (gather (stays tab c) gs)) +
+    (length (flat (gather (moves tab c f) gs)) + length (flat (bornW n c k)))
 deriv-size tab n c f k gs =
     ap length (deriv-words tab n c f k gs)
     ∙ length-append (flat (gather (stays tab c) gs)) _

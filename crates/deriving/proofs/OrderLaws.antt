@@ -86,12 +86,22 @@ pad-word c h = go (decLt c 5) (decLt c 25) (decLt c 125) (decLt c 625) (decLt c 
     go (no a) (no b) (no d) (yes e) _ =
         rw (le-ltb c 5 (omega (arith, a)), le-ltb c 25 (omega (arith, b)), le-ltb c 125 (omega (arith, d)), lt-ltb c 625 e) (omega arith)
     go (no a) (no b) (no d) (no e) (yes f) =
-        rw
-        (le-ltb c 5 (omega (arith, a)), le-ltb c 25 (omega (arith, b)), le-ltb c 125 (omega (arith, d)), le-ltb c 625 (omega (arith, e)), lt-ltb c 3125 f)
+        rw (
+          le-ltb c 5 (omega (arith, a)),
+          le-ltb c 25 (omega (arith, b)),
+          le-ltb c 125 (omega (arith, d)),
+          le-ltb c 625 (omega (arith, e)),
+          lt-ltb c 3125 f,
+        )
         (omega arith)
     go (no a) (no b) (no d) (no e) (no f) =
-        rw
-        (le-ltb c 5 (omega (arith, a)), le-ltb c 25 (omega (arith, b)), le-ltb c 125 (omega (arith, d)), le-ltb c 625 (omega (arith, e)), le-ltb c 3125 (omega (arith, f)))
+        rw (
+          le-ltb c 5 (omega (arith, a)),
+          le-ltb c 25 (omega (arith, b)),
+          le-ltb c 125 (omega (arith, d)),
+          le-ltb c 625 (omega (arith, e)),
+          le-ltb c 3125 (omega (arith, f)),
+        )
         h
 
 pub key-of : (tab : List ℕ) (gs : List GoalWords) → classKey tab gs ≡ pad (firstCode 65535 (gather (owedBy tab) gs))
@@ -221,7 +231,8 @@ module _ {A : Type 0} (at : ℕ → A) (key : A → ℕ) where
       rw e (go (ltb x (item i)) (insert-item i h xs (λ y m. past y (there m))))
     where
       go : (b : Bool) → map named (insert ltb (item i) xs) ≡ insert by (at i) (map named xs)
-          → map named (cond b (x ∷ insert ltb (item i) xs) (item i ∷ x ∷ xs)) ≡ cond b (named x ∷ insert by (at i) (map named xs)) (at i ∷ named x ∷ map named xs)
+          → map named (cond b (x ∷ insert ltb (item i) xs) (item i ∷ x ∷ xs)) ≡ cond b (named x ∷ insert by (at i) (map named xs))
+          (at i ∷ named x ∷ map named xs)
       go true ih = ap (λ l. named x ∷ l) ih
       go false ih = ap (λ a. a ∷ named x ∷ map named xs) (named-item i h)
 
@@ -239,6 +250,7 @@ module _ {A : Type 0} (at : ℕ → A) (key : A → ℕ) where
           let b = r .2 in (r .0, r .1, omega arith, r .3)
 
       go : (b : Bool) → map named (sort ltb (keyed p (λ j. key (at j)) (suc i) k)) ≡ sort by (passing p (suc i) k)
-          → map named (sort ltb (cond b (item i ∷ keyed p (λ j. key (at j)) (suc i) k) (keyed p (λ j. key (at j)) (suc i) k))) ≡ sort by (cond b (at i ∷ []) [] ++ passing p (suc i) k)
+          → map named (sort ltb (cond b (item i ∷ keyed p (λ j. key (at j)) (suc i) k) (keyed p (λ j. key (at j)) (suc i) k))) ≡ sort by
+          (cond b (at i ∷ []) [] ++ passing p (suc i) k)
       go true ih = insert-item i (omega arith) (sort ltb (keyed p (λ j. key (at j)) (suc i) k)) past ∙ ap (insert by (at i)) ih
       go false ih = ih

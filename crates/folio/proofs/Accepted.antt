@@ -50,7 +50,8 @@ use Rattle.kinds.specs.Members.{Below}
 pub one-meaning : (file : List ℕ) (p : Places) (m n : Meaning file p) → (m .shapes ≡ n .shapes) × (m .score ≡ n .score)
 one-meaning file p m n = (
   all-once (take (p .shapes) file) (m .shapes) (n .shapes) (m .limits .are-shapes) (n .limits .are-shapes) (sym (m .shape-words) ∙ n .shape-words),
-  once (take (p .shapes) file) noBlank (m .score) (n .score) [] [] (m .limits .is-score .fits) (n .limits .is-score .fits) (append-nil (flatten (m .score)) ∙ sym (m .score-words) ∙ n .score-words ∙ sym (append-nil (flatten (n .score)))) .0,
+  once (take (p .shapes) file) noBlank (m .score) (n .score) [] [] (m .limits .is-score .fits) (n .limits .is-score .fits)
+      (append-nil (flatten (m .score)) ∙ sym (m .score-words) ∙ n .score-words ∙ sym (append-nil (flatten (n .score)))) .0,
 )
 
 -- ---- what is answered and written
@@ -59,18 +60,22 @@ full ar ws st sc l =
     out (Folio (counts (length ar) (length st) (length ws) (length sc)))
     (lent (sets (l .words) 0 ws) (sets (l .starts) 0 st) (sets (l .score) 0 sc) (sets (l .spans) 0 (spansOf ar sc)))
 
-full-answered : (ar : List ℕ) (ss : List Term) (t : Term) (l : Lent) → folio.Folio ar ss t → full ar (gather flatten ss) (startsAt 0 ss) (flatten t) l ≡ answered ar ss t l
+full-answered : (ar : List ℕ) (ss : List Term) (t : Term) (l : Lent) → folio.Folio ar ss t
+    → full ar (gather flatten ss) (startsAt 0 ss) (flatten t) l ≡ answered ar ss t l
 full-answered ar ss t l f =
     let few = f .symbols .few-symbols in
     let sp = spans-are ar noBlank t (omega arith) (f .is-score .fits) in
-    ap (λ (x : List ℕ). out (Folio (counts (length ar) (length (startsAt 0 ss)) (length (gather flatten ss)) (length (flatten t)))) (lent (sets (l .words) 0 (gather flatten ss)) (sets (l .starts) 0 (startsAt 0 ss)) (sets (l .score) 0 (flatten t)) (sets (l .spans) 0 x))) sp
-    ∙ ap₂ (λ (m n : ℕ). out (Folio (counts (length ar) m (length (gather flatten ss)) n)) (answered ar ss t l .tables)) (length-starts 0 ss) (length-flatten t)
+    ap (λ (x : List ℕ). out (Folio (counts (length ar) (length (startsAt 0 ss)) (length (gather flatten ss)) (length (flatten t))))
+    (lent (sets (l .words) 0 (gather flatten ss)) (sets (l .starts) 0 (startsAt 0 ss)) (sets (l .score) 0 (flatten t)) (sets (l .spans) 0 x))) sp
+    ∙ ap₂ (λ (m n : ℕ). out (Folio (counts (length ar) m (length (gather flatten ss)) n)) (answered ar ss t l .tables)) (length-starts 0 ss)
+    (length-flatten t)
 
 -- ---- what is accepted
 never-folio {κ} : {C : Type κ} {r : Reason} {p : ℕ} {k : Counts} → Refused r p ≡ Folio k → C
 never-folio e = let z : _≡_ {A = ℕ} 0 1 = cc in absurd (omega arith)
 
-on-room {κ} : {C : Type κ} (b : Bool) (l : Lent) (o : OpenOutcome) (k : Counts) → unless b (refuseOpening reason.Tables 0 l) o .answer ≡ Folio k → (b ≡ true → o .answer ≡ Folio k → C) → C
+on-room {κ} : {C : Type κ} (b : Bool) (l : Lent) (o : OpenOutcome) (k : Counts) → unless b (refuseOpening reason.Tables 0 l) o .answer ≡ Folio k
+    → (b ≡ true → o .answer ≡ Folio k → C) → C
 on-room true l o k e c = c refl e
 on-room false l o k e c = never-folio e
 
@@ -81,7 +86,13 @@ stored-room ar ws st sc l k e =
     on-room (leb (length st) (length (l .starts))) l _ k e₁ λ b e₂.
     on-room (leb (length sc) (length (l .score))) l _ k e₂ λ c e₃.
     on-room (leb (length sc) (length (l .spans))) l _ k e₃ λ d e₄.
-    record { words = leb-true (length ws) (length (l .words)) a; starts = leb-true (length st) (length (l .starts)) b; score = leb-true (length sc) (length (l .score)) c; spans = leb-true (length sc) (length (l .spans)) d }
+    record {
+      words = leb-true (length ws) (length (l .words)) a;
+      starts = leb-true (length st) (length (l .starts)) b;
+      score =
+          leb-true (length sc) (length (l .score)) c;
+      spans = leb-true (length sc) (length (l .spans)) d;
+    }
 
 -- shapes and score pass, and there is room
 record Held (ar ws sc : List ℕ) (l : Lent) : Type 0 where
@@ -95,10 +106,12 @@ unfolding held
 held-in ar ws sc at l k e = go (shapesOf ar blankWord ws .answer) refl (scoreOf ar sc) refl e
   where
     go : (a : Shapes) → shapesOf ar blankWord ws .answer ≡ a → (b : Score) → scoreOf ar sc ≡ b
-        → onShapes a at l (onScore b (at + 2 * length ws) l (stored ar ws (shapesOf ar blankWord ws .starts) sc l)) .answer ≡ Folio k → Held ar ws sc l
+        → onShapes a at l (onScore b (at + 2 * length ws) l (stored ar ws (shapesOf ar blankWord ws .starts) sc l)) .answer ≡ Folio k
+        → Held ar ws sc l
     go (shapes.Refused r i) ea b eb e = never-folio e
     go (shapes.Whole n) ea (score.Refused r i) eb e = never-folio e
-    go (shapes.Whole n) ea score.Whole eb e = record { number = n; shaped = ea; whole = eb; room = stored-room ar ws (shapesOf ar blankWord ws .starts) sc l k e }
+    go (shapes.Whole n) ea score.Whole eb e =
+        record { number = n; shaped = ea; whole = eb; room = stored-room ar ws (shapesOf ar blankWord ws .starts) sc l k e }
 
 pub record Accepted (file : List ℕ) (l : Lent) : Type 0 where
   pub places : Places
@@ -107,7 +120,8 @@ pub record Accepted (file : List ℕ) (l : Lent) : Type 0 where
   pub room : Room l (length (gather flatten (meaning .shapes))) (length (meaning .shapes)) (span (meaning .score))
   pub is : opened file l ≡ answered (take (places .shapes) file) (meaning .shapes) (meaning .score) l
 
-pub made-held : (file : List ℕ) (p : Places) (m : Meaning file p) (l : Lent) → sectionsOf file ≡ sections.At p → Room l (length (gather flatten (m .shapes))) (length (m .shapes)) (span (m .score))
+pub made-held : (file : List ℕ) (p : Places) (m : Meaning file p) (l : Lent) → sectionsOf file ≡ sections.At p
+    → Room l (length (gather flatten (m .shapes))) (length (m .shapes)) (span (m .score))
     → opened file l ≡ answered (take (p .shapes) file) (m .shapes) (m .score) l
 made-held file p m l e room =
     let ar : List ℕ = take (p .shapes) file in
@@ -118,10 +132,12 @@ made-held file p m l e room =
     ∙ ap₂ (λ (x y : List ℕ). held ar x y (p .shapes) l) (m .shape-words) (m .score-words)
     ∙ held-on ar ws sc (p .shapes) l (ap (λ (x : ShapesRead). x .answer) r) (score-of ar (m .score) (m .limits .is-score))
     ∙ ap (λ (x : ShapesRead). stored ar ws (x .starts) sc l) r
-    ∙ stored-all ar ws (startsAt 0 (m .shapes)) sc l (room .words) (rw (length-starts 0 (m .shapes)) (room .starts)) (rw (length-flatten (m .score)) (room .score)) (rw (length-flatten (m .score)) (room .spans))
+    ∙ stored-all ar ws (startsAt 0 (m .shapes)) sc l (room .words) (rw (length-starts 0 (m .shapes)) (room .starts))
+    (rw (length-flatten (m .score)) (room .score)) (rw (length-flatten (m .score)) (room .spans))
     ∙ full-answered ar (m .shapes) (m .score) l (m .limits)
 
-pub folio-of : (ar : List ℕ) (ss : List Term) (t : Term) → GoodSymbols ar → AreShapes ar ss → 1 ≤ length ss → length ss ≤ 16 → IsScore ar t → folio.Folio ar ss t
+pub folio-of : (ar : List ℕ) (ss : List Term) (t : Term) → GoodSymbols ar → AreShapes ar ss → 1 ≤ length ss → length ss ≤ 16 → IsScore ar t
+    → folio.Folio ar ss t
 folio-of ar ss t g s a b c = record { symbols = g; some-shape = a; few-shapes = b; are-shapes = s; is-score = c }
 
 pub accepted : (file : List ℕ) (l : Lent) (k : Counts) → Below 256 file → opened file l .answer ≡ Folio k → Accepted file l
@@ -129,15 +145,24 @@ unfolding opened
 accepted file l k small e = go (sectionsOf file) refl e
   where
     built : (p : Places) → sectionsOf file ≡ sections.At p
-        → Held (take (p .shapes) file) (wordsOf (take (p .score - p .shapes) (drop (p .shapes) file))) (wordsOf (take (p .end - p .score) (drop (p .score) file))) l → Accepted file l
+        → Held (take (p .shapes) file) (wordsOf (take (p .score - p .shapes) (drop (p .shapes) file)))
+        (wordsOf (take (p .end - p .score) (drop (p .score) file))) l → Accepted file l
     built p ep h =
         let ar : List ℕ = take (p .shapes) file in
         let ws : List ℕ = wordsOf (take (p .score - p .shapes) (drop (p .shapes) file)) in
         let bs : List ℕ = take (p .end - p .score) (drop (p .score) file) in
         let f = found-shapes ar ws (h .number) (h .shaped) in
-        let s = score-is ar (wordsOf bs) (words-below bs (λ w m. small w (in-drop (p .score) file (in-take (p .end - p .score) (drop (p .score) file) m)))) (h .whole) in
+        let s = score-is ar (wordsOf bs)
+        (words-below bs (λ w m. small w (in-drop (p .score) file (in-take (p .end - p .score) (drop (p .score) file) m)))) (h .whole) in
         let g = symbols-is ar (sections-in file p ep .1) in
-        let m : Meaning file p = record { shapes = f .trees; score = s .tree; limits = folio-of ar (f .trees) (s .tree) g (f .each) (f .some-shape) (f .few-shapes) (s .is); shape-words = f .words; score-words = s .words } in
+        let m : Meaning file p = record {
+          shapes = f .trees;
+          score = s .tree;
+          limits =
+              folio-of ar (f .trees) (s .tree) g (f .each) (f .some-shape) (f .few-shapes) (s .is);
+          shape-words = f .words;
+          score-words = s .words;
+        } in
         let r : Room l (length (gather flatten (f .trees))) (length (f .trees)) (span (s .tree)) = record {
           words = omega (arith, h .room .words, ap length (f .words));
           starts = omega (arith, h .room .starts, ap length (f .begins), length-starts 0 (f .trees));
@@ -148,10 +173,12 @@ accepted file l k small e = go (sectionsOf file) refl e
 
     go : (s : Sections) → sectionsOf file ≡ s → onSections s file l .answer ≡ Folio k → Accepted file l
     go (sections.Refused r i) es e = never-folio e
-    go (sections.At p) es e = built p es (held-in (take (p .shapes) file) (wordsOf (take (p .score - p .shapes) (drop (p .shapes) file))) (wordsOf (take (p .end - p .score) (drop (p .score) file))) (p .shapes) l k e)
+    go (sections.At p) es e = built p es (held-in (take (p .shapes) file) (wordsOf (take (p .score - p .shapes) (drop (p .shapes) file)))
+        (wordsOf (take (p .end - p .score) (drop (p .score) file))) (p .shapes) l k e)
 
 -- a file that passes 1 to 4, and whose sections are those of a folio
-pub made : (file : List ℕ) (p : Places) (m : Meaning file p) (l : Lent) → trailerOf file ≡ sections.At p → Room l (length (gather flatten (m .shapes))) (length (m .shapes)) (span (m .score))
+pub made : (file : List ℕ) (p : Places) (m : Meaning file p) (l : Lent) → trailerOf file ≡ sections.At p
+    → Room l (length (gather flatten (m .shapes))) (length (m .shapes)) (span (m .score))
     → opened file l ≡ answered (take (p .shapes) file) (m .shapes) (m .score) l
 made file p m l e room =
     let g = m .limits .symbols in
@@ -164,7 +191,8 @@ shape-terms ar ss s few = parse-all ar blankWord shapeLevels ss 16 few (λ t m. 
 pub score-term : (ar : List ℕ) (t : Term) → IsScore ar t → scoreTerm ar (flatten t) ≡ t
 score-term ar t s =
     let h = s .flat in
-    ap (λ (x : List ℕ). scoreTerm ar x) (sym (append-nil (flatten t))) ∙ ap orBlank (parse-flatten ar noBlank t scoreLevels [] (s .fits) (omega arith))
+    ap (λ (x : List ℕ). scoreTerm ar x) (sym (append-nil (flatten t)))
+    ∙ ap orBlank (parse-flatten ar noBlank t scoreLevels [] (s .fits) (omega arith))
 
 module _ (file : List ℕ) (l : Lent) (a : Accepted file l) where
   abbrev symbols : List ℕ

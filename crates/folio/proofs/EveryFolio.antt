@@ -51,17 +51,21 @@ module _ (front : List ℕ) (a b c : ℕ) where
   size : length (front ++ tail a b c) ≡ length front + 8
   size = length-append front (tail a b c)
 
-  word : (i j x : ℕ) → i ≡ length front + j → getD (tail a b c) j 0 ≡ x % 256 → getD (tail a b c) (j + 1) 0 ≡ x / 256 → x ≡ wordAt (front ++ tail a b c) i
+  word : (i j x : ℕ) → i ≡ length front + j → getD (tail a b c) j 0 ≡ x % 256 → getD (tail a b c) (j + 1) 0 ≡ x / 256
+      → x ≡ wordAt (front ++ tail a b c) i
   word i j x e l h =
       let p = behind i j e ∙ l in
       let q = behind (i + 1) (j + 1) (omega arith) ∙ h in
       omega (arith, p, q)
 
-  pub trailer-at : length front ≤ 8736 → a ≡ length front → b ≤ a → c ≤ b → b % 2 ≡ 0 → c % 2 ≡ 0 → trailerOf (front ++ tail a b c) ≡ At (places (length front - b) (length front - c) (length front))
+  pub trailer-at : length front ≤ 8736 → a ≡ length front → b ≤ a → c ≤ b → b % 2 ≡ 0 → c % 2 ≡ 0
+      → trailerOf (front ++ tail a b c) ≡ At (places (length front - b) (length front - c) (length front))
   trailer-at short ea ba cb eb ec =
       let n = size in
-      trailer-to (front ++ tail a b c) (omega arith) (omega arith) (behind (length (front ++ tail a b c) - 2) 6 (omega arith)) (behind (length (front ++ tail a b c) - 1) 7 (omega arith))
-      (word (length (front ++ tail a b c) - 8) 0 a (omega arith) refl refl) (word (length (front ++ tail a b c) - 6) 2 b (omega arith) refl refl) (word (length (front ++ tail a b c) - 4) 4 c (omega arith) refl refl)
+      trailer-to (front ++ tail a b c) (omega arith) (omega arith) (behind (length (front ++ tail a b c) - 2) 6 (omega arith))
+      (behind (length (front ++ tail a b c) - 1) 7 (omega arith))
+      (word (length (front ++ tail a b c) - 8) 0 a (omega arith) refl refl) (word (length (front ++ tail a b c) - 6) 2 b (omega arith) refl refl)
+      (word (length (front ++ tail a b c) - 4) 4 c (omega arith) refl refl)
       ∙ ap (λ (e : ℕ). distancesOf e a b c) (let z : length (front ++ tail a b c) - 8 ≡ length front = omega arith in z)
       ∙ distances-at (length front) a b c ea ba cb eb ec
 
@@ -93,7 +97,8 @@ module _ (ar : List ℕ) (ss : List Term) (t : Term) (f : folio.Folio ar ss t) w
   rest = tail (length (body ar ws sc)) (2 * length ws + 2 * length sc) (2 * length sc)
 
   long : length (body ar ws sc) ≡ length ar + (2 * length ws + 2 * length sc)
-  long = length-append ar (bytesOf ws ++ bytesOf sc) ∙ ap (λ (n : ℕ). length ar + n) (length-append (bytesOf ws) (bytesOf sc) ∙ ap₂ (λ (m n : ℕ). m + n) (length-bytes ws) (length-bytes sc))
+  long = length-append ar (bytesOf ws ++ bytesOf sc)
+      ∙ ap (λ (n : ℕ). length ar + n) (length-append (bytesOf ws) (bytesOf sc) ∙ ap₂ (λ (m n : ℕ). m + n) (length-bytes ws) (length-bytes sc))
 
   abbrev pub at : Places
   at = places (length ar) (length ar + 2 * length ws) (length ar + (2 * length ws + 2 * length sc))
@@ -108,7 +113,8 @@ module _ (ar : List ℕ) (ss : List Term) (t : Term) (f : folio.Folio ar ss t) w
       let j = f .few-shapes in
       let x : length (body ar ws sc) - (2 * length ws + 2 * length sc) ≡ length ar = omega arith in
       let y : length (body ar ws sc) - 2 * length sc ≡ length ar + 2 * length ws = omega arith in
-      trailer-at (body ar ws sc) (length (body ar ws sc)) (2 * length ws + 2 * length sc) (2 * length sc) (omega arith) refl (omega arith) (omega arith) (omega arith) (omega arith)
+      trailer-at (body ar ws sc) (length (body ar ws sc)) (2 * length ws + 2 * length sc) (2 * length sc) (omega arith) refl (omega arith)
+      (omega arith) (omega arith) (omega arith)
       ∙ ap₂ (λ (u v : ℕ). At (places u v (length (body ar ws sc)))) x y
       ∙ ap (λ (v : ℕ). At (places (length ar) (length ar + 2 * length ws) v)) l
 
@@ -125,11 +131,13 @@ module _ (ar : List ℕ) (ss : List Term) (t : Term) (f : folio.Folio ar ss t) w
       ∙ ap (take (2 * length ws)) (drop-at ar (bytesOf ws ++ (bytesOf sc ++ rest)) (length ar) refl)
       ∙ take-at (bytesOf ws) (bytesOf sc ++ rest) (2 * length ws) (length-bytes ws)
 
-  score-part : take (length ar + (2 * length ws + 2 * length sc) - (length ar + 2 * length ws)) (drop (length ar + 2 * length ws) (fileOf ar ss t)) ≡ bytesOf sc
+  score-part : take (length ar + (2 * length ws + 2 * length sc) - (length ar + 2 * length ws))
+      (drop (length ar + 2 * length ws) (fileOf ar ss t)) ≡ bytesOf sc
   score-part =
       let z : length ar + (2 * length ws + 2 * length sc) - (length ar + 2 * length ws) ≡ 2 * length sc = omega arith in
       ap₂ (λ (n : ℕ) (l : List ℕ). take n (drop (length ar + 2 * length ws) l)) z (parts ∙ sym (append-assoc ar (bytesOf ws) (bytesOf sc ++ rest)))
-      ∙ ap (take (2 * length sc)) (drop-at (ar ++ bytesOf ws) (bytesOf sc ++ rest) (length ar + 2 * length ws) (length-append ar (bytesOf ws) ∙ ap (λ (n : ℕ). length ar + n) (length-bytes ws)))
+      ∙ ap (take (2 * length sc)) (drop-at (ar ++ bytesOf ws) (bytesOf sc ++ rest) (length ar + 2 * length ws)
+      (length-append ar (bytesOf ws) ∙ ap (λ (n : ℕ). length ar + n) (length-bytes ws)))
       ∙ take-at (bytesOf sc) rest (2 * length sc) (length-bytes sc)
 
   pub meaning-of : Meaning (fileOf ar ss t) at

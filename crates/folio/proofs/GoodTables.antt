@@ -27,13 +27,30 @@ use Rattle.checks.proofs.LawsAgain.{shapes-good-is, shapes-good-of, score-good-
 pub shapes-good-shaped : (ar ws st : List ℕ) → shapesGood ar ws st ≡ true → GoodSymbols ar × Shaped ar ws st
 shapes-good-shaped ar ws st e =
     let t = shapes-good-is ar ws st e in
-    let f = found-shapes ar ws (t .number) (t .found) in
-    (symbols-is ar (t .symbols), record { trees = f .trees; each = f .each; some-shape = f .some-shape; few-shapes = f .few-shapes; words = f .words; begins = t .starts ∙ f .begins })
+    let f = found-shapes ar ws (t .number) (t .found) in (
+      symbols-is ar (t .symbols),
+      record {
+        trees = f .trees;
+        each = f .each;
+        some-shape = f .some-shape;
+        few-shapes = f .few-shapes;
+        words =
+            f .words;
+        begins = t .starts ∙ f .begins;
+      },
+    )
 
 pub shaped-good : (ar ws st : List ℕ) → GoodSymbols ar → Shaped ar ws st → shapesGood ar ws st ≡ true
 shaped-good ar ws st g s =
-    let r : shapesOf ar blankWord ws ≡ _ = ap (shapesOf ar blankWord) (s .words) ∙ shapes-found ar (s .trees) (s .each) (s .some-shape) (s .few-shapes) in
-    shapes-good-of ar ws st (record { symbols = symbols-of ar g; number = 0 + length (s .trees); found = ap (λ (x : ShapesRead). x .answer) r; starts = s .begins ∙ sym (ap (λ (x : ShapesRead). x .starts) r) })
+    let r : shapesOf ar blankWord ws ≡ _ =
+    ap (shapesOf ar blankWord) (s .words) ∙ shapes-found ar (s .trees) (s .each) (s .some-shape) (s .few-shapes) in
+    shapes-good-of ar ws st (record {
+      symbols = symbols-of ar g;
+      number = 0 + length (s .trees);
+      found =
+          ap (λ (x : ShapesRead). x .answer) r;
+      starts = s .begins ∙ sym (ap (λ (x : ShapesRead). x .starts) r);
+    })
 
 -- ---- 31
 sizes-are : (ar : List ℕ) (t : Term) → GoodSymbols ar → IsScore ar t → spansOf ar (flatten t) ≡ sizes t
@@ -57,7 +74,8 @@ scored-good ar ws sp g s =
 -- ---- what opening writes for a folio
 module _ (ar : List ℕ) (ss : List Term) (t : Term) (f : folio.Folio ar ss t) where
   pub opened-shapes-good : shapesGood ar (gather flatten ss) (startsAt 0 ss) ≡ true
-  opened-shapes-good = shaped-good ar (gather flatten ss) (startsAt 0 ss) (f .symbols) (record { trees = ss; each = f .are-shapes; some-shape = f .some-shape; few-shapes = f .few-shapes; words = refl; begins = refl })
+  opened-shapes-good = shaped-good ar (gather flatten ss) (startsAt 0 ss) (f .symbols)
+      (record { trees = ss; each = f .are-shapes; some-shape = f .some-shape; few-shapes = f .few-shapes; words = refl; begins = refl })
 
   pub opened-score-good : scoreGood ar (flatten t) (sizes t) ≡ true
   opened-score-good = scored-good ar (flatten t) (sizes t) (f .symbols) (record { tree = t; is = f .is-score; words = refl; spans = refl })

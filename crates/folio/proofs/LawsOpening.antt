@@ -39,11 +39,13 @@ module _ (ar ws st sc : List ℕ) (l : Lent) where
   unfolding stored
   stored-starts a b = rw (le-leb _ _ a, lt-leb _ _ b)
 
-  pub stored-score : length ws ≤ length (l .words) → length st ≤ length (l .starts) → length (l .score) < length sc → stored ar ws st sc l ≡ refuseOpening reason.Tables 0 l
+  pub stored-score : length ws ≤ length (l .words) → length st ≤ length (l .starts) → length (l .score) < length sc
+      → stored ar ws st sc l ≡ refuseOpening reason.Tables 0 l
   unfolding stored
   stored-score a b c = rw (le-leb _ _ a, le-leb _ _ b, lt-leb _ _ c)
 
-  pub stored-spans : length ws ≤ length (l .words) → length st ≤ length (l .starts) → length sc ≤ length (l .score) → length (l .spans) < length sc → stored ar ws st sc l ≡ refuseOpening reason.Tables 0 l
+  pub stored-spans : length ws ≤ length (l .words) → length st ≤ length (l .starts) → length sc ≤ length (l .score) → length (l .spans) < length sc
+      → stored ar ws st sc l ≡ refuseOpening reason.Tables 0 l
   unfolding stored
   stored-spans a b c d = rw (le-leb _ _ a, le-leb _ _ b, le-leb _ _ c, lt-leb _ _ d)
 
@@ -54,10 +56,13 @@ module _ (ar ws st sc : List ℕ) (l : Lent) where
   stored-all a b c d = rw (le-leb _ _ a, le-leb _ _ b, le-leb _ _ c, le-leb _ _ d)
 
 -- the tables as they are written one by one
-pub stored-written : (ar ws st sc : List ℕ) (l : Lent) {w t s p : List ℕ} → length ws ≤ length (l .words) → length st ≤ length (l .starts) → length sc ≤ length (l .score) → length sc ≤ length (l .spans)
+pub stored-written : (ar ws st sc : List ℕ) (l : Lent) {w t s p : List ℕ} → length ws ≤ length (l .words) → length st ≤ length (l .starts)
+    → length sc ≤ length (l .score) → length sc ≤ length (l .spans)
     → w ≡ sets (l .words) 0 ws → t ≡ sets (l .starts) 0 st → s ≡ sets (l .score) 0 sc → p ≡ sets (l .spans) 0 (spansOf ar sc)
     → out (Folio (counts (length ar) (length st) (length ws) (length sc))) (lent w t s p) ≡ stored ar ws st sc l
-stored-written ar ws st sc l a b c d ew et es ep = (λ i. out (Folio (counts (length ar) (length st) (length ws) (length sc))) (lent (ew i) (et i) (es i) (ep i))) ∙ sym (stored-all ar ws st sc l a b c d)
+stored-written ar ws st sc l a b c d ew et es ep =
+    (λ i. out (Folio (counts (length ar) (length st) (length ws) (length sc))) (lent (ew i) (et i) (es i) (ep i)))
+    ∙ sym (stored-all ar ws st sc l a b c d)
 
 module _ (ar ws sc : List ℕ) (at : ℕ) (l : Lent) where
   pub held-shapes : {r : Reason} {i : ℕ} → shapesOf ar blankWord ws .answer ≡ shapes.Refused r i → held ar ws sc at l ≡ refuseOpening r (at + 2 * i) l
@@ -69,7 +74,8 @@ module _ (ar ws sc : List ℕ) (at : ℕ) (l : Lent) where
   unfolding held
   held-score e f = rw (e, f)
 
-  pub held-on : {n : ℕ} → shapesOf ar blankWord ws .answer ≡ shapes.Whole n → scoreOf ar sc ≡ score.Whole → held ar ws sc at l ≡ stored ar ws (shapesOf ar blankWord ws .starts) sc l
+  pub held-on : {n : ℕ} → shapesOf ar blankWord ws .answer ≡ shapes.Whole n → scoreOf ar sc ≡ score.Whole
+      → held ar ws sc at l ≡ stored ar ws (shapesOf ar blankWord ws .starts) sc l
   unfolding held
   held-on e f = rw (e, f)
 
@@ -79,7 +85,8 @@ module _ (file : List ℕ) (l : Lent) where
   opened-refused e = ap (λ (s : Sections). onSections s file l) e
 
   pub opened-at : (p : Places) → sectionsOf file ≡ sections.At p
-      → opened file l ≡ held (take (p .shapes) file) (wordsOf (take (p .score - p .shapes) (drop (p .shapes) file))) (wordsOf (take (p .end - p .score) (drop (p .score) file))) (p .shapes) l
+      → opened file l ≡ held (take (p .shapes) file) (wordsOf (take (p .score - p .shapes) (drop (p .shapes) file)))
+      (wordsOf (take (p .end - p .score) (drop (p .score) file))) (p .shapes) l
   unfolding opened
   opened-at p e = ap (λ (s : Sections). onSections s file l) e
 
@@ -98,18 +105,23 @@ module _ (ar both : List ℕ) (m : ℕ) (fits : m ≤ length both) where
   pub sc-length : length (take (length both - m) (drop m both)) ≡ length both - m
   sc-length = ap length sc-is ∙ length-drop m both
 
-  pub held-parts : (at : ℕ) (l : Lent) → held ar (take m both) (drop m both) at l ≡ held ar (take (m - 0) both) (take (length both - m) (drop m both)) at l
+  pub held-parts : (at : ℕ) (l : Lent) → held ar (take m both) (drop m both) at l ≡ held ar (take (m - 0) both) (take (length both - m) (drop m both))
+      at l
   held-parts at l = ap₂ (λ (x y : List ℕ). held ar x y at l) (sym ws-is) (sym sc-is)
 
-  pub parts-shapes : (at : ℕ) (l : Lent) {r : Reason} {i : ℕ} → shapesOf ar blankWord (take (m - 0) both) .answer ≡ shapes.Refused r i → held ar (take m both) (drop m both) at l ≡ refuseOpening r (at + 2 * i) l
+  pub parts-shapes : (at : ℕ) (l : Lent) {r : Reason} {i : ℕ} → shapesOf ar blankWord (take (m - 0) both) .answer ≡ shapes.Refused r i
+      → held ar (take m both) (drop m both) at l ≡ refuseOpening r (at + 2 * i) l
   parts-shapes at l e = held-parts at l ∙ held-shapes _ _ _ at l e
 
   pub parts-score : (at : ℕ) (l : Lent) {n : ℕ} {r : Reason} {i : ℕ} → shapesOf ar blankWord (take (m - 0) both) .answer ≡ shapes.Whole n
-      → scoreOf ar (take (length both - m) (drop m both)) ≡ score.Refused r i → held ar (take m both) (drop m both) at l ≡ refuseOpening r (at + 2 * m + 2 * i) l
-  parts-score at l {r = r} {i = i} e f = held-parts at l ∙ held-score ar (take (m - 0) both) _ at l e f ∙ ap (λ (n : ℕ). refuseOpening r (at + 2 * n + 2 * i) l) ws-length
+      → scoreOf ar (take (length both - m) (drop m both)) ≡ score.Refused r i
+      → held ar (take m both) (drop m both) at l ≡ refuseOpening r (at + 2 * m + 2 * i) l
+  parts-score at l {r = r} {i = i} e f = held-parts at l ∙ held-score ar (take (m - 0) both) _ at l e f
+      ∙ ap (λ (n : ℕ). refuseOpening r (at + 2 * n + 2 * i) l) ws-length
 
   pub parts-on : (at : ℕ) (l : Lent) (n : ℕ) (z f : List ℕ) → shapesOf ar blankWord (take (m - 0) both) .answer ≡ shapes.Whole n
-      → scoreOf ar (take (length both - m) (drop m both)) ≡ score.Whole → length z ≡ 16 → f ≡ sets z 0 (shapesOf ar blankWord (take (m - 0) both) .starts)
+      → scoreOf ar (take (length both - m) (drop m both)) ≡ score.Whole → length z ≡ 16
+      → f ≡ sets z 0 (shapesOf ar blankWord (take (m - 0) both) .starts)
       → held ar (take m both) (drop m both) at l ≡ stored ar (take (m - 0) both) (take (n - 0) f) (take (length both - m) (drop m both)) l
   parts-on at l n z f e s lz ef =
       let c = found-count ar blankWord (take (m - 0) both) n e in
@@ -119,7 +131,8 @@ module _ (ar both : List ℕ) (m : ℕ) (fits : m ≤ length both) where
       (sym (run-whole z f (shapesOf ar blankWord (take (m - 0) both) .starts) n (c .0) (omega (arith, c .0, c .1)) ef))
 
 pub bytes-length : (file : List ℕ) (p : Places) → Placed file p → length (take (p .end - p .shapes) (drop (p .shapes) file)) ≡ p .end - p .shapes
-bytes-length file p d = length-take-le (p .end - p .shapes) (drop (p .shapes) file) (omega (arith, length-drop (p .shapes) file, d .first, d .second, d .size))
+bytes-length file p d = length-take-le (p .end - p .shapes) (drop (p .shapes) file)
+    (omega (arith, length-drop (p .shapes) file, d .first, d .second, d .size))
 
 module _ (file : List ℕ) (p : Places) (d : Placed file p) (z a : List ℕ) (lz : length z ≡ 4368)
     (ea : a ≡ sets z 0 (wordsOf (take (p .end - p .shapes) (drop (p .shapes) file)))) where
@@ -130,7 +143,8 @@ module _ (file : List ℕ) (p : Places) (d : Placed file p) (z a : List ℕ) (lz
   all-words = length-words (d .all) bytes (omega (arith, bytes-length file p d, d .words))
 
   pub both-is : take ((p .end - p .shapes) / 2 - 0) a ≡ wordsOf bytes
-  both-is = run-whole z a (wordsOf bytes) ((p .end - p .shapes) / 2) (omega (arith, all-words, d .words)) (omega (arith, all-words, d .words, d .size, d .short)) ea
+  both-is = run-whole z a (wordsOf bytes) ((p .end - p .shapes) / 2) (omega (arith, all-words, d .words))
+      (omega (arith, all-words, d .words, d .size, d .short)) ea
 
   pub both-length : length (take ((p .end - p .shapes) / 2 - 0) a) ≡ d .all
   both-length = ap length both-is ∙ all-words
@@ -141,14 +155,16 @@ module _ (file : List ℕ) (p : Places) (d : Placed file p) (z a : List ℕ) (lz
   short : 2 * ((p .score - p .shapes) / 2) ≤ length bytes
   short = omega (arith, twice, bytes-length file p d, d .first, d .second)
 
-  pub shape-part : take ((p .score - p .shapes) / 2) (take ((p .end - p .shapes) / 2 - 0) a) ≡ wordsOf (take (p .score - p .shapes) (drop (p .shapes) file))
+  pub shape-part : take ((p .score - p .shapes) / 2) (take ((p .end - p .shapes) / 2 - 0) a) ≡ wordsOf
+      (take (p .score - p .shapes) (drop (p .shapes) file))
   shape-part =
       ap (take ((p .score - p .shapes) / 2)) both-is
       ∙ words-take ((p .score - p .shapes) / 2) bytes short
       ∙ ap (λ (n : ℕ). wordsOf (take n bytes)) twice
       ∙ ap wordsOf (take-take (p .score - p .shapes) (p .end - p .shapes) (drop (p .shapes) file) (omega (arith, d .first, d .second)))
 
-  pub score-part : drop ((p .score - p .shapes) / 2) (take ((p .end - p .shapes) / 2 - 0) a) ≡ wordsOf (take (p .end - p .score) (drop (p .score) file))
+  pub score-part : drop ((p .score - p .shapes) / 2) (take ((p .end - p .shapes) / 2 - 0) a) ≡ wordsOf
+      (take (p .end - p .score) (drop (p .score) file))
   score-part =
       let e : p .end - p .shapes ≡ p .score - p .shapes + (p .end - p .score) = omega (arith, d .first, d .second) in
       let s : p .shapes + (p .score - p .shapes) ≡ p .score = omega (arith, d .first) in
@@ -156,12 +172,15 @@ module _ (file : List ℕ) (p : Places) (d : Placed file p) (z a : List ℕ) (lz
       ∙ words-drop ((p .score - p .shapes) / 2) bytes short
       ∙ ap (λ (n : ℕ). wordsOf (drop n bytes)) twice
       ∙ ap (λ (n : ℕ). wordsOf (drop (p .score - p .shapes) (take n (drop (p .shapes) file)))) e
-      ∙ ap wordsOf (drop-take (p .score - p .shapes) (p .end - p .score) (drop (p .shapes) file) (omega (arith, length-drop (p .shapes) file, d .first, d .second, d .size)))
+      ∙ ap wordsOf (drop-take (p .score - p .shapes) (p .end - p .score) (drop (p .shapes) file)
+      (omega (arith, length-drop (p .shapes) file, d .first, d .second, d .size)))
       ∙ ap (λ (x : List ℕ). wordsOf (take (p .end - p .score) x)) (drop-drop (p .score - p .shapes) (p .shapes) file ∙ ap (λ (n : ℕ). drop n file) s)
 
   pub opened-held : (l : Lent) → sectionsOf file ≡ sections.At p → opened file l
-      ≡ held (take (p .shapes - 0) file) (take ((p .score - p .shapes) / 2) (take ((p .end - p .shapes) / 2 - 0) a)) (drop ((p .score - p .shapes) / 2) (take ((p .end - p .shapes) / 2 - 0) a)) (p .shapes) l
+      ≡ held (take (p .shapes - 0) file) (take ((p .score - p .shapes) / 2) (take ((p .end - p .shapes) / 2 - 0) a))
+      (drop ((p .score - p .shapes) / 2) (take ((p .end - p .shapes) / 2 - 0) a)) (p .shapes) l
   opened-held l e =
       opened-at file l p e
       ∙ ap₂ (λ (x y : List ℕ). held (take (p .shapes) file) x y (p .shapes) l) (sym shape-part) (sym score-part)
-      ∙ ap (λ (n : ℕ). held (take n file) (take ((p .score - p .shapes) / 2) (take ((p .end - p .shapes) / 2 - 0) a)) (drop ((p .score - p .shapes) / 2) (take ((p .end - p .shapes) / 2 - 0) a)) (p .shapes) l) (sym (sub-zero (p .shapes)))
+      ∙ ap (λ (n : ℕ). held (take n file) (take ((p .score - p .shapes) / 2) (take ((p .end - p .shapes) / 2 - 0) a))
+      (drop ((p .score - p .shapes) / 2) (take ((p .end - p .shapes) / 2 - 0) a)) (p .shapes) l) (sym (sub-zero (p .shapes)))

@@ -43,7 +43,8 @@ mutual
 
   wholes-of : (ar : List ℕ) (ts : Terms) → Fitss ar noBlank ts → Below 65536 (flattens ts) → Wholes ts
   wholes-of ar tnil f h = tt
-  wholes-of ar (tcons t ts) f h = (whole-of ar t (f .0) (λ w m. h w (∈-left (flattens ts) m)), wholes-of ar ts (f .1) (λ w m. h w (∈-right (flatten t) m)))
+  wholes-of ar (tcons t ts) f h =
+      (whole-of ar t (f .0) (λ w m. h w (∈-left (flattens ts) m)), wholes-of ar ts (f .1) (λ w m. h w (∈-right (flatten t) m)))
 
 pub score-is : (ar ws : List ℕ) → Below 65536 ws → scoreOf ar ws ≡ score.Whole → Scored ar ws
 unfolding scoreOf
@@ -53,10 +54,17 @@ score-is ar ws small e = go (reading ar ws (scoreLimits 0) scoreLevels 0) refl e
     built m er h =
         let a = whole-term ar ws (scoreLimits 0) scoreLevels 0 m er in
         let w = whole-in ar ws (scoreLimits 0) scoreLevels 0 m er in
-        let q : ws ≡ flatten (a .tree) = a .words ∙ ap (λ (l : List ℕ). flatten (a .tree) ++ l) (drop-of-length-le ws h) ∙ append-nil (flatten (a .tree)) in
+        let q : ws ≡ flatten (a .tree) = a .words ∙ ap (λ (l : List ℕ). flatten (a .tree) ++ l) (drop-of-length-le ws h)
+        ∙ append-nil (flatten (a .tree)) in
         record {
           tree = a .tree;
-          is = record { fits = a .fits; whole = whole-of ar (a .tree) (a .fits) (λ v i. small v (rw q i)); flat = omega (arith, a .flat); small = omega (arith, w .few, a .size) };
+          is = record {
+            fits = a .fits;
+            whole = whole-of ar (a .tree) (a .fits) (λ v i. small v (rw q i));
+            flat = omega (arith, a .flat);
+            small =
+                omega (arith, w .few, a .size);
+          };
           words = q;
         }
 

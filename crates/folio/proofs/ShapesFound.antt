@@ -63,18 +63,22 @@ pub solid-node : (t : Term) → isBlank t ≡ false → (f : ℕ) × (us : Terms
 solid-node (blank w) e = false-true (sym e)
 solid-node (node f us) e = (f, us, refl)
 
-pub shapes-at : (ar ws : List ℕ) (c n at k : ℕ) → shapesFrom ar blankWord ws c n at .answer ≡ shapes.Whole k → ShapesAt ar ws (shapesFrom ar blankWord ws c n at .starts) at
+pub shapes-at : (ar ws : List ℕ) (c n at k : ℕ) → shapesFrom ar blankWord ws c n at .answer ≡ shapes.Whole k
+    → ShapesAt ar ws (shapesFrom ar blankWord ws c n at .starts) at
 unfolding shapesFrom
 shapes-at ar ws zero n at k e = go (ltb at (length ws)) refl e
   where
-    go : (b : Bool) → ltb at (length ws) ≡ b → cond b (shapesRead (shapes.Refused reason.Shapes at) []) (shapesRead (shapes.Whole n) []) .answer ≡ shapes.Whole k
+    go : (b : Bool) → ltb at (length ws) ≡ b
+        → cond b (shapesRead (shapes.Refused reason.Shapes at) []) (shapesRead (shapes.Whole n) []) .answer ≡ shapes.Whole k
         → ShapesAt ar ws (cond b (shapesRead (shapes.Refused reason.Shapes at) []) (shapesRead (shapes.Whole n) []) .starts) at
     go true eb e = never-found e
     go false eb e = no-shapes ar ws at eb
 shapes-at ar ws (suc c) n at k e =
-    go (ltb at (length ws)) refl (reading ar ws (shapeLimits blankWord at) shapeLevels at) refl (leb blankWord (getD ws at 0)) refl e (λ a. shapes-at ar ws c (n + 1) a k)
+    go (ltb at (length ws)) refl (reading ar ws (shapeLimits blankWord at) shapeLevels at) refl (leb blankWord (getD ws at 0)) refl e
+    (λ a. shapes-at ar ws c (n + 1) a k)
   where
-    join : (m : ℕ) (a : TermAt ar ws blankWord shapeLevels at m) → IsShape ar (a .tree) → (st : List ℕ) → ShapesAt ar ws st m → ShapesAt ar ws (at ∷ st) at
+    join : (m : ℕ) (a : TermAt ar ws blankWord shapeLevels at m) → IsShape ar (a .tree) → (st : List ℕ) → ShapesAt ar ws st m
+        → ShapesAt ar ws (at ∷ st) at
     join m a s st b = record {
       trees = a .tree ∷ b .trees;
       each = λ t i. both t i;
@@ -86,9 +90,11 @@ shapes-at ar ws (suc c) n at k e =
         both t (here q) = rw q s
         both t (there i) = b .each t i
 
-    go : (b : Bool) → ltb at (length ws) ≡ b → (r : Reading) → reading ar ws (shapeLimits blankWord at) shapeLevels at ≡ r → (lone : Bool) → leb blankWord (getD ws at 0) ≡ lone
+    go : (b : Bool) → ltb at (length ws) ≡ b → (r : Reading) → reading ar ws (shapeLimits blankWord at) shapeLevels at ≡ r → (lone : Bool)
+        → leb blankWord (getD ws at 0) ≡ lone
         → cond b (oneShape r at lone (shapesFrom ar blankWord ws c (n + 1))) (shapesRead (shapes.Whole n) []) .answer ≡ shapes.Whole k
-        → ((a : ℕ) → shapesFrom ar blankWord ws c (n + 1) a .answer ≡ shapes.Whole k → ShapesAt ar ws (shapesFrom ar blankWord ws c (n + 1) a .starts) a)
+        → ((a : ℕ) → shapesFrom ar blankWord ws c (n + 1) a .answer ≡ shapes.Whole k
+        → ShapesAt ar ws (shapesFrom ar blankWord ws c (n + 1) a .starts) a)
         → ShapesAt ar ws (cond b (oneShape r at lone (shapesFrom ar blankWord ws c (n + 1))) (shapesRead (shapes.Whole n) []) .starts) at
     go false eb r er lone el e ih = no-shapes ar ws at eb
     go true eb (read.Refused f p) er lone el e ih = never-found e
@@ -96,7 +102,13 @@ shapes-at ar ws (suc c) n at k e =
     go true eb (read.Whole m) er false el e ih =
         let a = whole-term ar ws (shapeLimits blankWord at) shapeLevels at m er in
         let w = whole-in ar ws (shapeLimits blankWord at) shapeLevels at m er in
-        let s : IsShape ar (a .tree) = record { fits = a .fits; flat = omega (arith, a .flat); small = omega (arith, w .few, a .size); solid = solid ar ws shapeLevels at (m .end) a (ltb-true at (length ws) eb) (leb-false blankWord (getD ws at 0) el) } in
+        let s : IsShape ar (a .tree) = record {
+          fits = a .fits;
+          flat = omega (arith, a .flat);
+          small = omega (arith, w .few, a .size);
+          solid =
+              solid ar ws shapeLevels at (m .end) a (ltb-true at (length ws) eb) (leb-false blankWord (getD ws at 0) el);
+        } in
         join (m .end) a s (shapesFrom ar blankWord ws c (n + 1) (m .end) .starts) (ih (m .end) e)
 
 pub found-shapes : (ar ws : List ℕ) (k : ℕ) → shapesOf ar blankWord ws .answer ≡ shapes.Whole k → Shaped ar ws (shapesOf ar blankWord ws .starts)
@@ -107,7 +119,8 @@ found-shapes ar ws k e = go (ltb 0 (length ws)) refl e
     some-of [] h q = let z : length ws ≡ 0 = ap length q in absurd (omega arith)
     some-of (t ∷ ts) h q = omega arith
 
-    go : (b : Bool) → ltb 0 (length ws) ≡ b → cond b (shapesFrom ar blankWord ws 16 0 0) (shapesRead (shapes.Refused reason.Shapes 0) []) .answer ≡ shapes.Whole k
+    go : (b : Bool) → ltb 0 (length ws) ≡ b
+        → cond b (shapesFrom ar blankWord ws 16 0 0) (shapesRead (shapes.Refused reason.Shapes 0) []) .answer ≡ shapes.Whole k
         → Shaped ar ws (cond b (shapesFrom ar blankWord ws 16 0 0) (shapesRead (shapes.Refused reason.Shapes 0) []) .starts)
     go true eb e =
         let f = shapes-at ar ws 16 0 0 k e in
@@ -123,14 +136,16 @@ found-shapes ar ws k e = go (ltb 0 (length ws)) refl e
     go false eb e = never-found e
 
 -- ---- the way back
-pub head-word : (ar ws : List ℕ) (at : ℕ) (t : Term) (r : List ℕ) → IsShape ar t → drop at ws ≡ flatten t ++ r → (at < length ws) × (getD ws at 0 < blankWord)
+pub head-word : (ar ws : List ℕ) (at : ℕ) (t : Term) (r : List ℕ) → IsShape ar t → drop at ws ≡ flatten t ++ r → (at < length ws)
+    × (getD ws at 0 < blankWord)
 head-word ar ws at (blank w) r s e = false-true (sym (s .solid))
 head-word ar ws at (node f ts) r s e =
     let h = first ws at f _ e in
     let q = s .fits .0 in
     (h .0, omega (arith, h .1, q))
 
-from-shapes : (ar ws : List ℕ) (ts : List Term) (c n at : ℕ) → AreShapes ar ts → length ts ≤ c → drop at ws ≡ gather flatten ts → shapesFrom ar blankWord ws c n at ≡ shapesRead (shapes.Whole (n + length ts)) (startsAt at ts)
+from-shapes : (ar ws : List ℕ) (ts : List Term) (c n at : ℕ) → AreShapes ar ts → length ts ≤ c → drop at ws ≡ gather flatten ts
+    → shapesFrom ar blankWord ws c n at ≡ shapesRead (shapes.Whole (n + length ts)) (startsAt at ts)
 unfolding shapesFrom
 from-shapes ar ws [] c n at s h e =
     let k : length (drop at ws) ≡ 0 = ap length e in
@@ -144,15 +159,18 @@ from-shapes ar ws (t ∷ ts) (suc c) n at s h e =
     let b = read-back ar ws (shapeLimits blankWord at) t shapeLevels at (gather flatten ts) (one .fits) (omega arith) (omega arith) e in
     let ih = from-shapes ar ws ts c (n + 1) (at + span t) (λ u m. s u (there m)) (omega arith) (b .1) in
     let q : n + 1 + length ts ≡ n + suc (length ts) = omega arith in
-    let step : shapesFrom ar blankWord ws (suc c) n at ≡ push at (shapesFrom ar blankWord ws c (n + 1) (at + span t)) = rw (lt-ltb _ _ (w .0), b .0, lt-leb _ _ (w .1)) in
+    let step : shapesFrom ar blankWord ws (suc c) n at ≡ push at (shapesFrom ar blankWord ws c (n + 1) (at + span t)) =
+    rw (lt-ltb _ _ (w .0), b .0, lt-leb _ _ (w .1)) in
     step ∙ ap (push at) ih ∙ ap (λ (m : ℕ). shapesRead (shapes.Whole m) (at ∷ startsAt (at + span t) ts)) q
 
 words-some : (ts : List Term) → 1 ≤ length ts → length (gather flatten ts) ≡ 0 → ⊥
 words-some [] h e = omega arith
 words-some (t ∷ ts) h e = omega (arith, length-append (flatten t) (gather flatten ts), length-flatten t, span-pos t, e)
 
-pub shapes-found : (ar : List ℕ) (ts : List Term) → AreShapes ar ts → 1 ≤ length ts → length ts ≤ 16 → shapesOf ar blankWord (gather flatten ts) ≡ shapesRead (shapes.Whole (0 + length ts)) (startsAt 0 ts)
-shapes-found ar ts s some few = shapes-some ar blankWord (gather flatten ts) (words-some ts some) ∙ from-shapes ar (gather flatten ts) ts 16 0 0 s few refl
+pub shapes-found : (ar : List ℕ) (ts : List Term) → AreShapes ar ts → 1 ≤ length ts → length ts ≤ 16
+    → shapesOf ar blankWord (gather flatten ts) ≡ shapesRead (shapes.Whole (0 + length ts)) (startsAt 0 ts)
+shapes-found ar ts s some few = shapes-some ar blankWord (gather flatten ts) (words-some ts some)
+    ∙ from-shapes ar (gather flatten ts) ts 16 0 0 s few refl
 
 -- ---- one list of shapes
 no-words : (t : Term) (r : List ℕ) → [] ≡ flatten t ++ r → ⊥

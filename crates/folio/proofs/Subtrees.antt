@@ -33,7 +33,8 @@ use Rattle.folio.proofs.Symbols.{symbols-of}
 use Rattle.checks.proofs.LawsAgain.{piece-none, piece-some, subtree-some}
 
 module _ (ar ws : List ℕ) (l : Limits) (levels at : ℕ) where
-  pub piece-term : (u : Term) (r : List ℕ) → Fits ar (l .blanks) u → depth u < levels → at + span u ≤ l .stop → drop at ws ≡ flatten u ++ r → pieceAt ar ws l levels at ≡ flatten u
+  pub piece-term : (u : Term) (r : List ℕ) → Fits ar (l .blanks) u → depth u < levels → at + span u ≤ l .stop → drop at ws ≡ flatten u ++ r
+      → pieceAt ar ws l levels at ≡ flatten u
   piece-term u r f d s e =
       let n : at + span u - at ≡ span u = omega arith in
       piece-some ar ws l levels at (read-back ar ws l u levels at r f d s e .0)
@@ -63,7 +64,13 @@ module _ (ar ws : List ℕ) (l : Limits) (levels at : ℕ) where
       go (read.Whole m) e =
           let t = whole-term ar ws l levels at m e in
           let few = whole-in ar ws l levels at m e .few in
-          inl (record { end = m .end; term = t; inside = few; is = piece-term (t .tree) (drop (m .end) ws) (t .fits) (t .flat) (omega (arith, t .size, few)) (t .words) })
+          inl (record {
+            end = m .end;
+            term = t;
+            inside = few;
+            is =
+                piece-term (t .tree) (drop (m .end) ws) (t .fits) (t .flat) (omega (arith, t .size, few)) (t .words);
+          })
 
 module _ (ar sh sc : List ℕ) (g : GoodSymbols ar) where
   pub subtree-shape : (at : ℕ) → subtreeAt (asked.Shapes at) ar sh sc ≡ pieceAt ar sh (shapeLimits blankWord at) shapeLevels at
@@ -73,10 +80,13 @@ module _ (ar sh sc : List ℕ) (g : GoodSymbols ar) where
   subtree-score x = subtree-some (asked.Score x) ar sh sc (symbols-of ar g) refl
 
 -- a subterm that is itself within a score's limits
-pub subtree-node : (ar sh : List ℕ) (t u : Term) (p : Pos) (x : Node) → GoodSymbols ar → IsScore ar u → sub t p ≡ some u → number t p ≡ some (x .0) → subtreeAt (asked.Score x) ar sh (flatten t) ≡ flatten u
+pub subtree-node : (ar sh : List ℕ) (t u : Term) (p : Pos) (x : Node) → GoodSymbols ar → IsScore ar u → sub t p ≡ some u → number t p ≡ some (x .0)
+    → subtreeAt (asked.Score x) ar sh (flatten t) ≡ flatten u
 subtree-node ar sh t u p x g s e n =
     let w = words-stand t p u (x .0) e n in
-    let d : drop (x .0) (flatten t) ≡ flatten u ++ w .back = ap (drop (x .0)) (w .whole) ∙ drop-at (w .front) (flatten u ++ w .back) (x .0) (w .place) in
+    let d : drop (x .0) (flatten t) ≡ flatten u ++ w .back =
+    ap (drop (x .0)) (w .whole) ∙ drop-at (w .front) (flatten u ++ w .back) (x .0) (w .place) in
     let flat = s .flat in
     let small = s .small in
-    subtree-score ar sh (flatten t) g x ∙ piece-term ar (flatten t) (scoreLimits (x .0)) scoreLevels (x .0) u (w .back) (s .fits) (omega arith) (omega arith) d
+    subtree-score ar sh (flatten t) g x ∙ piece-term ar (flatten t) (scoreLimits (x .0)) scoreLevels (x .0) u (w .back) (s .fits) (omega arith)
+    (omega arith) d

@@ -77,10 +77,12 @@ module _ (L : Term → List ℕ) (Ls : Terms → List ℕ) (h : ℕ → Terms �
       rw z at ih
 
 pub words-stand : (t : Term) (p : Pos) (u : Term) (x : ℕ) → sub t p ≡ some u → number t p ≡ some x → Stands (flatten t) x (flatten u)
-words-stand t p u x e n = rw zero-add at (stands-at flatten flattens (λ f ts. f) (λ f ts. refl) (λ t ts. refl) length-flatten (flatten t) p t u 0 x e n (stands-all (flatten t)))
+words-stand t p u x e n = rw zero-add at (stands-at flatten flattens (λ f ts. f) (λ f ts. refl) (λ t ts. refl) length-flatten (flatten t) p t u 0 x e
+    n (stands-all (flatten t)))
 
 pub sizes-stand : (t : Term) (p : Pos) (u : Term) (x : ℕ) → sub t p ≡ some u → number t p ≡ some x → Stands (sizes t) x (sizes u)
-sizes-stand t p u x e n = rw zero-add at (stands-at sizes sizess (λ f ts. suc (spans ts)) (λ f ts. refl) (λ t ts. refl) length-sizes (sizes t) p t u 0 x e n (stands-all (sizes t)))
+sizes-stand t p u x e n = rw zero-add at (stands-at sizes sizess (λ f ts. suc (spans ts)) (λ f ts. refl) (λ t ts. refl) length-sizes (sizes t) p t u 0
+    x e n (stands-all (sizes t)))
 
 pub span-at : (t : Term) (p : Pos) (u : Term) (x : ℕ) → sub t p ≡ some u → number t p ≡ some x → getD (sizes t) x 0 ≡ span u
 span-at t p u x e n = head-span (sizes t) x u [] (rw (append-nil (sizes u)) (sizes-stand t p u x e n))
@@ -125,7 +127,8 @@ sibling-none S (tcons t ts) (suc j) c e h =
     let z : c + (span t + spans ts) ≡ c + span t + spans ts = omega arith in
     rw (child-inside S (c + (span t + spans ts)) c t (sizess ts) h (omega arith), n, z) (sibling-none S ts j (c + span t) e p)
 
-sibling-some : (S : List ℕ) (ts : Terms) (j c end : ℕ) (u : Term) → nth ts j ≡ some u → Stands S c (sizess ts) → c + spans ts ≤ end → (sibling S end j c ≡ some (c + skip ts j)) × Stands S (c + skip ts j) (sizes u)
+sibling-some : (S : List ℕ) (ts : Terms) (j c end : ℕ) (u : Term) → nth ts j ≡ some u → Stands S c (sizess ts) → c + spans ts ≤ end
+    → (sibling S end j c ≡ some (c + skip ts j)) × Stands S (c + skip ts j) (sizes u)
 unfolding sibling
 sibling-some S tnil j c end u e h l = none-not e
 sibling-some S (tcons t ts) zero c end u e h l =
@@ -172,7 +175,8 @@ follow-is S (suc i ∷ p) (node f ts) c h = rw (y) (go (nth ts i) refl (λ u d s
     shift x (some k) = let z : suc c + x + k ≡ c + (suc x + k) = omega arith in ap some z
 
     go : (o : Option Term) → nth ts i ≡ o → ((u : Term) (d : ℕ) → Stands S d (sizes u) → follow S p d ≡ Option·map (λ k. d + k) (number u p))
-        → bind (sibling S (c + getD S c 0) i (suc c)) (λ x. follow S p x) ≡ Option·map (λ k. c + k) (bind o (λ u. Option·map (λ k. suc (skip ts i) + k) (number u p)))
+        → bind (sibling S (c + getD S c 0) i (suc c)) (λ x. follow S p x) ≡ Option·map (λ k. c + k)
+        (bind o (λ u. Option·map (λ k. suc (skip ts i) + k) (number u p)))
     go none eo ih = rw (e, sibling-none S ts i (suc c) eo inner)
     go (some u) eo ih =
         let r = sibling-some S ts i (suc c) (c + getD S c 0) u eo inner (omega (arith, e)) in
@@ -183,7 +187,8 @@ pub follow-at : (t : Term) (p q : Pos) (u : Term) (x : ℕ) → sub t p ≡ some
 follow-at t p q u x e n = follow-is (sizes t) q u x (sizes-stand t p u x e n) ∙ sym (number-append p q t u x e n)
 
 -- by a code
-pub target-is : (t : Term) (p q : Pos) (u : Term) (x : ℕ) → span t ≤ 65536 → Small q → sub t p ≡ some u → number t p ≡ some x → target (span t) (sizes t) x (code q) ≡ number t (p ++ q)
+pub target-is : (t : Term) (p q : Pos) (u : Term) (x : ℕ) → span t ≤ 65536 → Small q → sub t p ≡ some u → number t p ≡ some x
+    → target (span t) (sizes t) x (code q) ≡ number t (p ++ q)
 unfolding target
 target-is t p q u x h s e n = rw (code-good q s, decode-code q s, follow-at t p q u x e n) (go (number t (p ++ q)) refl)
   where

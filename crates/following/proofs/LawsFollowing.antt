@@ -59,11 +59,13 @@ module _ (spans : List ℕ) where
     pub within : (at : ℕ) → at < length spans → (getD spans at 0 ≡ 0 → ⊥) → at + getD spans at 0 ≤ end → inside spans end at ≡ true
     within at h e l = let p : 0 < getD spans at 0 = omega arith in rw (lt-ltb _ _ h, lt-ltb _ _ p, le-leb _ _ l)
 
-    pub sibling-here : (i at : ℕ) → at < length spans → (getD spans at 0 ≡ 0 → ⊥) → at + getD spans at 0 ≤ end → i ≡ 0 → sibling spans end i at ≡ some at
+    pub sibling-here : (i at : ℕ) → at < length spans → (getD spans at 0 ≡ 0 → ⊥) → at + getD spans at 0 ≤ end → i ≡ 0
+        → sibling spans end i at ≡ some at
     unfolding sibling
     sibling-here i at h e l z = rw (z, within at h e l)
 
-    pub sibling-next : (i at : ℕ) → at < length spans → (getD spans at 0 ≡ 0 → ⊥) → at + getD spans at 0 ≤ end → (i ≡ 0 → ⊥) → sibling spans end i at ≡ sibling spans end (i - 1) (at + getD spans at 0)
+    pub sibling-next : (i at : ℕ) → at < length spans → (getD spans at 0 ≡ 0 → ⊥) → at + getD spans at 0 ≤ end → (i ≡ 0 → ⊥)
+        → sibling spans end i at ≡ sibling spans end (i - 1) (at + getD spans at 0)
     unfolding sibling
     sibling-next zero at h e l n = absurd (n refl)
     sibling-next (suc i) at h e l n = let b : suc i - 1 ≡ i = omega arith in rw (within at h e l, b)
@@ -74,7 +76,8 @@ unfolding follow
 follow-append spans [] q at = refl
 follow-append spans (i ∷ p) q at = go (childAt spans i at) (λ x. follow-append spans p q x)
   where
-    go : (o : Option ℕ) → ((x : ℕ) → follow spans (p ++ q) x ≡ bind (follow spans p x) (λ y. follow spans q y)) → bind o (λ x. follow spans (p ++ q) x) ≡ bind (bind o (λ x. follow spans p x)) (λ x. follow spans q x)
+    go : (o : Option ℕ) → ((x : ℕ) → follow spans (p ++ q) x ≡ bind (follow spans p x) (λ y. follow spans q y))
+        → bind o (λ x. follow spans (p ++ q) x) ≡ bind (bind o (λ x. follow spans p x)) (λ x. follow spans q x)
     go none ih = refl
     go (some x) ih = ih x
 
@@ -98,7 +101,8 @@ module _ (spans : List ℕ) (at c : ℕ) where
       last none = refl
       last (some x) = one (childAt spans (c % 5) x)
 
-  pub descend-child : {x : ℕ} → (c ≡ 0 → ⊥) → c < 65536 → follow spans (decode (c / 5)) at ≡ some x → follow spans (decode c) at ≡ childAt spans (c % 5) x
+  pub descend-child : {x : ℕ} → (c ≡ 0 → ⊥) → c < 65536 → follow spans (decode (c / 5)) at ≡ some x
+      → follow spans (decode c) at ≡ childAt spans (c % 5) x
   descend-child n h e = descend n h ∙ rw e
 
   pub descend-none : (c ≡ 0 → ⊥) → c < 65536 → follow spans (decode (c / 5)) at ≡ none → follow spans (decode c) at ≡ none

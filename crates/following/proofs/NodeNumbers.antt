@@ -38,7 +38,8 @@ num-inj t p q u v e d h =
     let c : place t (num t p) ≡ some q = rw h b in
     cc (a, c)
 
-pub target-num : (t : Term) (p q : Pos) (v : Term) → span t ≤ 65536 → Small q → sub t (p ++ q) ≡ some v → target (length (flatten t)) (sizes t) (num t p) (code q) ≡ some (num t (p ++ q))
+pub target-num : (t : Term) (p q : Pos) (v : Term) → span t ≤ 65536 → Small q → sub t (p ++ q) ≡ some v
+    → target (length (flatten t)) (sizes t) (num t p) (code q) ≡ some (num t (p ++ q))
 target-num t p q v few sm e =
     let u = sub-prefix t p q v e in
     rw (length-flatten t) (target-is t p q (u .0) (num t p) few sm (u .1) (num-is t p (u .0) (u .1)) ∙ num-is t (p ++ q) v e)

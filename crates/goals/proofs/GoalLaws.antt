@@ -166,7 +166,8 @@ first-append b (x ∷ xs) ys = first-append (cond (ltb (pad x) (pad b)) x b) xs 
 
 module _ (tab ws : List ℕ) (at k best : ℕ) where
   pub label-on : 0 < k → getD ws (at + 1) 0 ≡ 0
-      → firstCode best (rootCodes tab (goalsFrom ws at k)) ≡ firstCode (firstCode best (owedCodes tab (getD ws at 0) 0 (getD ws (at + 2) 0))) (rootCodes tab (goalsFrom ws (at + 3) (k - 1)))
+      → firstCode best (rootCodes tab (goalsFrom ws at k)) ≡ firstCode (firstCode best (owedCodes tab (getD ws at 0) 0 (getD ws (at + 2) 0)))
+      (rootCodes tab (goalsFrom ws (at + 3) (k - 1)))
   unfolding rootCodes
   label-on h e =
       ap (λ gs. firstCode best (rootCodes tab gs)) (goals-next ws at k h)

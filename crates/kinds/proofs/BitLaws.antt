@@ -36,7 +36,8 @@ module _ (m j : ℕ) where
 
   next-parts : (m / 2 ^ j + 1) * 2 ^ j + m % 2 ^ j ≡ m + 2 ^ j
   next-parts =
-      let e : (m / 2 ^ j + 1) * 2 ^ j ≡ m / 2 ^ j * 2 ^ j + 2 ^ j = add-mul (m / 2 ^ j) 1 (2 ^ j) ∙ ap (λ (x : ℕ). m / 2 ^ j * 2 ^ j + x) (one-mul (2 ^ j)) in
+      let e : (m / 2 ^ j + 1) * 2 ^ j ≡ m / 2 ^ j * 2 ^ j + 2 ^ j =
+      add-mul (m / 2 ^ j) 1 (2 ^ j) ∙ ap (λ (x : ℕ). m / 2 ^ j * 2 ^ j + x) (one-mul (2 ^ j)) in
       omega (arith, e, parts)
 
   or-bit : bitOr m (2 ^ j) ≡ (m / 2 ^ j / 2 * 2 + 1) * 2 ^ j + m % 2 ^ j

@@ -127,10 +127,12 @@ pub ltb-suc : (m n : ℕ) → ltb (suc m) (suc n) ≡ ltb m n
 ltb-suc m n = leb·suc-suc (suc m) n
 
 pub ltb-shift : (n x y : ℕ) → ltb (n + x) (n + y) ≡ ltb x y
-ltb-shift n x y = bool-ext (ltb (n + x) (n + y)) (ltb x y) (λ e. let h = ltb-is (n + x) (n + y) e in is-ltb x y (omega arith)) (λ e. let h = ltb-is x y e in is-ltb (n + x) (n + y) (omega arith))
+ltb-shift n x y = bool-ext (ltb (n + x) (n + y)) (ltb x y) (λ e. let h = ltb-is (n + x) (n + y) e in is-ltb x y (omega arith))
+    (λ e. let h = ltb-is x y e in is-ltb (n + x) (n + y) (omega arith))
 
 pub eqb-shift : (n x y : ℕ) → eqb (n + x) (n + y) ≡ eqb x y
-eqb-shift n x y = bool-ext (eqb (n + x) (n + y)) (eqb x y) (λ e. let h = eqb-is (n + x) (n + y) e in is-eqb x y (omega arith)) (λ e. let h = eqb-is x y e in is-eqb (n + x) (n + y) (omega arith))
+eqb-shift n x y = bool-ext (eqb (n + x) (n + y)) (eqb x y) (λ e. let h = eqb-is (n + x) (n + y) e in is-eqb x y (omega arith))
+    (λ e. let h = eqb-is x y e in is-eqb (n + x) (n + y) (omega arith))
 
 -- half of a number
 pub half-leb : (x n : ℕ) → leb x (n / 2) ≡ leb (2 * x) n

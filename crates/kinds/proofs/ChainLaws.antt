@@ -19,7 +19,8 @@ chain-bind f (via h c d) = via h (chain-bind f c) (chain-bind f d)
 pub chain-map : {n : ℕ} {p q : ℕ → ℕ → Type 0} {i j : ℕ} → ((a b : ℕ) → p a b → q a b) → Chain n p i j → Chain n q i j
 chain-map f c = chain-bind (λ a b s. one (f a b s)) c
 
-pub chain-within : {n : ℕ} {p q : ℕ → ℕ → Type 0} {i j : ℕ} → ((a b : ℕ) → a < n → b < n → p a b → q a b) → i < n → j < n → Chain n p i j → Chain n q i j
+pub chain-within : {n : ℕ} {p q : ℕ → ℕ → Type 0} {i j : ℕ} → ((a b : ℕ) → a < n → b < n → p a b → q a b) → i < n → j < n → Chain n p i j
+    → Chain n q i j
 chain-within f hi hj (one {i = a} {j = b} s) = one (f a b hi hj s)
 chain-within f hi hj (via h c d) = via h (chain-within f hi h c) (chain-within f h hj d)
 
@@ -35,7 +36,8 @@ pub chain-split : (k n : ℕ) {p : ℕ → ℕ → Type 0} {i j : ℕ} → n ≤
 chain-split k n le (one s) = inl (one s)
 chain-split k n {p} {i} {j} le (via {m = m} h c d) = at (ℕ-discrete m k) (chain-split k n le c) (chain-split k n le d)
   where
-    at : Dec (m ≡ k) → Chain k p i m ⊎ (Chain k p i k × Chain k p k m) → Chain k p m j ⊎ (Chain k p m k × Chain k p k j) → Chain k p i j ⊎ (Chain k p i k × Chain k p k j)
+    at : Dec (m ≡ k) → Chain k p i m ⊎ (Chain k p i k × Chain k p k m) → Chain k p m j ⊎ (Chain k p m k × Chain k p k j) → Chain k p i j
+        ⊎ (Chain k p i k × Chain k p k j)
     at (yes z) (inl a) (inl b) = inr (rw z at a, rw z at b)
     at (yes z) (inl a) (inr b) = inr (rw z at a, b .1)
     at (yes z) (inr a) (inl b) = inr (a .0, rw z at b)

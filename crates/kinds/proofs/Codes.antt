@@ -37,7 +37,8 @@ codeFrom-is (i ∷ q) c =
     let n = 5 ^ length q in
     let e : (5 * c + i) * n ≡ 5 * c * n + i * n = add-mul (5 * c) i n in
     let d : (5 * 0 + i) * n ≡ i * n = ap (λ (x : ℕ). x * n) (zero-add i) in
-    let h : c * 5 ^ suc (length q) ≡ 5 * c * n = ap (λ (x : ℕ). c * x) (pow-suc 5 (length q) ∙ mul-comm n 5) ∙ sym (mul-assoc c 5 n) ∙ ap (λ (x : ℕ). x * n) (mul-comm c 5) in
+    let h : c * 5 ^ suc (length q) ≡ 5 * c * n =
+    ap (λ (x : ℕ). c * x) (pow-suc 5 (length q) ∙ mul-comm n 5) ∙ sym (mul-assoc c 5 n) ∙ ap (λ (x : ℕ). x * n) (mul-comm c 5) in
     u ∙ omega (arith, v, e, d, h)
 
 pub code-join : (p q : Pos) → code (p ++ q) ≡ code p * 5 ^ length q + code q
@@ -84,7 +85,11 @@ pub record Small (p : Pos) : Type 0 where
   pub digits : Proper p
 
 pub small-prefix : {p q : Pos} → p ≼ q → Small p → Small q
-small-prefix {p} {q} h s = record { short = let l = ≼-length h in let m = s .short in omega arith; digits = λ d m. s .digits d (rw (h .eq) (∈-left (h .by) m)) }
+small-prefix {p} {q} h s = record {
+  short = let l = ≼-length h in let m = s .short in omega arith;
+  digits =
+      λ d m. s .digits d (rw (h .eq) (∈-left (h .by) m));
+}
 
 pub small-rest : (c q : Pos) → Small (c ++ q) → Small q
 small-rest c q s = record { short = let m = rw length-append at (s .short) in omega arith; digits = proper-right c q (s .digits) }
@@ -143,7 +148,8 @@ pub decode-digits : (k c d : ℕ) → d ∈ decodeTo k c → d ≤ 4
 unfolding decodeTo
 decode-digits zero c d m = elim m [ ]
 decode-digits (suc k) zero d m = elim m [ ]
-decode-digits (suc k) (suc c) d m = ⊎-elim (decode-digits k (suc c / 5) d) last (∈-append (decodeTo k (suc c / 5)) (rw (decode-last k (suc c) (omega arith)) at m))
+decode-digits (suc k) (suc c) d m =
+    ⊎-elim (decode-digits k (suc c / 5) d) last (∈-append (decodeTo k (suc c / 5)) (rw (decode-last k (suc c) (omega arith)) at m))
   where
     last : d ∈ (suc c % 5 ∷ []) → d ≤ 4
     last (here e) = let h : suc c % 5 < 5 = mod-lt (suc c) (lit< tt) in omega arith
@@ -193,7 +199,8 @@ code-same p q hp hq lp lq = go (same p q) refl
 
 -- ---- the codes in use
 pub code-good : (p : Pos) → Small p → codeGood (code p) ≡ true
-code-good p s = both (is-leb (code p) 15624 (small-code p s)) (rw (decode-code p s) (all-of (λ d. ltb 0 d) p (λ d m. is-ltb 0 d ((s .digits d m) .0))))
+code-good p s = both (is-leb (code p) 15624 (small-code p s))
+    (rw (decode-code p s) (all-of (λ d. ltb 0 d) p (λ d m. is-ltb 0 d ((s .digits d m) .0))))
 
 -- ---- document order by padded codes
 pub pad-nil : (k : ℕ) → padTo k [] ≡ 0
@@ -241,16 +248,35 @@ before-pad (suc k) [] (j ∷ q) hp hq lp lq = go (padTo (suc k) (j ∷ q))
     go : (x : ℕ) → true ≡ (ltb 0 x || (eqb 0 x && ltb 0 (suc (length q))))
     go zero = sym (is-ltb 0 (suc (length q)) (omega arith))
     go (suc x) = rw (is-ltb 0 (suc x) (omega arith))
-before-pad (suc k) (i ∷ p) [] hp hq lp lq = rw (le-ltb (padTo (suc k) (i ∷ p)) 0 (omega arith), le-ltb (suc (length p)) 0 (omega arith)) (sym (and-false (eqb (padTo (suc k) (i ∷ p)) 0) refl))
-before-pad (suc k) (i ∷ p) (j ∷ q) hp hq lp lq = go (order i j) (before-pad k p q (λ d m. hp d (there m)) (λ d m. hq d (there m)) (omega arith) (omega arith))
+before-pad (suc k) (i ∷ p) [] hp hq lp lq =
+    rw (le-ltb (padTo (suc k) (i ∷ p)) 0 (omega arith), le-ltb (suc (length p)) 0 (omega arith))
+    (sym (and-false (eqb (padTo (suc k) (i ∷ p)) 0) refl))
+before-pad (suc k) (i ∷ p) (j ∷ q) hp hq lp lq =
+    go (order i j) (before-pad k p q (λ d m. hp d (there m)) (λ d m. hq d (there m)) (omega arith) (omega arith))
   where
     go : Order i j → before p q ≡ (ltb (padTo k p) (padTo k q) || (eqb (padTo k p) (padTo k q) && ltb (length p) (length q)))
-        → (ltb i j || (eqb i j && before p q)) ≡ (ltb (i * 5 ^ k + padTo k p) (j * 5 ^ k + padTo k q) || (eqb (i * 5 ^ k + padTo k p) (j * 5 ^ k + padTo k q) && ltb (suc (length p)) (suc (length q))))
+        → (ltb i j || (eqb i j && before p q)) ≡
+        (ltb (i * 5 ^ k + padTo k p) (j * 5 ^ k + padTo k q) ||
+        (eqb (i * 5 ^ k + padTo k p) (j * 5 ^ k + padTo k q) && ltb (suc (length p)) (suc (length q))))
     go (less l) ih = rw (is-ltb i j l, is-ltb (i * 5 ^ k + padTo k p) (j * 5 ^ k + padTo k q) (pad-less k i j p q (λ d m. hp d (there m)) l))
-    go (equal e) ih = rw (e, ltb-irrefl j, is-eqb j j refl, ltb-shift (j * 5 ^ k) (padTo k p) (padTo k q), eqb-shift (j * 5 ^ k) (padTo k p) (padTo k q), ltb-suc (length p) (length q)) ih
+    go (equal e) ih = rw (
+      e,
+      ltb-irrefl j,
+      is-eqb j j refl,
+      ltb-shift (j * 5 ^ k) (padTo k p) (padTo k q),
+      eqb-shift (j * 5 ^ k) (padTo k p)
+          (padTo k q),
+      ltb-suc (length p) (length q),
+    ) ih
     go (more l) ih =
         let h = pad-less k j i q p (λ d m. hq d (there m)) l in
-        rw (le-ltb i j (omega arith), ne-eqb i j (λ e. omega arith), le-ltb (i * 5 ^ k + padTo k p) (j * 5 ^ k + padTo k q) (omega arith), ne-eqb (i * 5 ^ k + padTo k p) (j * 5 ^ k + padTo k q) (λ e. omega arith))
+        rw (
+          le-ltb i j (omega arith),
+          ne-eqb i j (λ e. omega arith),
+          le-ltb (i * 5 ^ k + padTo k p) (j * 5 ^ k + padTo k q) (omega arith),
+          ne-eqb
+              (i * 5 ^ k + padTo k p) (j * 5 ^ k + padTo k q) (λ e. omega arith),
+        )
 
 -- for child numbers: the padded codes alone
 pub pad-before : (k : ℕ) (p q : Pos) → Proper p → Proper q → length p ≤ k → length q ≤ k → ltb (padTo k p) (padTo k q) ≡ before p q
@@ -258,11 +284,13 @@ pad-before zero [] [] hp hq lp lq = refl
 pad-before zero (i ∷ p) q hp hq lp lq = absurd (omega arith)
 pad-before zero [] (j ∷ q) hp hq lp lq = absurd (omega arith)
 pad-before (suc k) [] [] hp hq lp lq = refl
-pad-before (suc k) [] (j ∷ q) hp hq lp lq = is-ltb 0 (j * 5 ^ k + padTo k q) (let l = pad-less k 0 j [] q (λ d m. elim m [ ]) ((proper-head hq) .0) in omega arith)
+pad-before (suc k) [] (j ∷ q) hp hq lp lq =
+    is-ltb 0 (j * 5 ^ k + padTo k q) (let l = pad-less k 0 j [] q (λ d m. elim m [ ]) ((proper-head hq) .0) in omega arith)
 pad-before (suc k) (i ∷ p) [] hp hq lp lq = le-ltb (i * 5 ^ k + padTo k p) 0 (omega arith)
 pad-before (suc k) (i ∷ p) (j ∷ q) hp hq lp lq = go (order i j) (pad-before k p q (proper-tail hp) (proper-tail hq) (omega arith) (omega arith))
   where
-    go : Order i j → ltb (padTo k p) (padTo k q) ≡ before p q → ltb (i * 5 ^ k + padTo k p) (j * 5 ^ k + padTo k q) ≡ (ltb i j || (eqb i j && before p q))
+    go : Order i j → ltb (padTo k p) (padTo k q) ≡ before p q
+        → ltb (i * 5 ^ k + padTo k p) (j * 5 ^ k + padTo k q) ≡ (ltb i j || (eqb i j && before p q))
     go (less l) ih = rw (is-ltb i j l) (is-ltb (i * 5 ^ k + padTo k p) (j * 5 ^ k + padTo k q) (pad-less k i j p q (λ d m. (hp d (there m)) .1) l))
     go (equal e) ih = rw (e, ltb-irrefl j, is-eqb j j refl) (ltb-shift (j * 5 ^ k) (padTo k p) (padTo k q) ∙ ih)
     go (more l) ih =

@@ -96,14 +96,20 @@ padded-room c n k e =
 
 -- ---- document order
 module _ (a b : ℕ) where
-  by-pads : before (decode a) (decode b) ≡ (ltb (padTo 7 (decode a)) (padTo 7 (decode b)) || (eqb (padTo 7 (decode a)) (padTo 7 (decode b)) && ltb (length (decode a)) (length (decode b))))
+  by-pads : before (decode a) (decode b) ≡
+      (ltb (padTo 7 (decode a)) (padTo 7 (decode b)) ||
+      (eqb (padTo 7 (decode a)) (padTo 7 (decode b)) && ltb (length (decode a)) (length (decode b))))
   by-pads = before-pad 7 (decode a) (decode b) (decode-digits 7 a) (decode-digits 7 b) (decode-short 7 a) (decode-short 7 b)
 
   pub pads-less : padTo 7 (decode a) < padTo 7 (decode b) → before (decode a) (decode b) ≡ true
   pads-less h = by-pads ∙ rw (lt-ltb (padTo 7 (decode a)) (padTo 7 (decode b)) h)
 
   pub pads-more : padTo 7 (decode b) < padTo 7 (decode a) → before (decode a) (decode b) ≡ false
-  pads-more h = by-pads ∙ rw (le-ltb (padTo 7 (decode a)) (padTo 7 (decode b)) (omega arith), ne-eqb (padTo 7 (decode a)) (padTo 7 (decode b)) (λ e. omega arith))
+  pads-more h = by-pads ∙ rw (
+    le-ltb (padTo 7 (decode a)) (padTo 7 (decode b)) (omega arith),
+    ne-eqb (padTo 7 (decode a)) (padTo 7 (decode b))
+        (λ e. omega arith),
+  )
 
   pub pads-same : padTo 7 (decode a) ≡ padTo 7 (decode b) → before (decode a) (decode b) ≡ ltb (length (decode a)) (length (decode b))
   pads-same h = by-pads ∙ rw (le-ltb (padTo 7 (decode a)) (padTo 7 (decode b)) (omega arith), eq-eqb (padTo 7 (decode a)) (padTo 7 (decode b)) h)

@@ -54,7 +54,8 @@ sets-at [] l i k h = refl
 sets-at (v ∷ vs) l i k h = sets-at vs (set l i v) (suc i) k (omega arith) ∙ getD-set-other l i k v 0 (λ e. omega arith)
 
 -- a run stored over another
-pub sets-over : (l vs ws : List ℕ) (i j : ℕ) → j ≤ i → i + length vs ≤ j + length ws → j + length ws ≤ length l → sets (sets l i vs) j ws ≡ sets l j ws
+pub sets-over : (l vs ws : List ℕ) (i j : ℕ) → j ≤ i → i + length vs ≤ j + length ws → j + length ws ≤ length l
+    → sets (sets l i vs) j ws ≡ sets l j ws
 sets-over l vs ws i j h g r =
     sets-eq ws (sets l i vs) j (rw (length-sets l i vs) r)
     ∙ ap₂ (λ a b. a ++ ws ++ b) (sets-before vs l i j h) (sets-behind vs l i (j + length ws) g)
@@ -98,7 +99,8 @@ run-end o l i h = ap (sets o i) (from-end l i h)
 pub run-back : (l : List ℕ) (j n : ℕ) (r : List ℕ) → j + length r ≡ n → n ≤ length l → drop j (take n (sets l j r)) ≡ r
 run-back l j n r e h =
     ap (λ (x : List ℕ). drop j (take n x)) (sets-eq r l j (omega arith))
-    ∙ ap (drop j) (take-at (take j l ++ r) (drop (j + length r) l) n (length-append (take j l) r ∙ ap (λ (x : ℕ). x + length r) (length-take-le j l (omega arith)) ∙ e))
+    ∙ ap (drop j) (take-at (take j l ++ r) (drop (j + length r) l) n
+    (length-append (take j l) r ∙ ap (λ (x : ℕ). x + length r) (length-take-le j l (omega arith)) ∙ e))
     ∙ drop-at (take j l) r j (length-take-le j l (omega arith))
 
 -- what was stored at the start, read again by parts
@@ -186,7 +188,8 @@ module _ {ℓ κ} {A : Type ℓ} {B : Type κ} (h : A → B) where
   filter-map q [] = refl
   filter-map q (x ∷ xs) = go (q (h x)) (filter-map q xs)
     where
-      go : (b : Bool) → filter q (map h xs) ≡ map h (filter (λ x. q (h x)) xs) → cond b (h x ∷ filter q (map h xs)) (filter q (map h xs)) ≡ map h (cond b (x ∷ filter (λ x. q (h x)) xs) (filter (λ x. q (h x)) xs))
+      go : (b : Bool) → filter q (map h xs) ≡ map h (filter (λ x. q (h x)) xs)
+          → cond b (h x ∷ filter q (map h xs)) (filter q (map h xs)) ≡ map h (cond b (x ∷ filter (λ x. q (h x)) xs) (filter (λ x. q (h x)) xs))
       go true ih = ap (λ l. h x ∷ l) ih
       go false ih = ih
 
@@ -199,15 +202,18 @@ module _ {ℓ κ} {A : Type ℓ} {B : Type κ} (h : A → B) where
   all-map q (x ∷ xs) = ap (λ b. q (h x) && b) (all-map q xs)
 
   -- a test of two that the map keeps
-  pub insert-map : (lt : A → A → Bool) (lt′ : B → B → Bool) → ((x y : A) → lt x y ≡ lt′ (h x) (h y)) → (a : A) (xs : List A) → map h (insert lt a xs) ≡ insert lt′ (h a) (map h xs)
+  pub insert-map : (lt : A → A → Bool) (lt′ : B → B → Bool) → ((x y : A) → lt x y ≡ lt′ (h x) (h y)) → (a : A) (xs : List A)
+      → map h (insert lt a xs) ≡ insert lt′ (h a) (map h xs)
   insert-map lt lt′ e a [] = refl
   insert-map lt lt′ e a (x ∷ xs) = rw (← (e x a)) (go (lt x a) (insert-map lt lt′ e a xs))
     where
-      go : (b : Bool) → map h (insert lt a xs) ≡ insert lt′ (h a) (map h xs) → map h (cond b (x ∷ insert lt a xs) (a ∷ x ∷ xs)) ≡ cond b (h x ∷ insert lt′ (h a) (map h xs)) (h a ∷ h x ∷ map h xs)
+      go : (b : Bool) → map h (insert lt a xs) ≡ insert lt′ (h a) (map h xs)
+          → map h (cond b (x ∷ insert lt a xs) (a ∷ x ∷ xs)) ≡ cond b (h x ∷ insert lt′ (h a) (map h xs)) (h a ∷ h x ∷ map h xs)
       go true ih = ap (λ l. h x ∷ l) ih
       go false ih = refl
 
-  pub sort-map : (lt : A → A → Bool) (lt′ : B → B → Bool) → ((x y : A) → lt x y ≡ lt′ (h x) (h y)) → (xs : List A) → map h (sort lt xs) ≡ sort lt′ (map h xs)
+  pub sort-map : (lt : A → A → Bool) (lt′ : B → B → Bool) → ((x y : A) → lt x y ≡ lt′ (h x) (h y)) → (xs : List A)
+      → map h (sort lt xs) ≡ sort lt′ (map h xs)
   sort-map lt lt′ e [] = refl
   sort-map lt lt′ e (x ∷ xs) = insert-map lt lt′ e x (sort lt xs) ∙ ap (insert lt′ (h x)) (sort-map lt lt′ e xs)
 
@@ -220,7 +226,8 @@ module _ {ℓ} {A : Type ℓ} where
   filter-append p [] ys = refl
   filter-append p (x ∷ xs) ys = go (p x) (filter-append p xs ys)
     where
-      go : (b : Bool) → filter p (xs ++ ys) ≡ filter p xs ++ filter p ys → cond b (x ∷ filter p (xs ++ ys)) (filter p (xs ++ ys)) ≡ cond b (x ∷ filter p xs) (filter p xs) ++ filter p ys
+      go : (b : Bool) → filter p (xs ++ ys) ≡ filter p xs ++ filter p ys
+          → cond b (x ∷ filter p (xs ++ ys)) (filter p (xs ++ ys)) ≡ cond b (x ∷ filter p xs) (filter p xs) ++ filter p ys
       go true ih = ap (λ l. x ∷ l) ih
       go false ih = ih
 
@@ -288,7 +295,8 @@ module _ {ℓ κ} {A : Type ℓ} {B : Type κ} (h : A → B) (lt : A → A → B
   insert-map-in a [] e = refl
   insert-map-in a (x ∷ xs) e = rw (← (e x (here refl))) (go (lt x a) (insert-map-in a xs (λ y m. e y (there m))))
     where
-      go : (b : Bool) → map h (insert lt a xs) ≡ insert lt′ (h a) (map h xs) → map h (cond b (x ∷ insert lt a xs) (a ∷ x ∷ xs)) ≡ cond b (h x ∷ insert lt′ (h a) (map h xs)) (h a ∷ h x ∷ map h xs)
+      go : (b : Bool) → map h (insert lt a xs) ≡ insert lt′ (h a) (map h xs)
+          → map h (cond b (x ∷ insert lt a xs) (a ∷ x ∷ xs)) ≡ cond b (h x ∷ insert lt′ (h a) (map h xs)) (h a ∷ h x ∷ map h xs)
       go true ih = ap (λ l. h x ∷ l) ih
       go false ih = refl
 

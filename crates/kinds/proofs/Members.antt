@@ -45,7 +45,8 @@ module _ {ℓ} {A : Type ℓ} where
   pub in-filter : (p : A → Bool) (xs : List A) {x : A} → x ∈ filter p xs → (x ∈ xs) × (p x ≡ true)
   in-filter p (y ∷ ys) {x} m = go (p y) refl m (λ i. in-filter p ys i)
     where
-      go : (b : Bool) → p y ≡ b → x ∈ cond b (y ∷ filter p ys) (filter p ys) → (x ∈ filter p ys → (x ∈ ys) × (p x ≡ true)) → (x ∈ (y ∷ ys)) × (p x ≡ true)
+      go : (b : Bool) → p y ≡ b → x ∈ cond b (y ∷ filter p ys) (filter p ys) → (x ∈ filter p ys → (x ∈ ys) × (p x ≡ true)) → (x ∈ (y ∷ ys))
+          × (p x ≡ true)
       go true e (here h) ih = (here h, rw h e)
       go true e (there i) ih = (there (ih i .0), ih i .1)
       go false e i ih = (there (ih i .0), ih i .1)
@@ -61,7 +62,8 @@ module _ {ℓ} {A : Type ℓ} where
   -- any and all, as facts
   pub on-any {κ} : {C : Type κ} (p : A → Bool) (xs : List A) → any p xs ≡ true → ((x : A) → x ∈ xs → p x ≡ true → C) → C
   on-any p [] e k = absurd (false≢true e)
-  on-any p (x ∷ xs) e k = ⊎-elim (λ (t : p x ≡ true). k x (here refl) t) (λ (t : any p xs ≡ true). on-any p xs t (λ y m. k y (there m))) (or-case (p x) e)
+  on-any p (x ∷ xs) e k = ⊎-elim (λ (t : p x ≡ true). k x (here refl) t) (λ (t : any p xs ≡ true). on-any p xs t (λ y m. k y (there m)))
+      (or-case (p x) e)
 
   pub any-of : (p : A → Bool) {x : A} {xs : List A} → x ∈ xs → p x ≡ true → any p xs ≡ true
   any-of p (here {x = y} {xs} e) t = or-l _ (rw e at t)
@@ -220,7 +222,8 @@ pub filter-le : {A : Type 0} (p q : A → Bool) (xs : List A) → ((x : A) → p
 filter-le p q [] h = omega arith
 filter-le p q (x ∷ xs) h = go (p x) refl (q x) refl (filter-le p q xs h)
   where
-    go : (a : Bool) → p x ≡ a → (b : Bool) → q x ≡ b → length (filter p xs) ≤ length (filter q xs) → length (cond a (x ∷ filter p xs) (filter p xs)) ≤ length (cond b (x ∷ filter q xs) (filter q xs))
+    go : (a : Bool) → p x ≡ a → (b : Bool) → q x ≡ b → length (filter p xs) ≤ length (filter q xs)
+        → length (cond a (x ∷ filter p xs) (filter p xs)) ≤ length (cond b (x ∷ filter q xs) (filter q xs))
     go true e true d ih = omega arith
     go true e false d ih = absurd (false≢true (sym d ∙ h x e))
     go false e true d ih = omega arith
@@ -248,4 +251,8 @@ in-drop (suc n) (y ∷ xs) m = there (in-drop n xs m)
 -- ---- no element twice, where different elements go to different ones
 pub distinct-map : {A B : Type 0} (f : A → B) (xs : List A) → ((a b : A) → a ∈ xs → b ∈ xs → f a ≡ f b → a ≡ b) → Distinct xs → Distinct (map f xs)
 distinct-map f [] h d = tt
-distinct-map f (x ∷ xs) h d = (λ m. on-map f xs m λ y i e. d .0 (rw (h x y (here refl) (there i) e) i), distinct-map f xs (λ a b i j. h a b (there i) (there j)) (d .1))
+distinct-map f (x ∷ xs) h d = (
+  λ m. on-map f xs m λ y i e. d .0 (rw (h x y (here refl) (there i) e) i),
+  distinct-map f xs
+      (λ a b i j. h a b (there i) (there j)) (d .1),
+)

@@ -21,7 +21,8 @@ Before p q = before p q ≡ true
 
 pub before-irrefl : (p : Pos) → Before p p → ⊥
 before-irrefl [] e = false≢true e
-before-irrefl (i ∷ p) e = ⊎-elim (λ (l : ltb i i ≡ true). let h = ltb-is i i l in omega arith) (λ (t : (eqb i i && before p p) ≡ true). before-irrefl p (and-r (eqb i i) t)) (or-case (ltb i i) e)
+before-irrefl (i ∷ p) e = ⊎-elim (λ (l : ltb i i ≡ true). let h = ltb-is i i l in omega arith)
+    (λ (t : (eqb i i && before p p) ≡ true). before-irrefl p (and-r (eqb i i) t)) (or-case (ltb i i) e)
 
 pub before-trans : (p q r : Pos) → Before p q → Before q r → Before p r
 before-trans [] [] r a b = absurd (false≢true a)
@@ -31,7 +32,8 @@ before-trans (i ∷ p) [] r a b = absurd (false≢true a)
 before-trans (i ∷ p) (j ∷ q) [] a b = absurd (false≢true b)
 before-trans (i ∷ p) (j ∷ q) (k ∷ r) a b = go (or-case (ltb i j) a) (or-case (ltb j k) b) (before-trans p q r)
   where
-    go : (ltb i j ≡ true) ⊎ ((eqb i j && before p q) ≡ true) → (ltb j k ≡ true) ⊎ ((eqb j k && before q r) ≡ true) → (Before p q → Before q r → Before p r) → Before (i ∷ p) (k ∷ r)
+    go : (ltb i j ≡ true) ⊎ ((eqb i j && before p q) ≡ true) → (ltb j k ≡ true) ⊎ ((eqb j k && before q r) ≡ true)
+        → (Before p q → Before q r → Before p r) → Before (i ∷ p) (k ∷ r)
     go (inl x) (inl y) ih = let u = ltb-is i j x in let v = ltb-is j k y in or-l _ (is-ltb i k (omega arith))
     go (inl x) (inr y) ih = let u = ltb-is i j x in let v = eqb-is j k (and-l (before q r) y) in or-l _ (is-ltb i k (omega arith))
     go (inr x) (inl y) ih = let u = eqb-is i j (and-l (before p q) x) in let v = ltb-is j k y in or-l _ (is-ltb i k (omega arith))
@@ -58,14 +60,21 @@ pub before-more : (q p r : Pos) → Before q p → Before q (p ++ r)
 before-more [] [] r e = absurd (false≢true e)
 before-more [] (j ∷ p) r e = refl
 before-more (i ∷ q) [] r e = absurd (false≢true e)
-before-more (i ∷ q) (j ∷ p) r e = ⊎-elim (λ (l : ltb i j ≡ true). or-l _ l) (λ (t : (eqb i j && before q p) ≡ true). or-r (ltb i j) (both {a = eqb i j} (and-l (before q p) t) (before-more q p r (and-r (eqb i j) t)))) (or-case (ltb i j) e)
+before-more (i ∷ q) (j ∷ p) r e =
+    ⊎-elim (λ (l : ltb i j ≡ true). or-l _ l)
+    (λ (t : (eqb i j && before q p) ≡ true). or-r (ltb i j) (both {a = eqb i j} (and-l (before q p) t) (before-more q p r (and-r (eqb i j) t))))
+    (or-case (ltb i j) e)
 
 -- what p comes before, and is not under p, what is under p comes before
 pub more-before : (p r q : Pos) → Before p q → (q ≼ p → ⊥) → Before (p ++ r) q
 more-before [] r [] e n = absurd (false≢true e)
 more-before [] r (j ∷ q) e n = absurd (n (record { by = j ∷ q; eq = refl }))
 more-before (i ∷ p) r [] e n = absurd (false≢true e)
-more-before (i ∷ p) r (j ∷ q) e n = ⊎-elim (λ (l : ltb i j ≡ true). or-l _ l) (λ (t : (eqb i j && before p q) ≡ true). or-r (ltb i j) (both {a = eqb i j} (and-l (before p q) t) (more-before p r q (and-r (eqb i j) t) (λ h. n (≼-cons (eqb-is i j (and-l (before p q) t)) h))))) (or-case (ltb i j) e)
+more-before (i ∷ p) r (j ∷ q) e n =
+    ⊎-elim (λ (l : ltb i j ≡ true). or-l _ l)
+    (λ (t : (eqb i j && before p q) ≡ true). or-r (ltb i j)
+    (both {a = eqb i j} (and-l (before p q) t) (more-before p r q (and-r (eqb i j) t) (λ h. n (≼-cons (eqb-is i j (and-l (before p q) t)) h)))))
+    (or-case (ltb i j) e)
 
 pub before-append : (c p q : Pos) → before (c ++ p) (c ++ q) ≡ before p q
 before-append [] p q = refl
@@ -78,7 +87,8 @@ pub ordered-unique : (xs ys : List Pos) → Pairwise Before xs → Pairwise Befo
 ordered-unique [] [] a b f g = refl
 ordered-unique [] (y ∷ ys) a b f g = elim (g y (here refl)) [ ]
 ordered-unique (x ∷ xs) [] a b f g = elim (f x (here refl)) [ ]
-ordered-unique (x ∷ xs) (y ∷ ys) a b f g = rw first (ap (λ l. y ∷ l) (ordered-unique xs ys (a .1) (b .1) (λ z m. left z m (f z (there m))) (λ z m. right z m (g z (there m)))))
+ordered-unique (x ∷ xs) (y ∷ ys) a b f g =
+    rw first (ap (λ l. y ∷ l) (ordered-unique xs ys (a .1) (b .1) (λ z m. left z m (f z (there m))) (λ z m. right z m (g z (there m)))))
   where
     heads : x ∈ (y ∷ ys) → y ∈ (x ∷ xs) → x ≡ y
     heads (here e) j = e

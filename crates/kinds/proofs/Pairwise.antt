@@ -21,7 +21,8 @@ module _ {A : Type 0} (R : A → A → Type 0) where
 
   pub pairwise-append : (xs ys : List A) → Pairwise xs → Pairwise ys → ((x y : A) → x ∈ xs → y ∈ ys → R x y) → Pairwise (xs ++ ys)
   pairwise-append [] ys a b h = b
-  pairwise-append (x ∷ xs) ys a b h = (λ y m. ⊎-elim (λ i. a .0 y i) (λ i. h x y (here refl) i) (∈-append xs m), pairwise-append xs ys (a .1) b (λ u v i j. h u v (there i) j))
+  pairwise-append (x ∷ xs) ys a b h =
+      (λ y m. ⊎-elim (λ i. a .0 y i) (λ i. h x y (here refl) i) (∈-append xs m), pairwise-append xs ys (a .1) b (λ u v i j. h u v (there i) j))
 
   pub pairwise-filter : (p : A → Bool) (xs : List A) → Pairwise xs → Pairwise (filter p xs)
   pairwise-filter p [] a = a
@@ -57,11 +58,17 @@ module _ {A : Type 0} (R : A → A → Type 0) where
 module _ {A B : Type 0} (S : A → A → Type 0) (R : B → B → Type 0) where
   pub pairwise-map : (f : A → B) (xs : List A) → ((x y : A) → x ∈ xs → y ∈ xs → S x y → R (f x) (f y)) → Pairwise S xs → Pairwise R (map f xs)
   pairwise-map f [] h a = tt
-  pairwise-map f (x ∷ xs) h a = (λ y m. on-map f xs m λ z i e. rw e (h x z (here refl) (there i) (a .0 z i)), pairwise-map f xs (λ u v i j. h u v (there i) (there j)) (a .1))
+  pairwise-map f (x ∷ xs) h a = (
+    λ y m. on-map f xs m λ z i e. rw e (h x z (here refl) (there i) (a .0 z i)),
+    pairwise-map f xs
+        (λ u v i j. h u v (there i) (there j)) (a .1),
+  )
 
-  pub pairwise-gather : (f : A → List B) (xs : List A) → ((x : A) → x ∈ xs → Pairwise R (f x)) → ((x y : A) → x ∈ xs → y ∈ xs → S x y → (u v : B) → u ∈ f x → v ∈ f y → R u v) → Pairwise S xs → Pairwise R (gather f xs)
+  pub pairwise-gather : (f : A → List B) (xs : List A) → ((x : A) → x ∈ xs → Pairwise R (f x))
+      → ((x y : A) → x ∈ xs → y ∈ xs → S x y → (u v : B) → u ∈ f x → v ∈ f y → R u v) → Pairwise S xs → Pairwise R (gather f xs)
   pairwise-gather f [] g h a = tt
-  pairwise-gather f (x ∷ xs) g h a = pairwise-append R (f x) (gather f xs) (g x (here refl)) (pairwise-gather f xs (λ y i. g y (there i)) (λ u v i j. h u v (there i) (there j)) (a .1))
+  pairwise-gather f (x ∷ xs) g h a = pairwise-append R (f x) (gather f xs) (g x (here refl))
+      (pairwise-gather f xs (λ y i. g y (there i)) (λ u v i j. h u v (there i) (there j)) (a .1))
       (λ u v i m. on-gather f xs m λ y j k. h x y (here refl) (there j) (a .0 y j) u v i k)
 
 pub pairwise-range : (c n : ℕ) → Pairwise _<_ (range c n)
@@ -69,7 +76,8 @@ pairwise-range c zero = tt
 pairwise-range c (suc n) = (λ y m. let h = in-range n (suc c) y m in omega arith, pairwise-range (suc c) n)
 
 -- an order of two that is no order of equals, and in which what does not come before is passed on
-module _ {A : Type 0} (lt : A → A → Bool) (asym : (x y : A) → lt x y ≡ true → lt y x ≡ false) (pass : (x y z : A) → lt y x ≡ false → lt z y ≡ false → lt z x ≡ false) where
+module _ {A : Type 0} (lt : A → A → Bool) (asym : (x y : A) → lt x y ≡ true → lt y x ≡ false)
+    (pass : (x y z : A) → lt y x ≡ false → lt z y ≡ false → lt z x ≡ false) where
   abbrev NotBefore : A → A → Type 0
   NotBefore x y = lt y x ≡ false
 

@@ -76,11 +76,13 @@ module _ {ℓ} {A : Type ℓ} where
   split-at (y ∷ xs) (suc i) e = ap (λ l. y ∷ l) (split-at xs i e)
 
   -- the first that passes: its place, counted from c
-  pub find-at : (p : A → Bool) (s : List A) (c i : ℕ) → find p s c ≡ some i → (j : ℕ) × (i ≡ c + j) × ((x : A) × (getElem? s j ≡ some x) × (p x ≡ true))
+  pub find-at : (p : A → Bool) (s : List A) (c i : ℕ) → find p s c ≡ some i → (j : ℕ) × (i ≡ c + j)
+      × ((x : A) × (getElem? s j ≡ some x) × (p x ≡ true))
   find-at p [] c i e = none-not e
   find-at p (x ∷ s) c i e = go (p x) refl e (λ d. find-at p s (suc c) i d)
     where
-      go : (b : Bool) → p x ≡ b → cond b (some c) (find p s (suc c)) ≡ some i → (find p s (suc c) ≡ some i → (j : ℕ) × (i ≡ suc c + j) × ((y : A) × (getElem? s j ≡ some y) × (p y ≡ true)))
+      go : (b : Bool) → p x ≡ b → cond b (some c) (find p s (suc c)) ≡ some i
+          → (find p s (suc c) ≡ some i → (j : ℕ) × (i ≡ suc c + j) × ((y : A) × (getElem? s j ≡ some y) × (p y ≡ true)))
           → (j : ℕ) × (i ≡ c + j) × ((y : A) × (getElem? (x ∷ s) j ≡ some y) × (p y ≡ true))
       go true d z ih = let w : c ≡ i = cc in (0, rw (← w) (omega arith), (x, refl, d))
       go false d z ih = let r = ih z in (suc (r .0), rw (r .1) (omega arith), r .2)
@@ -88,7 +90,8 @@ module _ {ℓ} {A : Type ℓ} where
   pub find-none : (p : A → Bool) (s : List A) (c : ℕ) → find p s c ≡ none → (x : A) → x ∈ s → p x ≡ false
   find-none p (y ∷ s) c e x m = go (p y) refl e m (find-none p s (suc c))
     where
-      go : (b : Bool) → p y ≡ b → cond b (some c) (find p s (suc c)) ≡ none → x ∈ (y ∷ s) → (find p s (suc c) ≡ none → (x : _) → x ∈ s → p x ≡ false) → p x ≡ false
+      go : (b : Bool) → p y ≡ b → cond b (some c) (find p s (suc c)) ≡ none → x ∈ (y ∷ s) → (find p s (suc c) ≡ none → (x : _) → x ∈ s → p x ≡ false)
+          → p x ≡ false
       go true d z i ih = none-not (sym z)
       go false d z (here i) ih = rw i d
       go false d z (there i) ih = ih z x i
@@ -98,15 +101,19 @@ module _ {ℓ} {A : Type ℓ} where
   find-more p [] t c i e = none-not e
   find-more p (x ∷ s) t c i e = go (p x) e (find-more p s t (suc c) i)
     where
-      go : (b : Bool) → cond b (some c) (find p s (suc c)) ≡ some i → (find p s (suc c) ≡ some i → find p (s ++ t) (suc c) ≡ some i) → cond b (some c) (find p (s ++ t) (suc c)) ≡ some i
+      go : (b : Bool) → cond b (some c) (find p s (suc c)) ≡ some i → (find p s (suc c) ≡ some i → find p (s ++ t) (suc c) ≡ some i)
+          → cond b (some c) (find p (s ++ t) (suc c)) ≡ some i
       go true d ih = d
       go false d ih = ih d
 
-  pub find-new : (p : A → Bool) (s : List A) (x : A) (t : List A) (c : ℕ) → find p s c ≡ none → p x ≡ true → find p (s ++ (x ∷ t)) c ≡ some (c + length s)
+  pub find-new : (p : A → Bool) (s : List A) (x : A) (t : List A) (c : ℕ) → find p s c ≡ none → p x ≡ true
+      → find p (s ++ (x ∷ t)) c ≡ some (c + length s)
   find-new p [] x t c e d = rw (d, add-zero c) refl
   find-new p (y ∷ s) x t c e d = go (p y) e (λ h. find-new p s x t (suc c) h d)
     where
-      go : (b : Bool) → cond b (some c) (find p s (suc c)) ≡ none → (find p s (suc c) ≡ none → find p (s ++ (x ∷ t)) (suc c) ≡ some (suc c + length s)) → cond b (some c) (find p (s ++ (x ∷ t)) (suc c)) ≡ some (c + suc (length s))
+      go : (b : Bool) → cond b (some c) (find p s (suc c)) ≡ none
+          → (find p s (suc c) ≡ none → find p (s ++ (x ∷ t)) (suc c) ≡ some (suc c + length s))
+          → cond b (some c) (find p (s ++ (x ∷ t)) (suc c)) ≡ some (c + suc (length s))
       go true h ih = none-not (sym h)
       go false h ih = let z : suc c + length s ≡ c + suc (length s) = omega arith in ih h ∙ ap some z
 
@@ -139,7 +146,8 @@ module _ {ℓ κ} {A : Type ℓ} {B : Type κ} where
   at-map f (y ∷ s) zero {x} e = let z : y ≡ x = cc in rw z
   at-map f (y ∷ s) (suc i) e = at-map f s i e
 
-  pub on-mapAt {μ} : {C : Type μ} (f : ℕ → A → B) (c : ℕ) (s : List A) {y : B} → y ∈ mapAt f c s → ((i : ℕ) (x : A) → getElem? s i ≡ some x → y ≡ f (c + i) x → C) → C
+  pub on-mapAt {μ} : {C : Type μ} (f : ℕ → A → B) (c : ℕ) (s : List A) {y : B} → y ∈ mapAt f c s
+      → ((i : ℕ) (x : A) → getElem? s i ≡ some x → y ≡ f (c + i) x → C) → C
   on-mapAt f c (x ∷ s) (here e) k = k 0 x refl (rw add-zero e)
   on-mapAt f c (x ∷ s) (there m) k = on-mapAt f (suc c) s m (λ i t a b. let z : suc c + i ≡ c + suc i = omega arith in k (suc i) t a (rw z at b))
 

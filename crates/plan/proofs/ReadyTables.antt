@@ -56,7 +56,8 @@ mutual
   stands (blank w) ws pre rest at e l = ap (λ xs. wordAt xs at) e ∙ getD-at pre w rest blankWord at l
   stands (node f ts) ws pre rest at e l = (
     ap (λ xs. wordAt xs at) e ∙ getD-at pre f (flattens ts ++ rest) blankWord at l,
-    standss ts ws (pre ++ (f ∷ [])) rest (at + 1) (e ∙ sym (append-assoc pre (f ∷ []) (flattens ts ++ rest))) (length-append pre (f ∷ []) ∙ ap (λ x. x + 1) l),
+    standss ts ws (pre ++ (f ∷ [])) rest (at + 1) (e ∙ sym (append-assoc pre (f ∷ []) (flattens ts ++ rest)))
+        (length-append pre (f ∷ []) ∙ ap (λ x. x + 1) l),
   )
 
   pub standss : (ts : Terms) (ws pre rest : List ℕ) (at : ℕ) → ws ≡ pre ++ (flattens ts ++ rest) → length pre ≡ at → Standss ws at ts
@@ -64,7 +65,8 @@ mutual
   standss (tcons t ts) ws pre rest at e l =
       let d : ws ≡ pre ++ (flatten t ++ (flattens ts ++ rest)) = e ∙ ap (λ xs. pre ++ xs) (append-assoc (flatten t) (flattens ts) rest) in (
         stands t ws pre (flattens ts ++ rest) at d l,
-        standss ts ws (pre ++ flatten t) rest (at + span t) (d ∙ sym (append-assoc pre (flatten t) (flattens ts ++ rest))) (length-append pre (flatten t) ∙ ap (λ x. x + length (flatten t)) l ∙ ap (λ x. at + x) (length-flatten t)),
+        standss ts ws (pre ++ flatten t) rest (at + span t) (d ∙ sym (append-assoc pre (flatten t) (flattens ts ++ rest)))
+            (length-append pre (flatten t) ∙ ap (λ x. x + length (flatten t)) l ∙ ap (λ x. at + x) (length-flatten t)),
       )
 
 pub shapes-stand : (ts : List Term) (ws pre : List ℕ) (at : ℕ) → ws ≡ pre ++ gather flatten ts → length pre ≡ at → (i : ℕ) (t : Term)
@@ -106,7 +108,11 @@ node-words ar few t s r h =
 -- ---- the tables
 pub tabled-of : (ar ws st tab : List ℕ) → 1280 ≤ length tab → ((k : ℕ) → k < 1280 → getD tab k 0 ≡ entryW ar ws st k) → Tabled tab
 tabled-of ar ws st tab long filled =
-    record { long = long; sizes = λ s h. size s h (decLt ((512 + 16 * s) / 16 % 16) (length st)) (decLt ((512 + 16 * s) % 16) (spanAt ar ws (getD st ((512 + 16 * s) / 16 % 16) 0))) }
+    record {
+      long = long;
+      sizes = λ s h. size s h (decLt ((512 + 16 * s) / 16 % 16) (length st))
+          (decLt ((512 + 16 * s) % 16) (spanAt ar ws (getD st ((512 + 16 * s) / 16 % 16) 0)));
+    }
   where
     size : (s : ℕ) → s < 16 → Dec ((512 + 16 * s) / 16 % 16 < length st)
         → Dec ((512 + 16 * s) % 16 < spanAt ar ws (getD st ((512 + 16 * s) / 16 % 16) 0)) → sizeOf tab s ≤ 16
@@ -176,7 +182,8 @@ ready ar ws st l tab good long e =
     ready-for ar ws st tab (g .0) (held ar ws st (g .1)) (rw (e, length-sets l 0 (entriesFrom ar ws st 0 1280)) long)
     (λ k h. ap (λ xs. getD xs k 0) e ∙ filled-is ar ws st l 1280 k long h)
 
-pub ready-shapes : (ar ws st l tab : List ℕ) (good : shapesGood ar ws st ≡ true) (long : 1280 ≤ length l) (e : tab ≡ sets l 0 (entriesFrom ar ws st 0 1280))
+pub ready-shapes : (ar ws st l tab : List ℕ) (good : shapesGood ar ws st ≡ true) (long : 1280 ≤ length l)
+    (e : tab ≡ sets l 0 (entriesFrom ar ws st 0 1280))
     → ready ar ws st l tab good long e .shapes ≡ shapeTerms ar ws
 unfolding ready ready-for held
 ready-shapes ar ws st l tab good long e = refl

@@ -72,7 +72,6 @@ module _ {file : List ℕ} (bytes : Below 256 file)
   was-opened : opened file tables ≡ _
   was-opened = ap (λ f. opened f tables) (sym of-file) ∙ sym opens
 
-
   same-build : {ar ar′ ws ws′ st st′ : List ℕ} (p s : List ℕ) → ar ≡ ar′ → ws ≡ ws′ → st ≡ st′ → buildOf ar ws st p s ≡ buildOf ar′ ws′ st′ p s
   same-build {ar′ = ar′} {ws′ = ws′} {st = st} p s ea ew et = ap₂ (λ x y. buildOf x y st p s) ea ew ∙ ap (λ x. buildOf ar′ ws′ x p s) et
 

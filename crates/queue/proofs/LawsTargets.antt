@@ -89,14 +89,16 @@ all-wider l l′ room to (x ∷ xs) h e =
     both (both (lt-ltb _ _ n′) (and-r (ltb (x .0) l) a)) (all-wider l l′ room to xs h (and-r (ltb (x .0) l && belowRoom room (to (x .1))) e))
 
 -- ---- all of them, and the targets
-pub fine-split : (l r : ℕ) (to : ℕ → Option ℕ) (ps : List (ℕ × ℕ)) → all (fine l r to) ps ≡ true → (targets l to ps ≡ some (landed to ps)) × (all (λ x. ltb (x .1) r) (landed to ps) ≡ true)
+pub fine-split : (l r : ℕ) (to : ℕ → Option ℕ) (ps : List (ℕ × ℕ)) → all (fine l r to) ps ≡ true → (targets l to ps ≡ some (landed to ps))
+    × (all (λ x. ltb (x .1) r) (landed to ps) ≡ true)
 unfolding fine landed targets
 fine-split l r to [] h = (refl, refl)
 fine-split l r to (x ∷ xs) h =
     let a : (ltb (x .0) l && belowRoom r (to (x .1))) ≡ true = and-l _ h in
     go (to (x .1)) refl (and-l _ a) (and-r (ltb (x .0) l) a) (fine-split l r to xs (and-r (ltb (x .0) l && belowRoom r (to (x .1))) h))
   where
-    go : (o : Option ℕ) → to (x .1) ≡ o → ltb (x .0) l ≡ true → belowRoom r o ≡ true → (targets l to xs ≡ some (landed to xs)) × (all (λ y. ltb (y .1) r) (landed to xs) ≡ true)
+    go : (o : Option ℕ) → to (x .1) ≡ o → ltb (x .0) l ≡ true → belowRoom r o ≡ true → (targets l to xs ≡ some (landed to xs))
+        × (all (λ y. ltb (y .1) r) (landed to xs) ≡ true)
         → (targets l to (x ∷ xs) ≡ some (landed to (x ∷ xs))) × (all (λ y. ltb (y .1) r) (landed to (x ∷ xs)) ≡ true)
     go (some y) e n q ih = (rw (n, e, ih .0), rw (e, q, ih .1))
     go none e n q ih = false-true q
@@ -118,21 +120,25 @@ fine-fail l r to (x ∷ xs) h = go (ltb (x .0) l) refl (to (x .1)) refl (all (fi
         one false k = refl
 
     go : (n : Bool) → ltb (x .0) l ≡ n → (o : Option ℕ) → to (x .1) ≡ o → (b : Bool) → all (fine l r to) xs ≡ b
-        → (all (fine l r to) xs ≡ true → (targets l to xs ≡ some (landed to xs)) × (all (λ y. ltb (y .1) r) (landed to xs) ≡ true)) → (all (fine l r to) xs ≡ false → Fails xs) → Fails (x ∷ xs)
+        → (all (fine l r to) xs ≡ true → (targets l to xs ≡ some (landed to xs)) × (all (λ y. ltb (y .1) r) (landed to xs) ≡ true))
+        → (all (fine l r to) xs ≡ false → Fails xs) → Fails (x ∷ xs)
     go false n o e b q good bad = inl (rw n)
     go true n none e b q good bad = inl (rw (n, e))
     go true n (some y) e true q good bad = inr (rw (n, e, good q .0), rw (e, first y n e q))
     go true n (some y) e false q good bad = ⊎-elim
         (λ (t : targets l to xs ≡ none). inl (rw (n, e, t)))
-        (λ (t : (targets l to xs ≡ some (landed to xs)) × (all (λ z. ltb (z .1) r) (landed to xs) ≡ false)). inr (rw (n, e, t .0), rw e (and-false (ltb y r) (t .1))))
+        (λ (t : (targets l to xs ≡ some (landed to xs)) × (all (λ z. ltb (z .1) r) (landed to xs) ≡ false)). inr
+        (rw (n, e, t .0), rw e (and-false (ltb y r) (t .1))))
         (bad q)
 
-pub fine-small : (l : ℕ) (to : ℕ → Option ℕ) → ((c y : ℕ) → to c ≡ some y → y < 65536) → (ps : List (ℕ × ℕ)) → all (fine l 65536 to) ps ≡ false → targets l to ps ≡ none
+pub fine-small : (l : ℕ) (to : ℕ → Option ℕ) → ((c y : ℕ) → to c ≡ some y → y < 65536) → (ps : List (ℕ × ℕ)) → all (fine l 65536 to) ps ≡ false
+    → targets l to ps ≡ none
 unfolding fine targets
 fine-small l to small [] h = false-true (sym h)
 fine-small l to small (x ∷ xs) h = go (ltb (x .0) l) refl (to (x .1)) refl (fine-small l to small xs)
   where
-    go : (n : Bool) → ltb (x .0) l ≡ n → (o : Option ℕ) → to (x .1) ≡ o → (all (fine l 65536 to) xs ≡ false → targets l to xs ≡ none) → targets l to (x ∷ xs) ≡ none
+    go : (n : Bool) → ltb (x .0) l ≡ n → (o : Option ℕ) → to (x .1) ≡ o → (all (fine l 65536 to) xs ≡ false → targets l to xs ≡ none)
+        → targets l to (x ∷ xs) ≡ none
     go false n o e ih = rw n
     go true n none e ih = rw (n, e)
     go true n (some y) e ih =
@@ -158,7 +164,8 @@ module _ (to : ℕ → Option ℕ) (ws : List ℕ) (b n : ℕ) where
   marks-end ms h = rw (pairList-end ws b n h)
 
   pub items-next : (xs : List ℕ) (e x : ℕ) → 0 < n → x ≡ orElse (to (getD ws (b + 1) 0)) 0
-      → sets xs e (pairWords (landed to (pairList ws b n))) ≡ sets (set (set xs e (getD ws b 0)) (e + 1) x) (e + 2) (pairWords (landed to (pairList ws (b + 2) (n - 1))))
+      → sets xs e (pairWords (landed to (pairList ws b n))) ≡ sets (set (set xs e (getD ws b 0)) (e + 1) x) (e + 2)
+      (pairWords (landed to (pairList ws (b + 2) (n - 1))))
   unfolding landed
   items-next xs e x h ex =
       let e₁ : e + 1 ≡ suc e = omega arith in

@@ -77,7 +77,8 @@ pairs-list (suc n) ws b h =
     let e₂ : suc b ≡ b + 1 = omega arith in
     let e₃ : b + 2 + 2 * n ≡ b + 2 * suc n = omega arith in
     ap (λ (l : List ℕ). pairs (suc n) l) (d₁ ∙ ap (λ (l : List ℕ). a ∷ l) d₂)
-    ∙ ap (λ (o : Option (List (ℕ × ℕ) × List ℕ)). bind o (λ r. some ((a, getD ws (suc b) 0) ∷ r .0, r .1))) (ap (λ (k : ℕ). pairs n (drop k ws)) e₁ ∙ pairs-list n ws (b + 2) (omega arith))
+    ∙ ap (λ (o : Option (List (ℕ × ℕ) × List ℕ)). bind o (λ r. some ((a, getD ws (suc b) 0) ∷ r .0, r .1)))
+    (ap (λ (k : ℕ). pairs n (drop k ws)) e₁ ∙ pairs-list n ws (b + 2) (omega arith))
     ∙ ap₂ (λ (y k : ℕ). some ((a, getD ws y 0) ∷ pairList ws (b + 2) n, drop k ws)) e₂ e₃
 
 pub pairs-none : (n : ℕ) (ws : List ℕ) → length ws < 2 * n → pairs n ws ≡ none
@@ -87,7 +88,8 @@ pairs-none (suc n) [] h = refl
 pairs-none (suc n) (a ∷ []) h = refl
 pairs-none (suc n) (a ∷ b ∷ ws) h = rw (pairs-none n ws (omega arith))
 
-pub counted-list : (ws : List ℕ) (b : ℕ) → b + 1 + 2 * getD ws b 0 ≤ length ws → countedPairs (drop b ws) ≡ some (pairList ws (b + 1) (getD ws b 0), drop (b + 1 + 2 * getD ws b 0) ws)
+pub counted-list : (ws : List ℕ) (b : ℕ) → b + 1 + 2 * getD ws b 0 ≤ length ws
+    → countedPairs (drop b ws) ≡ some (pairList ws (b + 1) (getD ws b 0), drop (b + 1 + 2 * getD ws b 0) ws)
 unfolding countedPairs
 counted-list ws b h =
     let e : suc b ≡ b + 1 = omega arith in
@@ -152,5 +154,7 @@ pairWords-list (suc n) ws b h =
     let e₁ : suc (suc b) ≡ b + 2 = omega arith in
     let e₂ : suc b ≡ b + 1 = omega arith in
     let e₃ : 2 * suc n ≡ suc (suc (2 * n)) = omega arith in
-    ap₂ (λ (y : ℕ) (l : List ℕ). getD ws b 0 ∷ getD ws y 0 ∷ l) (sym e₂) (pairWords-list n ws (b + 2) (omega arith) ∙ ap (λ (k : ℕ). take (2 * n) (drop k ws)) (sym e₁))
-    ∙ sym (ap₂ (λ (k : ℕ) (l : List ℕ). take k l) e₃ (drop-cons ws b 0 (omega arith) ∙ ap (λ (l : List ℕ). getD ws b 0 ∷ l) (drop-cons ws (suc b) 0 (omega arith))))
+    ap₂ (λ (y : ℕ) (l : List ℕ). getD ws b 0 ∷ getD ws y 0 ∷ l) (sym e₂)
+    (pairWords-list n ws (b + 2) (omega arith) ∙ ap (λ (k : ℕ). take (2 * n) (drop k ws)) (sym e₁))
+    ∙ sym (ap₂ (λ (k : ℕ) (l : List ℕ). take k l) e₃
+    (drop-cons ws b 0 (omega arith) ∙ ap (λ (l : List ℕ). getD ws b 0 ∷ l) (drop-cons ws (suc b) 0 (omega arith))))

@@ -53,7 +53,8 @@ is-zero n e = rw e
 pub not-zero : (n : ℕ) → (n ≡ 0 → ⊥) → ltb 0 n ≡ true
 not-zero n h = lt-ltb 0 n (omega arith)
 
-pub counts-last : (plan : List ℕ) → 4 ≤ length plan → (getD plan 0 0 ≡ 0 → ⊥) → getD plan 0 0 ≤ 128 → (getD plan 1 0 ≡ 0 → ⊥) → getD plan 1 0 ≤ 32 → (getD plan 2 0 ≡ 0 → ⊥)
+pub counts-last : (plan : List ℕ) → 4 ≤ length plan → (getD plan 0 0 ≡ 0 → ⊥) → getD plan 0 0 ≤ 128 → (getD plan 1 0 ≡ 0 → ⊥) → getD plan 1 0 ≤ 32
+    → (getD plan 2 0 ≡ 0 → ⊥)
     → countsGood plan ≡ leb (getD plan 2 0) 16
 counts-last plan h a b c d e = rw (le-leb _ _ h, not-zero _ a, le-leb _ _ b, not-zero _ c, le-leb _ _ d, not-zero _ e)
 
@@ -97,11 +98,13 @@ module _ (plan : List ℕ) (m k s f : ℕ) where
   unfolding blockStart
   start-out h g l = rw (lt-ltb _ _ h, lt-ltb _ _ g, getElem-none _ _ l)
 
-  pub start-cut : s < m → f < k → 4 + m + (s * k + f) < length plan → blockFits plan (getD plan (4 + m + (s * k + f)) 0) ≡ false → blockStart plan m k s f ≡ none
+  pub start-cut : s < m → f < k → 4 + m + (s * k + f) < length plan → blockFits plan (getD plan (4 + m + (s * k + f)) 0) ≡ false
+      → blockStart plan m k s f ≡ none
   unfolding blockStart
   start-cut h g l e = rw (lt-ltb _ _ h, lt-ltb _ _ g, getElem-some _ _ l, e)
 
-  pub start-at : s < m → f < k → 4 + m + (s * k + f) < length plan → blockFits plan (getD plan (4 + m + (s * k + f)) 0) ≡ true → blockStart plan m k s f ≡ some (getD plan (4 + m + (s * k + f)) 0)
+  pub start-at : s < m → f < k → 4 + m + (s * k + f) < length plan → blockFits plan (getD plan (4 + m + (s * k + f)) 0) ≡ true
+      → blockStart plan m k s f ≡ some (getD plan (4 + m + (s * k + f)) 0)
   unfolding blockStart
   start-at h g l e = rw (lt-ltb _ _ h, lt-ltb _ _ g, getElem-some _ _ l, e)
 
@@ -115,7 +118,8 @@ module _ (plan : List ℕ) (m k s f : ℕ) where
       let z : a ≡ b = cc in rw z at t₃
 
   -- a start that is answered: the whole block lies within the words
-  pub start-in : {r : Start} (b : ℕ) → begins r ≡ blockStart plan m k s f → r ≡ start.At b → middle plan b + 1 + 2 * getD plan (middle plan b) 0 ≤ length plan
+  pub start-in : {r : Start} (b : ℕ) → begins r ≡ blockStart plan m k s f → r ≡ start.At b
+      → middle plan b + 1 + 2 * getD plan (middle plan b) 0 ≤ length plan
   start-in b e d = fits-in plan b (start-fits (sym e ∙ ap begins d))
 
   pub block-start : blockOf plan m k s f ≡ bind (blockStart plan m k s f) (λ b. some (outsAt plan b, nextsAt plan b))
@@ -126,7 +130,8 @@ module _ (plan : List ℕ) (m k s f : ℕ) where
       whole b true e = block-list plan b e
       whole b false e = block-none plan b e
 
-      go : (t u : Bool) (o : Option ℕ) → need t (need u (bind o (λ b. blockAt (drop b plan)))) ≡ bind (need t (need u (bind o (λ b. need (blockFits plan b) (some b))))) (λ b. some (outsAt plan b, nextsAt plan b))
+      go : (t u : Bool) (o : Option ℕ) → need t (need u (bind o (λ b. blockAt (drop b plan)))) ≡ bind
+          (need t (need u (bind o (λ b. need (blockFits plan b) (some b))))) (λ b. some (outsAt plan b, nextsAt plan b))
       go true true (some b) = whole b (blockFits plan b) refl
       go true true none = refl
       go true false o = refl
@@ -188,7 +193,8 @@ module _ (plan : List ℕ) (m k : ℕ) where
     unfolding labelOf
     label-none e = rw (good, no-label (labelWord plan m s) e)
 
-    pub label-bad : (c : ℕ) → toLabel (labelWord plan m s) ≡ label.At (position c) → codeGood c ≡ false → labelOf plan m k s ≡ label.Refused OutOfRange
+    pub label-bad : (c : ℕ) → toLabel (labelWord plan m s) ≡ label.At (position c) → codeGood c ≡ false
+        → labelOf plan m k s ≡ label.Refused OutOfRange
     unfolding labelOf
     label-bad c e n = rw (good, a-label (labelWord plan m s) e, n)
 
@@ -208,8 +214,16 @@ module _ (plan : List ℕ) (m k : ℕ) where
       module _ (b : ℕ) (e : blockStart plan m k s f ≡ some b) where
         pub lengths-some : lengthsOf plan m k s f ≡ block.Of (record { announcements = getD plan b 0; successors = getD plan (middle plan b) 0 })
         unfolding lengthsOf
-        lengths-some = rw (good, block-start plan m k s f, e, pairList-length (getD plan b 0) plan (b + 1), pairList-length (getD plan (middle plan b) 0) plan (middle plan b + 1))
+        lengths-some = rw (
+          good,
+          block-start plan m k s f,
+          e,
+          pairList-length (getD plan b 0) plan (b + 1),
+          pairList-length
+              (getD plan (middle plan b) 0) plan (middle plan b + 1),
+        )
 
-        pub pair-in : (nexts : Bool) (i : ℕ) → pairIn nexts plan m k s f i ≡ cond nexts (pairAt m (nextsAt plan b) i) (pairAt (getD plan 2 0) (outsAt plan b) i)
+        pub pair-in : (nexts : Bool) (i : ℕ)
+            → pairIn nexts plan m k s f i ≡ cond nexts (pairAt m (nextsAt plan b) i) (pairAt (getD plan 2 0) (outsAt plan b) i)
         unfolding pairIn
         pair-in nexts i = rw (good, block-start plan m k s f, e)

@@ -33,7 +33,8 @@ abbrev pub within : ℕ → ℕ → Bool
 within most n = ltb 0 n && leb n most
 
 abbrev pub countsGood : List ℕ → Bool
-countsGood plan = leb 4 (length plan) && (within mostStates (getD plan 0 0) && (within mostSymbols (getD plan 1 0) && within mostShapes (getD plan 2 0)))
+countsGood plan = leb 4 (length plan) &&
+    (within mostStates (getD plan 0 0) && (within mostSymbols (getD plan 1 0) && within mostShapes (getD plan 2 0)))
 
 unfoldable pub pairs : ℕ → List ℕ → Option (List (ℕ × ℕ) × List ℕ)
 pairs zero ws = some ([], ws)
@@ -83,7 +84,8 @@ lengthsOf plan m k s f = toLengths (need (viewGood plan m k) (blockOf plan m k s
 
 -- pair i of a block: of its announcements, whose numbers are shapes; or of its successors, whose numbers are states
 unfoldable pub pairIn : Bool → List ℕ → ℕ → ℕ → ℕ → ℕ → ℕ → Option (ℕ × ℕ)
-pairIn nexts plan m k s f i = need (viewGood plan m k) (bind (blockOf plan m k s f) (λ b. cond nexts (pairAt m (b .1) i) (pairAt (getD plan 2 0) (b .0) i)))
+pairIn nexts plan m k s f i = need (viewGood plan m k)
+    (bind (blockOf plan m k s f) (λ b. cond nexts (pairAt m (b .1) i) (pairAt (getD plan 2 0) (b .0) i)))
 
 abbrev pub toAnnouncement : Option (ℕ × ℕ) → Announcement
 toAnnouncement none = announcement.Refused OutOfRange

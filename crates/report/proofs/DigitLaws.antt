@@ -25,14 +25,16 @@ unfolding digitsTo
 digits-single n zero o at ne h = absurd (ne refl)
 digits-single n (suc d) o at ne h = rw (lt-ltb n 10 h) (refl, (refl, omega arith))
 
-pub digits-more : (n d : ℕ) (o : List ℕ) (at e : ℕ) (o′ : List ℕ) → (d ≡ 0 → ⊥) → 10 ≤ n → Done (n / 10) (d - 1) o at e o′ → Done n d o at (e + 1) (set o′ e (48 + n % 10))
+pub digits-more : (n d : ℕ) (o : List ℕ) (at e : ℕ) (o′ : List ℕ) → (d ≡ 0 → ⊥) → 10 ≤ n → Done (n / 10) (d - 1) o at e o′
+    → Done n d o at (e + 1) (set o′ e (48 + n % 10))
 unfolding digitsTo
 digits-more n zero o at e o′ ne h t = absurd (ne refl)
 digits-more n (suc d) o at e o′ ne h t =
     let q : suc d - 1 ≡ d = omega arith in
     let te : e ≡ at + length (digitsTo d (n / 10)) = t .0 ∙ ap (λ (k : ℕ). at + length (digitsTo k (n / 10))) q in
     let to : o′ ≡ sets o at (digitsTo d (n / 10)) = t .1 .0 ∙ ap (λ (k : ℕ). sets o at (digitsTo k (n / 10))) q in
-    let l : length (digitsTo d (n / 10) ++ ((48 + n % 10) ∷ [])) ≡ length (digitsTo d (n / 10)) + 1 = length-append (digitsTo d (n / 10)) ((48 + n % 10) ∷ []) in
+    let l : length (digitsTo d (n / 10) ++ ((48 + n % 10) ∷ [])) ≡ length (digitsTo d (n / 10)) + 1 =
+    length-append (digitsTo d (n / 10)) ((48 + n % 10) ∷ []) in
     let few : e ≤ at + d = omega (arith, t .1 .1) in
     rw (le-ltb n 10 h) (
       omega arith,

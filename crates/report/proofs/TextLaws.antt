@@ -46,8 +46,10 @@ put-then {o₀} {o} {o′} {a} {b} {c} {xs} {ys} p q = record {
 }
 
 -- what is left of a text from byte i on
-pub text-next : (o t : List ℕ) (at i : ℕ) → i < length t → sets o (at + i) (drop i t) ≡ sets (set o (at + i) (getD t i 0)) (at + (i + 1)) (drop (i + 1) t)
-text-next o t at i h = let z : suc (at + i) ≡ at + (i + 1) = omega arith in ap (sets o (at + i)) (from t i h) ∙ ap (λ k. sets (set o (at + i) (getD t i 0)) k (drop (i + 1) t)) z
+pub text-next : (o t : List ℕ) (at i : ℕ) → i < length t
+    → sets o (at + i) (drop i t) ≡ sets (set o (at + i) (getD t i 0)) (at + (i + 1)) (drop (i + 1) t)
+text-next o t at i h = let z : suc (at + i) ≡ at + (i + 1) = omega arith in
+    ap (sets o (at + i)) (from t i h) ∙ ap (λ k. sets (set o (at + i) (getD t i 0)) k (drop (i + 1) t)) z
 
 pub text-end : (o t : List ℕ) (at i : ℕ) → length t ≤ i → sets o (at + i) (drop i t) ≡ o
 text-end o t at i h = ap (sets o (at + i)) (from-end t i h)
@@ -77,7 +79,8 @@ dotted-few (i ∷ p) = let ih = dotted-few p in let f = digits-few 20 i in rw (l
 pub text-few : (p : Pos) → length (pathText p) ≤ 21 * length p + 1
 unfolding pathText
 text-few [] = omega arith
-text-few (i ∷ p) = let f = digits-short i in let g = dotted-few p in let e : length (pathText (i ∷ p)) ≡ length (digits i) + length (dotted p) = ap length (dotted-is i p) ∙ length-append (digits i) (dotted p) in omega arith
+text-few (i ∷ p) = let f = digits-short i in let g = dotted-few p in let e : length (pathText (i ∷ p)) ≡ length (digits i) + length (dotted p) =
+    ap length (dotted-is i p) ∙ length-append (digits i) (dotted p) in omega arith
 
 -- what a call says of a piece that it wrote, of at most so many bytes
 abbrev pub Wrote : ℕ → List ℕ → ℕ → List ℕ → List ℕ → ℕ → Type 0
@@ -101,7 +104,8 @@ unfolding digits
 dots-next {p} {o₀} {o} {a₀} {a} {i} o′ e d h q t =
     let s = dotted-next p i h in
     let few = digits-few 20 (getD p i 0) in
-    let l : length (dotted (drop i p)) ≡ suc (length (digitsTo 20 (getD p i 0)) + length (dotted (drop (i + 1) p))) = ap length s ∙ ap suc (length-append (digitsTo 20 (getD p i 0)) (dotted (drop (i + 1) p))) in
+    let l : length (dotted (drop i p)) ≡ suc (length (digitsTo 20 (getD p i 0)) + length (dotted (drop (i + 1) p))) =
+    ap length s ∙ ap suc (length-append (digitsTo 20 (getD p i 0)) (dotted (drop (i + 1) p))) in
     let r = d .room in let n = d .end in
     record {
       long = ap length t ∙ length-sets (set o a 46) (a + 1) (digitsTo 20 (getD p i 0)) ∙ length-set o a 46 ∙ d .long;
@@ -110,7 +114,8 @@ dots-next {p} {o₀} {o} {a₀} {a} {i} o′ e d h q t =
       room = omega arith;
       end = omega arith;
       text = d .text ∙ ap (sets o a) s ∙ ap (λ k. sets (set o a 46) k (digitsTo 20 (getD p i 0) ++ dotted (drop (i + 1) p))) (sym (add-one a))
-          ∙ sets-append (set o a 46) (a + 1) (digitsTo 20 (getD p i 0)) (dotted (drop (i + 1) p)) ∙ ap₂ (λ x k. sets x k (dotted (drop (i + 1) p))) (sym t) (sym q);
+          ∙ sets-append (set o a 46) (a + 1) (digitsTo 20 (getD p i 0)) (dotted (drop (i + 1) p))
+          ∙ ap₂ (λ x k. sets x k (dotted (drop (i + 1) p))) (sym t) (sym q);
     }
 
 pub dots-end : {p : Pos} {o₀ o : List ℕ} {a₀ a i : ℕ} (z : List ℕ) (at : ℕ) → Dots p o₀ a₀ o a i → length p ≤ i
@@ -122,10 +127,12 @@ dots-end {p} {o₀} {o} {a₀} {a} {i} z at d h q t =
     let w : pathText p ≡ digitsTo 20 (getD p 0 0) ++ dotted (drop 1 p) = whole p (omega (arith, d .some, d .inside)) in
     let e = d .end in
     let l : length (dotted (drop i p)) ≡ 0 = ap length s in
-    let m : length (pathText p) ≡ length (digitsTo 20 (getD p 0 0)) + length (dotted (drop 1 p)) = ap length w ∙ length-append (digitsTo 20 (getD p 0 0)) (dotted (drop 1 p)) in (
+    let m : length (pathText p) ≡ length (digitsTo 20 (getD p 0 0)) + length (dotted (drop 1 p)) =
+    ap length w ∙ length-append (digitsTo 20 (getD p 0 0)) (dotted (drop 1 p)) in (
       omega arith,
       (
-        sym (ap (sets z at) w ∙ sets-append z at (digitsTo 20 (getD p 0 0)) (dotted (drop 1 p)) ∙ ap₂ (λ x k. sets x k (dotted (drop 1 p))) (sym t) (sym q) ∙ d .text ∙ ap (sets o a) s),
+        sym (ap (sets z at) w ∙ sets-append z at (digitsTo 20 (getD p 0 0)) (dotted (drop 1 p))
+            ∙ ap₂ (λ x k. sets x k (dotted (drop 1 p))) (sym t) (sym q) ∙ d .text ∙ ap (sets o a) s),
         omega (arith, text-few p),
       ),
     )
@@ -134,7 +141,8 @@ dots-end {p} {o₀} {o} {a₀} {a} {i} z at d h q t =
     whole [] g = absurd (omega arith)
     whole (j ∷ r) g = dotted-is j r
 
-pub path-root : (p : Pos) (o o′ : List ℕ) (a e : ℕ) → length p ≡ 0 → (e ≡ a + 1) × (o′ ≡ sets o a (45 ∷ [])) → Wrote (21 * length p + 1) o a (pathText p) o′ e
+pub path-root : (p : Pos) (o o′ : List ℕ) (a e : ℕ) → length p ≡ 0 → (e ≡ a + 1) × (o′ ≡ sets o a (45 ∷ []))
+    → Wrote (21 * length p + 1) o a (pathText p) o′ e
 unfolding pathText
 path-root [] o o′ a e z h = (h .0, (h .1, omega (arith, h .0)))
 path-root (i ∷ p) o o′ a e z h = absurd (omega arith)
@@ -154,12 +162,14 @@ piece most ws h = record { end = h .0; text = h .1 .0 }
 text : {o o′ : List ℕ} {a e : ℕ} (ws : List ℕ) → (e ≡ a + length ws) × (o′ ≡ sets o a ws) → Put o a ws o′ e
 text ws h = record { end = h .0; text = h .1 }
 
-pub field-is : {o′ o″ : List ℕ} {b c : ℕ} (o : List ℕ) (a : ℕ) (ws : List ℕ) (n : ℕ) → (b ≡ a + length ws) × (o′ ≡ sets o a ws) → Wrote 20 o′ b (digitsTo 20 n) o″ c → Wrote (length ws + 20) o a (field ws n) o″ c
+pub field-is : {o′ o″ : List ℕ} {b c : ℕ} (o : List ℕ) (a : ℕ) (ws : List ℕ) (n : ℕ) → (b ≡ a + length ws) × (o′ ≡ sets o a ws)
+    → Wrote 20 o′ b (digitsTo 20 n) o″ c → Wrote (length ws + 20) o a (field ws n) o″ c
 unfolding digits
 field-is o a ws n h d = let p = put-then (text ws h) (piece 20 (digitsTo 20 n) d) in (p .end, (p .text, omega (arith, h .0, d .1 .1)))
 
 pub first-is : (n s m c : ℕ) (o : List ℕ) {o₁ o₂ o₃ o₄ o₅ : List ℕ} {a₁ a₂ a₃ a₄ a₅ : ℕ} → 1400 ≤ length o
-    → Wrote 26 o 0 (field (bytes "nodes ") n) o₁ a₁ → Wrote 28 o₁ a₁ (field (bytes " states ") s) o₂ a₂ → Wrote 29 o₂ a₂ (field (bytes " matches ") m) o₃ a₃
+    → Wrote 26 o 0 (field (bytes "nodes ") n) o₁ a₁ → Wrote 28 o₁ a₁ (field (bytes " states ") s) o₂ a₂
+    → Wrote 29 o₂ a₂ (field (bytes " matches ") m) o₃ a₃
     → Wrote 29 o₃ a₃ (field (bytes " clashes ") c) o₄ a₄ → (a₅ ≡ a₄ + 1) × (o₅ ≡ sets o₄ a₄ (bytes "\n")) → outOf (Bytes a₅) o₅ ≡ firstOut n s m c o
 first-is n s m c o room p₁ p₂ p₃ p₄ p₅ =
     line-is room
@@ -177,7 +187,8 @@ refusal-is r p {k} o room e p₁ p₂ p₃ =
 
 pub match-is : (x j : ℕ) (p : Pos) (most : ℕ) (o : List ℕ) {o₁ o₂ o₃ o₄ o₅ : List ℕ} {a₁ a₂ a₃ a₄ a₅ : ℕ} → 1400 ≤ length o
     → Wrote 20 o 0 (digitsTo 20 x) o₁ a₁ → Wrote 21 o₁ a₁ (field (bytes " ") j) o₂ a₂ → (a₃ ≡ a₂ + 1) × (o₃ ≡ sets o₂ a₂ (bytes " "))
-    → Wrote most o₃ a₃ (pathText p) o₄ a₄ → (a₅ ≡ a₄ + 1) × (o₅ ≡ sets o₄ a₄ (bytes "\n")) → outOf (Bytes a₅) o₅ ≡ written (matchLine (matchAt x j) p) o
+    → Wrote most o₃ a₃ (pathText p) o₄ a₄ → (a₅ ≡ a₄ + 1) × (o₅ ≡ sets o₄ a₄ (bytes "\n"))
+    → outOf (Bytes a₅) o₅ ≡ written (matchLine (matchAt x j) p) o
 unfolding digits
 match-is x j p most o room p₁ p₂ p₃ p₄ p₅ =
     line-is room

@@ -27,7 +27,8 @@ words-end (x ∷ []) zero h = refl
 words-end (x ∷ y ∷ r) zero h = absurd (omega arith)
 words-end (x ∷ b) (suc i) h = words-end b i (omega arith)
 
-pub fill-next : (o b : List ℕ) (k i : ℕ) → i + 1 < length b → sets o k (wordsOf (drop i b)) ≡ sets (set o k (wordAt b i)) (k + 1) (wordsOf (drop (i + 2) b))
+pub fill-next : (o b : List ℕ) (k i : ℕ) → i + 1 < length b
+    → sets o k (wordsOf (drop i b)) ≡ sets (set o k (wordAt b i)) (k + 1) (wordsOf (drop (i + 2) b))
 fill-next o b k i h = ap (sets o k) (words-next b i h) ∙ ap (λ (n : ℕ). sets (set o k (wordAt b i)) n (wordsOf (drop (i + 2) b))) (sym (add-one k))
 
 pub fill-end : (o b : List ℕ) (k i : ℕ) → length b ≤ i + 1 → sets o k (wordsOf (drop i b)) ≡ o

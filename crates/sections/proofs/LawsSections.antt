@@ -68,7 +68,8 @@ module _ (s : List ℕ) where
   unfolding trailerOf
   trailer-first a b h = rw (le-leb 8 (length s) a, le-leb (length s) 8744 b, ne-eqb _ _ h)
 
-  pub trailer-second : 8 ≤ length s → length s ≤ 8744 → getD s (length s - 2) 0 ≡ 83 → (getD s (length s - 1) 0 ≡ 67 → ⊥) → trailerOf s ≡ Refused EndBytes (length s - 2)
+  pub trailer-second : 8 ≤ length s → length s ≤ 8744 → getD s (length s - 2) 0 ≡ 83 → (getD s (length s - 1) 0 ≡ 67 → ⊥)
+      → trailerOf s ≡ Refused EndBytes (length s - 2)
   unfolding trailerOf
   trailer-second a b c h = rw (le-leb 8 (length s) a, le-leb (length s) 8744 b, eq-eqb _ _ c, ne-eqb _ _ h)
 
@@ -76,7 +77,8 @@ pub trailer-to : (s : List ℕ) → 8 ≤ length s → length s ≤ 8744 → get
     → a ≡ wordAt s (length s - 8) → b ≡ wordAt s (length s - 6) → c ≡ wordAt s (length s - 4) → trailerOf s ≡ distancesOf (length s - 8) a b c
 unfolding trailerOf
 trailer-to s h1 h2 h3 h4 {a} {b} {c} ea eb ec =
-    let e : trailerOf s ≡ distancesOf (length s - 8) (wordAt s (length s - 8)) (wordAt s (length s - 6)) (wordAt s (length s - 4)) = rw (le-leb _ _ h1, le-leb _ _ h2, eq-eqb _ _ h3, eq-eqb _ _ h4) in
+    let e : trailerOf s ≡ distancesOf (length s - 8) (wordAt s (length s - 8)) (wordAt s (length s - 6)) (wordAt s (length s - 4)) =
+    rw (le-leb _ _ h1, le-leb _ _ h2, eq-eqb _ _ h3, eq-eqb _ _ h4) in
     rw (ea, eb, ec) e
 
 pub distances-at : (e a b c : ℕ) → a ≡ e → b ≤ a → c ≤ b → b % 2 ≡ 0 → c % 2 ≡ 0 → distancesOf e a b c ≡ At (places (e - b) (e - c) e)
@@ -99,11 +101,13 @@ pub record Placed (s : List ℕ) (p : Places) : Type 0 where
 pub never {κ} : {C : Type κ} {r : Reason} {q : ℕ} {p : Places} → Refused r q ≡ At p → C
 never e = let z : _≡_ {A = ℕ} 0 1 = cc in absurd (omega arith)
 
-on-unless {κ} : {C : Type κ} (t : Bool) (r : Reason) (q : ℕ) (x : Sections) (p : Places) → unless t (Refused r q) x ≡ At p → (t ≡ true → x ≡ At p → C) → C
+on-unless {κ} : {C : Type κ} (t : Bool) (r : Reason) (q : ℕ) (x : Sections) (p : Places) → unless t (Refused r q) x ≡ At p → (t ≡ true → x ≡ At p → C)
+    → C
 on-unless true r q x p e k = k refl e
 on-unless false r q x p e k = never e
 
-pub distances-in : (e a b c : ℕ) (p : Places) → distancesOf e a b c ≡ At p → (b ≤ e) × (c ≤ b) × (b % 2 ≡ 0) × (c % 2 ≡ 0) × (p ≡ places (e - b) (e - c) e)
+pub distances-in : (e a b c : ℕ) (p : Places) → distancesOf e a b c ≡ At p → (b ≤ e) × (c ≤ b) × (b % 2 ≡ 0) × (c % 2 ≡ 0)
+    × (p ≡ places (e - b) (e - c) e)
 unfolding distancesOf
 distances-in e a b c p h =
     on-unless (eqb a e) Trailer e _ p h λ t1 h1.
@@ -123,9 +127,11 @@ trailer-in s p h =
     on-unless (leb (length s) 8744) Long (length s) _ p h1 λ t2 h2.
     on-unless (eqb (getD s (length s - 2) 0) 83) EndBytes (length s - 2) _ p h2 λ t3 h3.
     on-unless (eqb (getD s (length s - 1) 0) 67) EndBytes (length s - 2) _ p h3 λ t4 h4.
-    placed (leb-true 8 (length s) t1) (leb-true (length s) 8744 t2) (wordAt s (length s - 6)) (wordAt s (length s - 4)) (distances-in (length s - 8) (wordAt s (length s - 8)) (wordAt s (length s - 6)) (wordAt s (length s - 4)) p h4)
+    placed (leb-true 8 (length s) t1) (leb-true (length s) 8744 t2) (wordAt s (length s - 6)) (wordAt s (length s - 4))
+    (distances-in (length s - 8) (wordAt s (length s - 8)) (wordAt s (length s - 6)) (wordAt s (length s - 4)) p h4)
   where
-    placed : 8 ≤ length s → length s ≤ 8744 → (b c : ℕ) → (b ≤ length s - 8) × (c ≤ b) × (b % 2 ≡ 0) × (c % 2 ≡ 0) × (p ≡ places (length s - 8 - b) (length s - 8 - c) (length s - 8)) → Placed s p
+    placed : 8 ≤ length s → length s ≤ 8744 → (b c : ℕ) → (b ≤ length s - 8) × (c ≤ b) × (b % 2 ≡ 0) × (c % 2 ≡ 0)
+        × (p ≡ places (length s - 8 - b) (length s - 8 - c) (length s - 8)) → Placed s p
     placed u v b c d =
         rw (d .4) (record {
           first = omega (arith, d .0, d .1);
@@ -162,7 +168,8 @@ pub sections-good : (s : List ℕ) (p : Places) → trailerOf s ≡ At p → sym
 unfolding sectionsOf
 sections-good s p e g = ap (withSymbols s) e ∙ rw g
 
-pub sections-symbols : (s : List ℕ) (p : Places) {r : Reason} {i : ℕ} → trailerOf s ≡ At p → symbolsOf (take (p .shapes) s) ≡ Bad r i → sectionsOf s ≡ Refused r i
+pub sections-symbols : (s : List ℕ) (p : Places) {r : Reason} {i : ℕ} → trailerOf s ≡ At p → symbolsOf (take (p .shapes) s) ≡ Bad r i
+    → sectionsOf s ≡ Refused r i
 unfolding sectionsOf
 sections-symbols s p e g = ap (withSymbols s) e ∙ rw g
 

@@ -135,7 +135,14 @@ module _ {sc : List ℕ} {m : ℕ} (kept : Kept sc m) {K : List GoalWords} {lift
       ∙ ap (λ g. statesIn sc m ++ (g ∷ [])) (l .up) in
       let is = meet-new (words [] 0) (statesIn sc m) K small (omega (arith, place)) (omega arith) in
       let one : List Succ = record { to = length (statesIn sc m); by = words [] 0 .gcp K } ∷ [] in (
-        record { kept = rw e (kept-added sc m lifted k (kept .long) lt few have kept); succs = one; is = is ∙ ap (λ ss. met ss one) (sym grown); sum = refl; few = omega arith },
+        record {
+          kept = rw e (kept-added sc m lifted k (kept .long) lt few have kept);
+          succs = one;
+          is = is ∙ ap (λ ss. met ss one) (sym grown);
+          sum =
+              refl;
+          few = omega arith;
+        },
         ap (drop statesWords) e ∙ added-behind sc m lifted k (kept .long) lt few have,
       )
 
@@ -145,15 +152,17 @@ meets-one-length : (ss : List (List GoalWords)) (K : List GoalWords) (ss′ : Li
 meets-one-length ss K ss′ ys e = meet-found (words [] 0) ss K ss′ ys e .count
 
 -- ---- classes in turn
-pub record Meeting (d : Square) (ws : List ℕ) (n : ℕ) (order : List ℕ) (base : ℕ) (sc₀ : List ℕ) (m : ℕ) (sc : List ℕ) (states count j : ℕ) : Type 0 where
-  pub below : j ≤ length order
-  pub kept : Kept sc states
-  pub long : length sc ≡ length sc₀
-  pub behind : Behind sc₀ sc
-  pub sum : count ≡ base + 2 * j
-  pub xs : List Succ
-  pub many : length xs ≡ j
-  pub is : meets (words [] 0) (statesIn sc₀ m) (classesBy d ws n order) ≡ onto (words [] 0) xs (meets (words [] 0) (statesIn sc states) (classesBy d ws n (drop j order)))
+pub record Meeting (d : Square) (ws : List ℕ) (n : ℕ) (order : List ℕ) (base : ℕ) (sc₀ : List ℕ) (m : ℕ) (sc : List ℕ) (states count j : ℕ) : Type 0
+  where
+    pub below : j ≤ length order
+    pub kept : Kept sc states
+    pub long : length sc ≡ length sc₀
+    pub behind : Behind sc₀ sc
+    pub sum : count ≡ base + 2 * j
+    pub xs : List Succ
+    pub many : length xs ≡ j
+    pub is : meets (words [] 0) (statesIn sc₀ m) (classesBy d ws n order) ≡ onto (words [] 0) xs
+        (meets (words [] 0) (statesIn sc states) (classesBy d ws n (drop j order)))
 
 module _ {d : Square} {ws : List ℕ} {n : ℕ} {order : List ℕ} {base : ℕ} {sc₀ : List ℕ} {m : ℕ} where
   pub meeting-begin : Kept sc₀ m → Meeting d ws n order base sc₀ m sc₀ m base 0
@@ -196,7 +205,8 @@ module _ {d : Square} {ws : List ℕ} {n : ℕ} {order : List ℕ} {base : ℕ} 
               xs = s .xs ++ ys;
               many = length-append (s .xs) ys ∙ omega arith;
               is = s .is ∙ ap (λ ks. onto (words [] 0) (s .xs) (meets (words [] 0) (statesIn sc states) ks)) (ahead h)
-                  ∙ meets-on (words [] 0) (s .xs) (statesIn sc states) (classAt d ws n (getD order j 0 % 128)) (classesBy d ws n (drop (j + 1) order)) (statesIn sc′ all) ys (r .is);
+                  ∙ meets-on (words [] 0) (s .xs) (statesIn sc states) (classAt d ws n (getD order j 0 % 128)) (classesBy d ws n (drop (j + 1) order))
+                  (statesIn sc′ all) ys (r .is);
             }
 
     pub meeting-stop : j < length order → (sc′ : List ℕ) (g : Going) (r : Reason) → g ≡ going.Stopped r
@@ -216,7 +226,8 @@ module _ {d : Square} {ws : List ℕ} {n : ℕ} {order : List ℕ} {base : ℕ} 
         record {
           kept = s .kept;
           succs = s .xs;
-          is = s .is ∙ meets-end (words [] 0) (s .xs) (statesIn sc states) (classesBy d ws n (drop j order)) (ap (classesBy d ws n) (from-end order j h));
+          is = s .is ∙ meets-end (words [] 0) (s .xs) (statesIn sc states) (classesBy d ws n (drop j order))
+              (ap (classesBy d ws n) (from-end order j h));
           sum = omega arith;
           few = omega arith;
         }
@@ -245,7 +256,8 @@ pairs-length F G (x ∷ xs) = let e = pairs-length F G xs in omega arith
 
 pub block-length : (b : Block) → length (blockWords b) ≡ 2 + 2 * length (b .out) + 2 * length (b .succs)
 block-length b =
-    let x = length-append (gather (λ a. a .shape ∷ code (a .at) ∷ []) (b .out)) (length (b .succs) ∷ gather (λ s. s .to ∷ code (s .by) ∷ []) (b .succs)) in
+    let x = length-append (gather (λ a. a .shape ∷ code (a .at) ∷ []) (b .out))
+    (length (b .succs) ∷ gather (λ s. s .to ∷ code (s .by) ∷ []) (b .succs)) in
     let y = pairs-length (λ a. a .shape) (λ a. code (a .at)) (b .out) in
     let z = pairs-length (λ s. s .to) (λ s. code (s .by)) (b .succs) in
     omega arith
@@ -287,7 +299,8 @@ pub record Rowing (ar tab : List ℕ) (n : ℕ) (sc₀ : List ℕ) (m i : ℕ) (
   pub more : List Block
   pub many : count ≡ blocksLength more
   pub is : (bs : List Block)
-      → row (words tab n) i (stateIn sc₀ i) 0 ar (statesIn sc₀ m) bs ≡ row (words tab n) i (stateIn sc₀ i) f (drop f ar) (statesIn sc states) (bs ++ more)
+      → row (words tab n) i (stateIn sc₀ i) 0 ar (statesIn sc₀ m) bs ≡ row (words tab n) i (stateIn sc₀ i) f (drop f ar) (statesIn sc states)
+      (bs ++ more)
 
 module _ {ar tab : List ℕ} {n : ℕ} {sc₀ : List ℕ} {m i : ℕ} where
   pub rowing-begin : Held ar tab n sc₀ m → i < m → Rowing ar tab n sc₀ m i sc₀ m 0 0
@@ -318,7 +331,8 @@ module _ {ar tab : List ℕ} {n : ℕ} {sc₀ : List ℕ} {m i : ℕ} where
         outs-few : length (outputsW tab (labelCode tab (stateIn sc₀ i)) f (stateIn sc₀ i)) ≤ 32
         outs-few = outputs-few tab (labelCode tab (stateIn sc₀ i)) f (stateIn sc₀ i) (here-good .few)
 
-        go : ClassesMet all more sc′ (2 + 2 * length (words tab n .outputs (stateIn sc₀ i) f (getD ar f 0))) (meets (words tab n) (statesIn sc states) (words tab n .classes (stateIn sc₀ i) f (getD ar f 0)))
+        go : ClassesMet all more sc′ (2 + 2 * length (words tab n .outputs (stateIn sc₀ i) f (getD ar f 0)))
+            (meets (words tab n) (statesIn sc states) (words tab n .classes (stateIn sc₀ i) f (getD ar f 0)))
             → Rowing ar tab n sc₀ m i sc′ all (count + more) (f + 1)
         go r =
             let xs = r .succs in
@@ -343,7 +357,9 @@ module _ {ar tab : List ℕ} {n : ℕ} {sc₀ : List ℕ} {m i : ℕ} where
               below = omega arith;
               held = record {
                 kept = r .kept;
-                good = λ t j. ⊎-elim (s .held .good t) (λ q. rw (q .2) (good-next here-good f (getD ar f 0) (getElem-some ar f h) (q .0) (q .1) (found .small (q .0) (q .1)))) (found .from t j);
+                good = λ t j. ⊎-elim (s .held .good t)
+                    (λ q. rw (q .2) (good-next here-good f (getD ar f 0) (getElem-some ar f h) (q .0) (q .1) (found .small (q .0) (q .1))))
+                    (found .from t j);
               };
               long = l ∙ s .long;
               behind = b ∙ s .behind;
@@ -355,7 +371,8 @@ module _ {ar tab : List ℕ} {n : ℕ} {sc₀ : List ℕ} {m i : ℕ} where
               is = λ bs. s .is bs ∙ ap (λ ns. row (words tab n) i (stateIn sc₀ i) f ns (statesIn sc states) (bs ++ s .more)) (from ar f h)
                   ∙ row-on (words tab n) i (stateIn sc₀ i) f (getD ar f 0) (drop (f + 1) ar) (statesIn sc states) (bs ++ s .more)
                   (statesIn sc′ all) xs (r .is)
-                  ∙ ap₂ (λ g bs₁. row (words tab n) i (stateIn sc₀ i) g (drop (f + 1) ar) (statesIn sc′ all) bs₁) (sym (add-one f)) (append-assoc bs (s .more) (block ∷ []));
+                  ∙ ap₂ (λ g bs₁. row (words tab n) i (stateIn sc₀ i) g (drop (f + 1) ar) (statesIn sc′ all) bs₁) (sym (add-one f))
+                  (append-assoc bs (s .more) (block ∷ []));
             }
 
     pub rowing-stop : (sc′ : List ℕ) (g : Going) (r : Reason) → g ≡ going.Stopped r → SymbolIs g ar tab n sc states i f sc′

@@ -66,7 +66,8 @@ module _ {A : Type 0} (f : List Bool → A) (p : ℕ → Bool) (at : ℕ → A) 
     where
       go : (b : Bool) → leads i r ≡ b → f r ≡ at i
           → map f (rowsFrom (suc i) m) ≡ gather (λ j. cond (p j) (at j ∷ []) []) (range (suc i) (length m))
-          → map f (cond (leads i r) (r ∷ rowsFrom (suc i) m) (rowsFrom (suc i) m)) ≡ cond b (at i ∷ []) [] ++ gather (λ j. cond (p j) (at j ∷ []) []) (range (suc i) (length m))
+          → map f (cond (leads i r) (r ∷ rowsFrom (suc i) m) (rowsFrom (suc i) m)) ≡ cond b (at i ∷ []) [] ++ gather (λ j. cond (p j) (at j ∷ []) [])
+          (range (suc i) (length m))
       go true e d ih = rw (e, d, ih) refl
       go false e d ih = rw e ih
 
@@ -105,7 +106,8 @@ module _ (tab ws : List ℕ) (n : ℕ) (d : Square) (few : n ≤ 96) where
         (λ e. ap (λ k. cell (close (range 0 k) first) a b) (goals-length ws 0 n)
         ∙ rounds .1 (chain-within (λ i j hi hj y. sym (first-is i j hi hj) ∙ y) ha hb (closes .sound a b ha hb e)))
         (λ e. closes .complete a b ha hb
-        (chain-within (λ i j hi hj y. first-is i j hi hj ∙ y) ha hb (rounds .0 (ap (λ k. cell (close (range 0 k) first) a b) (sym (goals-length ws 0 n)) ∙ e))))
+        (chain-within (λ i j hi hj y. first-is i j hi hj ∙ y) ha hb
+        (rounds .0 (ap (λ k. cell (close (range 0 k) first) a b) (sym (goals-length ws 0 n)) ∙ e))))
 
     closed-rows : length (closedW tab gs) ≡ n
     unfolding closedW
@@ -120,7 +122,8 @@ module _ (tab ws : List ℕ) (n : ℕ) (d : Square) (few : n ≤ 96) where
         sort-keyed (classAt d ws n) (classKey tab) (begins d) 0 n (omega arith)
         ∙ ap (sort (λ a b. ltb (classKey tab a) (classKey tab b))) (sym (
         rows-passing (λ r. pickedW r gs) (begins d) (classAt d ws n) 0 (closedW tab gs)
-        (λ a h. rw (zero-add a) (leads-same a (getD (closedW tab gs) a []) (getD d a []) (λ b g. same-cell a b h (let l : a < n = rw closed-rows at h in omega arith))))
+        (λ a h. rw (zero-add a) (leads-same a (getD (closedW tab gs) a []) (getD d a [])
+        (λ b g. same-cell a b h (let l : a < n = rw closed-rows at h in omega arith))))
         (λ a h. rw (zero-add a) (picked-same gs (getD (closedW tab gs) a []) (getD d a []) (λ b g. same-cell a b h (rw (goals-length ws 0 n) at g))))
         ∙ ap (λ k. passing (classAt d ws n) (classKey tab) (begins d) 0 k) closed-rows))
 

@@ -97,7 +97,8 @@ module _ {S : Type 0} (C : Construction S) where
   -- ---- states in turn
   module _ (ar : List ℕ) (i : ℕ) (ss : List S) (bs : List Block) where
     module _ (inside : i < length ss) (few : i < 128) where
-      run-next : run C ar (128 - i) i ss bs ≡ thenMore (row C i (getD ss i (C .start)) 0 ar ss bs) (λ ss₁ bs₁. run C ar (128 - (i + 1)) (suc i) ss₁ bs₁)
+      run-next : run C ar (128 - i) i ss bs ≡ thenMore (row C i (getD ss i (C .start)) 0 ar ss bs)
+          (λ ss₁ bs₁. run C ar (128 - (i + 1)) (suc i) ss₁ bs₁)
       run-next =
           let e : 128 - i ≡ suc (128 - (i + 1)) = omega arith in
           rw (e, lt-ltb i (length ss) inside) refl

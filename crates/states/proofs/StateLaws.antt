@@ -105,7 +105,8 @@ module _ (sc : List ℕ) (m : ℕ) (ws : List ℕ) (n : ℕ) (long : statesWords
       ∙ ap (map (stateIn (added sc m ws n))) (range-next 0 m)
       ∙ map-append (stateIn (added sc m ws n)) (range 0 m) ((0 + m) ∷ [])
       ∙ ap₂ (λ a b. a ++ (b ∷ []))
-      (map-same (stateIn (added sc m ws n)) (stateIn sc) (range 0 m) (λ i j. let h = in-range m 0 i j in let l : i < m = omega arith in added-before i l (kept .counts i l)))
+      (map-same (stateIn (added sc m ws n)) (stateIn sc) (range 0 m)
+      (λ i j. let h = in-range m 0 i j in let l : i < m = omega arith in added-before i l (kept .counts i l)))
       (ap (stateIn (added sc m ws n)) (zero-add m) ∙ added-here)
 
   pub kept-added : Kept sc m → Kept (added sc m ws n) (m + 1)

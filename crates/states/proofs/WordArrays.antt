@@ -35,7 +35,8 @@ pub flat-back : (l ws : List ℕ) (gs : List GoalWords) (k : ℕ) → ws ≡ set
 flat-back l ws gs k e d h =
     ap (λ v. goalsFrom v 0 k) e ∙ ap (goalsFrom (sets l 0 (flat gs)) 0) d
     ∙ goals-same (sets l 0 (flat gs)) (flat gs) 0 0 (length gs)
-    (λ i g. let z = flat-length gs in ap (λ n. getD (sets l 0 (flat gs)) n 0) refl ∙ sets-in (flat gs) l 0 i (omega arith) (omega arith) ∙ ap (λ n. getD (flat gs) n 0) (sym (zero-add i)))
+    (λ i g. let z = flat-length gs in ap (λ n. getD (sets l 0 (flat gs)) n 0) refl ∙ sets-in (flat gs) l 0 i (omega arith) (omega arith)
+    ∙ ap (λ n. getD (flat gs) n 0) (sym (zero-add i)))
     ∙ flat-goals gs
 
 pub flat-thirds : (gs : List GoalWords) (k : ℕ) → k ≡ length (flat gs) → k / 3 ≡ length gs

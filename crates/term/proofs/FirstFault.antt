@@ -43,16 +43,22 @@ module _ (ar ws : List ℕ) (l : Limits) where
   unfolding headOf childrenOf
   node-is at = go (ltb at (length ws)) refl (leb (l .blanks) (getD ws at 0)) refl (ltb (getD ws at 0) (length ar)) refl (ltb at (l .stop)) refl
     where
-      go : (a : Bool) → ltb at (length ws) ≡ a → (b : Bool) → leb (l .blanks) (getD ws at 0) ≡ b → (c : Bool) → ltb (getD ws at 0) (length ar) ≡ c → (d : Bool) → ltb at (l .stop) ≡ d
+      go : (a : Bool) → ltb at (length ws) ≡ a → (b : Bool) → leb (l .blanks) (getD ws at 0) ≡ b → (c : Bool) → ltb (getD ws at 0) (length ar) ≡ c
+          → (d : Bool) → ltb at (l .stop) ≡ d
           → Node at (cond a (below (l .stop) at (cond b (Kids 0) (cond c (Kids (getD ar (getD ws at 0) 0)) (Bad NoSymbol)))) (Bad Ends))
       go false ea b eb c ec d ed = no-word (ltb-false at (length ws) ea)
-      go true ea true eb c ec true ed = rw ed (a-blank (ltb-true at (length ws) ea) (ltb-true at (l .stop) ed) (leb-true (l .blanks) (getD ws at 0) eb))
-      go true ea true eb c ec false ed = rw ed (beyond (ltb-true at (length ws) ea) (inl (leb-true (l .blanks) (getD ws at 0) eb)) (ltb-false at (l .stop) ed))
+      go true ea true eb c ec true ed =
+          rw ed (a-blank (ltb-true at (length ws) ea) (ltb-true at (l .stop) ed) (leb-true (l .blanks) (getD ws at 0) eb))
+      go true ea true eb c ec false ed =
+          rw ed (beyond (ltb-true at (length ws) ea) (inl (leb-true (l .blanks) (getD ws at 0) eb)) (ltb-false at (l .stop) ed))
       go true ea false eb true ec true ed =
           let h = ltb-true (getD ws at 0) (length ar) ec in
-          rw ed (a-symbol (getD ar (getD ws at 0) 0) (ltb-true at (length ws) ea) (ltb-true at (l .stop) ed) (leb-false (l .blanks) (getD ws at 0) eb) (at-getD ar (getD ws at 0) 0 h))
-      go true ea false eb true ec false ed = rw ed (beyond (ltb-true at (length ws) ea) (inr (ltb-true (getD ws at 0) (length ar) ec)) (ltb-false at (l .stop) ed))
-      go true ea false eb false ec d ed = unknown (ltb-true at (length ws) ea) (ltb-false (getD ws at 0) (length ar) ec) (leb-false (l .blanks) (getD ws at 0) eb)
+          rw ed (a-symbol (getD ar (getD ws at 0) 0) (ltb-true at (length ws) ea) (ltb-true at (l .stop) ed) (leb-false (l .blanks) (getD ws at 0) eb)
+          (at-getD ar (getD ws at 0) 0 h))
+      go true ea false eb true ec false ed =
+          rw ed (beyond (ltb-true at (length ws) ea) (inr (ltb-true (getD ws at 0) (length ar) ec)) (ltb-false at (l .stop) ed))
+      go true ea false eb false ec d ed =
+          unknown (ltb-true at (length ws) ea) (ltb-false (getD ws at 0) (length ar) ec) (leb-false (l .blanks) (getD ws at 0) eb)
 
   -- ---- from the reader
   record Stopped (d n from : ℕ) (f : Fault) (p : ℕ) : Type 0 where
@@ -79,15 +85,28 @@ module _ (ar ws : List ℕ) (l : Limits) where
             fits = (a .fits, s .fits);
             flat = omega (arith, a .flat, s .flat);
             to = s .to;
-            words = a .words ∙ ap (λ x. flatten (a .tree) ++ x) (s .words) ∙ sym (append-assoc (flatten (a .tree)) (flattens (s .before)) (drop (s .to) ws));
+            words = a .words ∙ ap (λ x. flatten (a .tree) ++ x) (s .words)
+                ∙ sym (append-assoc (flatten (a .tree)) (flattens (s .before)) (drop (s .to) ws));
             size = omega (arith, a .size, s .size);
             room = s .room;
             stops = s .stops;
           }
 
       go : (r : Reading) → reading ar ws l d (c .end) ≡ r → and-on r (λ m. kidsOf (reading ar ws l d) n (after c m)) ≡ Refused f p
-          → ((m : Met) → m .end ≤ l .stop → kidsOf (reading ar ws l d) n (after c m) ≡ Refused f p → Stopped d n (m .end) f p) → Stopped d (suc n) (c .end) f p
-      go (Refused g q) er e more = record { before = tnil; fewer = omega arith; fits = tt; flat = omega arith; to = c .end; words = refl; size = omega arith; room = h; stops = er ∙ e }
+          → ((m : Met) → m .end ≤ l .stop → kidsOf (reading ar ws l d) n (after c m) ≡ Refused f p → Stopped d n (m .end) f p)
+          → Stopped d (suc n) (c .end) f p
+      go (Refused g q) er e more = record {
+        before = tnil;
+        fewer = omega arith;
+        fits = tt;
+        flat = omega arith;
+        to = c .end;
+        words = refl;
+        size = omega arith;
+        room = h;
+        stops =
+            er ∙ e;
+      }
       go (Whole m) er e more = join m er (more m (whole-in ar ws l d (c .end) m er .few) e)
 
   pub fault-of : (d at : ℕ) (f : Fault) (p : ℕ) → reading ar ws l d at ≡ Refused f p → FaultIn ar ws l d at f p
@@ -102,10 +121,12 @@ module _ (ar ws : List ℕ) (l : Limits) where
       go c (a-symbol n h s b g) e = let z : Deep ≡ f = cc in let y : at ≡ p = cc in rw (← z, ← y) (deep at h (inr (at-below ar (getD ws at 0) g)) s)
   fault-of (suc d) at f p e = go (headOf ar ws l at) (node-is at) e (λ to. fault-of d to f p)
     where
-      inner : (n : ℕ) → at < length ws → at < l .stop → getD ws at 0 < l .blanks → getElem? ar (getD ws at 0) ≡ some n → (s : Stopped d n (at + 1) f p) → FaultIn ar ws l d (s .to) f p → FaultIn ar ws l (suc d) at f p
+      inner : (n : ℕ) → at < length ws → at < l .stop → getD ws at 0 < l .blanks → getElem? ar (getD ws at 0) ≡ some n
+          → (s : Stopped d n (at + 1) f p) → FaultIn ar ws l d (s .to) f p → FaultIn ar ws l (suc d) at f p
       inner n h s b g x i = under d at n (x .before) (x .to) f p h s b g (x .fewer) (x .fits) (x .flat) (x .words) (x .size) (x .room) i
 
-      go : (c : Count) → Node at c → enter c at (λ n. kidsOf (reading ar ws l d) n (met (at + 1))) ≡ Refused f p → ((to : ℕ) → reading ar ws l d to ≡ Refused f p → FaultIn ar ws l d to f p) → FaultIn ar ws l (suc d) at f p
+      go : (c : Count) → Node at c → enter c at (λ n. kidsOf (reading ar ws l d) n (met (at + 1))) ≡ Refused f p
+          → ((to : ℕ) → reading ar ws l d to ≡ Refused f p → FaultIn ar ws l d to f p) → FaultIn ar ws l (suc d) at f p
       go c (no-word h) e ih = let z : Ends ≡ f = cc in let y : at ≡ p = cc in rw (← z, ← y) (ends (suc d) at h)
       go c (unknown h a b) e ih = let z : NoSymbol ≡ f = cc in let y : at ≡ p = cc in rw (← z, ← y) (no-symbol (suc d) at h a b)
       go c (beyond h k s) e ih = let z : Many ≡ f = cc in let y : at ≡ p = cc in rw (← z, ← y) (many (suc d) at h k s)
@@ -113,7 +134,8 @@ module _ (ar ws : List ℕ) (l : Limits) where
       go c (a-symbol n h s b g) e ih = let x = kids-stopped d n (met (at + 1)) f p (omega arith) e in inner n h s b g x (ih (x .to) (x .stops))
 
   -- ---- to the reader
-  kids-past : (d : ℕ) (ts : Terms) (k c : ℕ) (r : List ℕ) → Fitss ar (l .blanks) ts → depths ts ≤ d → c + spans ts ≤ l .stop → drop c ws ≡ flattens ts ++ r
+  kids-past : (d : ℕ) (ts : Terms) (k c : ℕ) (r : List ℕ) → Fitss ar (l .blanks) ts → depths ts ≤ d → c + spans ts ≤ l .stop
+      → drop c ws ≡ flattens ts ++ r
       → kidsOf (reading ar ws l d) (count ts + k) (met c) ≡ kidsOf (reading ar ws l d) k (met (c + spans ts))
   kids-past d tnil k c r fs fl room e = ap₂ (λ x y. kidsOf (reading ar ws l d) x (met y)) (zero-add k) (sym (add-zero c))
   kids-past d (tcons t ts) k c r fs fl room e =
@@ -121,7 +143,9 @@ module _ (ar ws : List ℕ) (l : Limits) where
       let more : suc (count ts) + k ≡ suc (count ts + k) = omega arith in
       let ih = kids-past d ts k (c + span t) r (fs .1) (omega arith) (omega arith) (b .1) in
       let z : c + span t + spans ts ≡ c + (span t + spans ts) = omega arith in
-      ap (λ x. kidsOf (reading ar ws l d) x (met c)) more ∙ ap (λ x. and-on x (λ m. kidsOf (reading ar ws l d) (count ts + k) (after (met c) m))) (b .0) ∙ ih ∙ ap (λ x. kidsOf (reading ar ws l d) k (met x)) z
+      ap (λ x. kidsOf (reading ar ws l d) x (met c)) more
+      ∙ ap (λ x. and-on x (λ m. kidsOf (reading ar ws l d) (count ts + k) (after (met c) m))) (b .0) ∙ ih
+      ∙ ap (λ x. kidsOf (reading ar ws l d) k (met x)) z
 
   known-children : (w : ℕ) → Known ar l w → (n : ℕ) × (childrenOf ar (l .blanks) w ≡ Kids n)
   known-children w k = go k (decLt w (l .blanks))
@@ -141,7 +165,9 @@ module _ (ar ws : List ℕ) (l : Limits) where
       let ih = of-fault x in
       let k = n - suc (count before) in
       let many : n ≡ count before + suc k = omega arith in
-      let head : headOf ar ws l at ≡ Kids n = head-kids ar ws l at h (children-symbol ar (l .blanks) (getD ws at 0) b (at-below ar (getD ws at 0) g) ∙ ap Kids (getD-at ar (getD ws at 0) 0 g)) s in
+      let head : headOf ar ws l at ≡ Kids n =
+      head-kids ar ws l at h (children-symbol ar (l .blanks) (getD ws at 0) b (at-below ar (getD ws at 0) g)
+      ∙ ap Kids (getD-at ar (getD ws at 0) 0 g)) s in
       ap (λ c. enter c at (λ m. kidsOf (reading ar ws l d) m (met (at + 1)))) head
       ∙ ap (λ m. kidsOf (reading ar ws l d) m (met (at + 1))) many
       ∙ kids-past d before (suc k) (at + 1) (drop next ws) fits flat (rw (← size) room) words

@@ -65,7 +65,8 @@ module _ (ar ws : List ℕ) (l : Limits) (at : ℕ) where
   reading-deep zero e z = rw e
   reading-deep (suc d) e z = absurd (omega arith)
 
-  pub reading-into : (d : ℕ) {n : ℕ} → headOf ar ws l at ≡ Kids n → (d ≡ 0 → ⊥) → reading ar ws l d at ≡ kidsOf (reading ar ws l (d - 1)) n (met (at + 1))
+  pub reading-into : (d : ℕ) {n : ℕ} → headOf ar ws l at ≡ Kids n → (d ≡ 0 → ⊥)
+      → reading ar ws l d at ≡ kidsOf (reading ar ws l (d - 1)) n (met (at + 1))
   unfolding reading
   reading-into zero e z = absurd (z refl)
   reading-into (suc d) e z = rw (e, sub-one)
@@ -125,7 +126,8 @@ kids-in f ws l each (suc n) c m h g e =
     let rest = kids-in f ws l each n (after c m₁) m (one .inside) (one .few) e₂ in
     omega (arith, one .some)
 
-pub on-enter {κ} : {C : Type κ} (c : Count) (at : ℕ) (k : ℕ → Reading) (m : Met) → enter c at k ≡ Whole m → ((n : ℕ) → c ≡ Kids n → k n ≡ Whole m → C) → C
+pub on-enter {κ} : {C : Type κ} (c : Count) (at : ℕ) (k : ℕ → Reading) (m : Met) → enter c at k ≡ Whole m → ((n : ℕ) → c ≡ Kids n → k n ≡ Whole m → C)
+    → C
 on-enter (Bad f) at k m e c = never-whole e
 on-enter (Kids n) at k m e c = c n refl e
 
@@ -140,7 +142,8 @@ whole-in ar ws l (suc d) at m e =
 
 -- ---- where a fault is
 
-on-next-refused {κ} : {C : Type κ} (a : Reading) (k : Met → Reading) (f : Fault) (p : ℕ) → next a k ≡ Refused f p → (a ≡ Refused f p → C) → ((m : Met) → a ≡ Whole m → k m ≡ Refused f p → C) → C
+on-next-refused {κ} : {C : Type κ} (a : Reading) (k : Met → Reading) (f : Fault) (p : ℕ) → next a k ≡ Refused f p → (a ≡ Refused f p → C)
+    → ((m : Met) → a ≡ Whole m → k m ≡ Refused f p → C) → C
 on-next-refused (Whole m) k f p e x y = y m refl e
 on-next-refused (Refused g q) k f p e x y = x e
 

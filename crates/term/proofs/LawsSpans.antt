@@ -77,7 +77,8 @@ over-le (suc k) (fit-cons {x} {r} h f) =
 pub spans-fit : (ar ws : List ℕ) → Fit (spansOf ar ws)
 unfolding spansOf
 spans-fit ar [] = fit-nil
-spans-fit ar (w ∷ ws) = let f = spans-fit ar ws in fit-cons {x = suc (over (getD ar w 0) (spansOf ar ws))} {r = spansOf ar ws} (omega (arith, over-le (getD ar w 0) f)) f
+spans-fit ar (w ∷ ws) = let f = spans-fit ar ws in
+    fit-cons {x = suc (over (getD ar w 0) (spansOf ar ws))} {r = spansOf ar ws} (omega (arith, over-le (getD ar w 0) f)) f
 
 -- ---- one turn of the loop that writes them
 
@@ -86,15 +87,23 @@ module _ (ar ws s : List ℕ) (i e : ℕ) (inside : i < length ws) (room : lengt
   pub write-end : (now : List ℕ) (k m : ℕ) → k ≡ getD ar (getD ws i 0) 0 → m ≡ length ws → now ≡ sets s (i + 1) (spansOf ar (drop (i + 1) ws))
       → e ≡ i + 1 + over k (drop (i + 1) (take m now)) → e ≡ i + 1 + over (getD ar (getD ws i 0) 0) (spansOf ar (drop (i + 1) ws))
   write-end now k m ek em en h =
-      let b = run-back s (i + 1) (length ws) (spansOf ar (drop (i + 1) ws)) (omega (arith, length-spans ar (drop (i + 1) ws), length-drop (i + 1) ws)) room in
+      let b = run-back s (i + 1) (length ws) (spansOf ar (drop (i + 1) ws)) (omega (arith, length-spans ar (drop (i + 1) ws), length-drop (i + 1) ws))
+      room in
       h
       ∙ ap₂ (λ (x y : ℕ). i + 1 + over x (drop (i + 1) (take y now))) ek em
       ∙ ap (λ (x : List ℕ). i + 1 + over (getD ar (getD ws i 0) 0) x) (ap (λ (x : List ℕ). drop (i + 1) (take (length ws) x)) en ∙ b)
 
   pub write-fits : e ≡ i + 1 + over (getD ar (getD ws i 0) 0) (spansOf ar (drop (i + 1) ws)) → e ≤ length ws
-  write-fits h = omega (arith, over-le (getD ar (getD ws i 0) 0) (spans-fit ar (drop (i + 1) ws)), length-spans ar (drop (i + 1) ws), length-drop (i + 1) ws)
+  write-fits h = omega (
+    arith,
+    over-le (getD ar (getD ws i 0) 0) (spans-fit ar (drop (i + 1) ws)),
+    length-spans ar (drop (i + 1) ws),
+    length-drop
+        (i + 1) ws,
+  )
 
-  pub write-next : (now : List ℕ) → now ≡ sets s (i + 1) (spansOf ar (drop (i + 1) ws)) → e ≡ i + 1 + over (getD ar (getD ws i 0) 0) (spansOf ar (drop (i + 1) ws))
+  pub write-next : (now : List ℕ) → now ≡ sets s (i + 1) (spansOf ar (drop (i + 1) ws))
+      → e ≡ i + 1 + over (getD ar (getD ws i 0) 0) (spansOf ar (drop (i + 1) ws))
       → set now i (e - i) ≡ sets s i (spansOf ar (drop i ws))
   write-next now en h =
       let v : e - i ≡ suc (over (getD ar (getD ws i 0) 0) (spansOf ar (drop (i + 1) ws))) = omega arith in
@@ -106,27 +115,31 @@ module _ (ar ws s : List ℕ) (i e : ℕ) (inside : i < length ws) (room : lengt
 -- ---- one turn of the loop that compares them
 
 module _ (ar ws sp : List ℕ) (i e : ℕ) (inside : i < length ws) (as-long : length sp ≡ length ws)
-    (rest : drop (i + 1) sp ≡ spansOf ar (drop (i + 1) ws)) (k : ℕ) (ek : k ≡ getD ar (getD ws i 0) 0) (ie : e ≡ i + 1 + over k (drop (i + 1) sp)) where
-  is : e ≡ i + 1 + over (getD ar (getD ws i 0) 0) (drop (i + 1) sp)
-  is = ie ∙ ap (λ (x : ℕ). i + 1 + over x (drop (i + 1) sp)) ek
+    (rest : drop (i + 1) sp ≡ spansOf ar (drop (i + 1) ws)) (k : ℕ) (ek : k ≡ getD ar (getD ws i 0) 0) (ie : e ≡ i + 1 + over k (drop (i + 1) sp))
+  where
+    is : e ≡ i + 1 + over (getD ar (getD ws i 0) 0) (drop (i + 1) sp)
+    is = ie ∙ ap (λ (x : ℕ). i + 1 + over x (drop (i + 1) sp)) ek
 
-  pub check-next : getD sp i 0 ≡ e - i → drop i sp ≡ spansOf ar (drop i ws)
-  check-next h =
-      let is′ = is in
-      let v : getD sp i 0 ≡ suc (over (getD ar (getD ws i 0) 0) (drop (i + 1) sp)) = omega arith in
-      from sp i (omega arith) ∙ ap₂ (λ (x : ℕ) (l : List ℕ). x ∷ l) (v ∙ ap (λ (l : List ℕ). suc (over (getD ar (getD ws i 0) 0) l)) rest) rest ∙ sym (spans-from ar ws i inside)
+    pub check-next : getD sp i 0 ≡ e - i → drop i sp ≡ spansOf ar (drop i ws)
+    check-next h =
+        let is′ = is in
+        let v : getD sp i 0 ≡ suc (over (getD ar (getD ws i 0) 0) (drop (i + 1) sp)) = omega arith in
+        from sp i (omega arith) ∙ ap₂ (λ (x : ℕ) (l : List ℕ). x ∷ l) (v ∙ ap (λ (l : List ℕ). suc (over (getD ar (getD ws i 0) 0) l)) rest) rest
+        ∙ sym (spans-from ar ws i inside)
 
-  pub check-stop : (getD sp i 0 ≡ e - i → ⊥) → same sp (spansOf ar ws) ≡ false
-  check-stop h = same-not sp (spansOf ar ws) λ q. h (bad q)
-    where
-      bad : sp ≡ spansOf ar ws → getD sp i 0 ≡ e - i
-      bad q =
-          let is′ = is in
-          let d : drop i sp ≡ spansOf ar (drop i ws) = ap (drop i) q ∙ sym (spans-drop ar ws i) in
-          let f : getD (drop i sp) 0 0 ≡ suc (over (getD ar (getD ws i 0) 0) (spansOf ar (drop (i + 1) ws))) = ap (λ (l : List ℕ). getD l 0 0) (d ∙ spans-from ar ws i inside) in
-          let g : getD (drop i sp) 0 0 ≡ getD sp i 0 = getD-drop i sp 0 0 ∙ ap (λ (n : ℕ). getD sp n 0) (add-zero i) in
-          let r : over (getD ar (getD ws i 0) 0) (drop (i + 1) sp) ≡ over (getD ar (getD ws i 0) 0) (spansOf ar (drop (i + 1) ws)) = ap (over (getD ar (getD ws i 0) 0)) rest in
-          omega arith
+    pub check-stop : (getD sp i 0 ≡ e - i → ⊥) → same sp (spansOf ar ws) ≡ false
+    check-stop h = same-not sp (spansOf ar ws) λ q. h (bad q)
+      where
+        bad : sp ≡ spansOf ar ws → getD sp i 0 ≡ e - i
+        bad q =
+            let is′ = is in
+            let d : drop i sp ≡ spansOf ar (drop i ws) = ap (drop i) q ∙ sym (spans-drop ar ws i) in
+            let f : getD (drop i sp) 0 0 ≡ suc (over (getD ar (getD ws i 0) 0) (spansOf ar (drop (i + 1) ws))) =
+            ap (λ (l : List ℕ). getD l 0 0) (d ∙ spans-from ar ws i inside) in
+            let g : getD (drop i sp) 0 0 ≡ getD sp i 0 = getD-drop i sp 0 0 ∙ ap (λ (n : ℕ). getD sp n 0) (add-zero i) in
+            let r : over (getD ar (getD ws i 0) 0) (drop (i + 1) sp) ≡ over (getD ar (getD ws i 0) 0) (spansOf ar (drop (i + 1) ws)) =
+            ap (over (getD ar (getD ws i 0) 0)) rest in
+            omega arith
 
 -- before the first turn nothing is written
 pub write-start : (ar ws s : List ℕ) → s ≡ sets s (length ws) (spansOf ar (drop (length ws) ws))

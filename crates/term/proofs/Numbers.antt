@@ -87,7 +87,8 @@ mutual
     where
       go : Dec (k < span t) → (k < span t → (p : Pos) × (number t p ≡ some k)) → (k - span t < spans ts → Kid ts (k - span t)) → Kid (tcons t ts) k
       go (yes l) a b = let w = a l in record { i = 0; u = t; p = w .0; j = k; is = refl; at = w .1; sum = zero-add k }
-      go (no l) a b = let w = b (omega arith) in record { i = suc (w .i); u = w .u; p = w .p; j = w .j; is = w .is; at = w .at; sum = let y = w .sum in omega arith }
+      go (no l) a b = let w = b (omega arith) in
+          record { i = suc (w .i); u = w .u; p = w .p; j = w .j; is = w .is; at = w .at; sum = let y = w .sum in omega arith }
 
 mutual
   place-below : (t : Term) (k : ℕ) (p : Pos) → place t k ≡ some p → k < span t
@@ -111,7 +112,8 @@ place-number t k p e =
     let z : w .0 ≡ p = cc in
     rw (← z) (w .1)
 
-pub number-append : (p q : Pos) (t u : Term) (x : ℕ) → sub t p ≡ some u → number t p ≡ some x → number t (p ++ q) ≡ Option·map (λ k. x + k) (number u q)
+pub number-append : (p q : Pos) (t u : Term) (x : ℕ) → sub t p ≡ some u → number t p ≡ some x
+    → number t (p ++ q) ≡ Option·map (λ k. x + k) (number u q)
 number-append [] q t u x e n = let z : t ≡ u = cc in let y : 0 ≡ x = cc in rw (z, ← y) (go (number u q))
   where
     go : (o : Option ℕ) → o ≡ Option·map (λ k. 0 + k) o
@@ -158,7 +160,8 @@ mutual
           → getElem? (map (λ p. i ∷ p) (dom t) ++ doms ts (suc i)) k ≡ places (tcons t ts) i k
       go (yes h) a b =
           rw (lt-ltb k (span t) h)
-          (at-front (map (λ p. i ∷ p) (dom t)) (doms ts (suc i)) k (omega (arith, long)) ∙ at-mapped (λ p. i ∷ p) (dom t) k ∙ ap (Option·map (λ p. i ∷ p)) a)
+          (at-front (map (λ p. i ∷ p) (dom t)) (doms ts (suc i)) k (omega (arith, long)) ∙ at-mapped (λ p. i ∷ p) (dom t) k
+          ∙ ap (Option·map (λ p. i ∷ p)) a)
       go (no h) a b =
           let z : k ≡ length (map (λ p. i ∷ p) (dom t)) + (k - span t) = omega (arith, long) in
           rw (le-ltb k (span t) (omega arith))

@@ -23,12 +23,14 @@ mutual
       let k = onces ar bl ts us r s (p .2) (q .2) n b in
       (ap₂ node a (k .0), k .1)
 
-  pub onces : (ar : List ℕ) (bl : ℕ) (ts us : Terms) (r s : List ℕ) → Fitss ar bl ts → Fitss ar bl us → count ts ≡ count us → flattens ts ++ r ≡ flattens us ++ s → (ts ≡ us) × (r ≡ s)
+  pub onces : (ar : List ℕ) (bl : ℕ) (ts us : Terms) (r s : List ℕ) → Fitss ar bl ts → Fitss ar bl us → count ts ≡ count us
+      → flattens ts ++ r ≡ flattens us ++ s → (ts ≡ us) × (r ≡ s)
   onces ar bl tnil tnil r s p q n e = (refl, e)
   onces ar bl tnil (tcons u us) r s p q n e = absurd (omega arith)
   onces ar bl (tcons t ts) tnil r s p q n e = absurd (omega arith)
   onces ar bl (tcons t ts) (tcons u us) r s p q n e =
-      let e′ : flatten t ++ (flattens ts ++ r) ≡ flatten u ++ (flattens us ++ s) = sym (append-assoc (flatten t) (flattens ts) r) ∙ e ∙ append-assoc (flatten u) (flattens us) s in
+      let e′ : flatten t ++ (flattens ts ++ r) ≡ flatten u ++ (flattens us ++ s) =
+      sym (append-assoc (flatten t) (flattens ts) r) ∙ e ∙ append-assoc (flatten u) (flattens us) s in
       let a = once ar bl t u (flattens ts ++ r) (flattens us ++ s) (p .0) (q .0) e′ in
       let b = onces ar bl ts us r s (p .1) (q .1) (omega arith) (a .1) in
       (ap₂ tcons (a .0) (b .0), b .1)

@@ -45,22 +45,28 @@ over-sizes tnil r = refl
 over-sizes (tcons t ts) r =
     let a : sizess (tcons t ts) ++ r ≡ sizes t ++ (sizess ts ++ r) = append-assoc (sizes t) (sizess ts) r in
     let h : getD (sizess (tcons t ts) ++ r) 0 0 ≡ span t = ap (λ (l : List ℕ). getD l 0 0) a ∙ head-size t (sizess ts ++ r) in
-    let d : drop (span t) (sizess (tcons t ts) ++ r) ≡ sizess ts ++ r = ap (drop (span t)) a ∙ drop-at (sizes t) (sizess ts ++ r) (span t) (length-sizes t) in
-    ap (λ (n : ℕ). n + over (count ts) (drop n (sizess (tcons t ts) ++ r))) h ∙ ap (λ (l : List ℕ). span t + over (count ts) l) d ∙ ap (λ (n : ℕ). span t + n) (over-sizes ts r)
+    let d : drop (span t) (sizess (tcons t ts) ++ r) ≡ sizess ts ++ r =
+    ap (drop (span t)) a ∙ drop-at (sizes t) (sizess ts ++ r) (span t) (length-sizes t) in
+    ap (λ (n : ℕ). n + over (count ts) (drop n (sizess (tcons t ts) ++ r))) h ∙ ap (λ (l : List ℕ). span t + over (count ts) l) d
+    ∙ ap (λ (n : ℕ). span t + n) (over-sizes ts r)
 
 mutual
   unfolding spansOf over
 
   -- bl is at least the number of symbols, so a blank is no symbol
-  pub spans-flatten : (ar : List ℕ) (bl : ℕ) (t : Term) (r : List ℕ) → length ar ≤ bl → Fits ar bl t → spansOf ar (flatten t ++ r) ≡ sizes t ++ spansOf ar r
+  pub spans-flatten : (ar : List ℕ) (bl : ℕ) (t : Term) (r : List ℕ) → length ar ≤ bl → Fits ar bl t
+      → spansOf ar (flatten t ++ r) ≡ sizes t ++ spansOf ar r
   spans-flatten ar bl (blank w) r h p =
       let z : getD ar w 0 ≡ 0 = List·getD-eq-default ar 0 (omega arith) in
       rw z
   spans-flatten ar bl (node f ts) r h p =
       let k = spans-flattens ar bl ts r h (p .2) in
-      ap (λ (l : List ℕ). suc (over (getD ar f 0) l) ∷ l) k ∙ ap (λ (n : ℕ). suc n ∷ (sizess ts ++ spansOf ar r)) (ap (λ (n : ℕ). over n (sizess ts ++ spansOf ar r)) (getD-at ar f 0 (p .1)) ∙ over-sizes ts (spansOf ar r))
+      ap (λ (l : List ℕ). suc (over (getD ar f 0) l) ∷ l) k
+      ∙ ap (λ (n : ℕ). suc n ∷ (sizess ts ++ spansOf ar r))
+      (ap (λ (n : ℕ). over n (sizess ts ++ spansOf ar r)) (getD-at ar f 0 (p .1)) ∙ over-sizes ts (spansOf ar r))
 
-  pub spans-flattens : (ar : List ℕ) (bl : ℕ) (ts : Terms) (r : List ℕ) → length ar ≤ bl → Fitss ar bl ts → spansOf ar (flattens ts ++ r) ≡ sizess ts ++ spansOf ar r
+  pub spans-flattens : (ar : List ℕ) (bl : ℕ) (ts : Terms) (r : List ℕ) → length ar ≤ bl → Fitss ar bl ts
+      → spansOf ar (flattens ts ++ r) ≡ sizess ts ++ spansOf ar r
   spans-flattens ar bl tnil r h p = refl
   spans-flattens ar bl (tcons t ts) r h p =
       ap (spansOf ar) (append-assoc (flatten t) (flattens ts) r)

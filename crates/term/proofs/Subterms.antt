@@ -29,7 +29,8 @@ pub sub-append : (p q : Pos) (t : Term) → sub t (p ++ q) ≡ bind (sub t p) (�
 sub-append [] q t = refl
 sub-append (i ∷ p) q t = go (child t i) (λ u. sub-append p q u)
   where
-    go : (o : Option Term) → ((u : Term) → sub u (p ++ q) ≡ bind (sub u p) (λ v. sub v q)) → bind o (λ u. sub u (p ++ q)) ≡ bind (bind o (λ u. sub u p)) (λ u. sub u q)
+    go : (o : Option Term) → ((u : Term) → sub u (p ++ q) ≡ bind (sub u p) (λ v. sub v q))
+        → bind o (λ u. sub u (p ++ q)) ≡ bind (bind o (λ u. sub u p)) (λ u. sub u q)
     go none ih = refl
     go (some u) ih = ih u
 
@@ -73,14 +74,16 @@ blank-not {κ} : {C : Type κ} {w f : ℕ} {us : Terms} → some (blank w) ≡ s
 blank-not e = let z : _≡_ {A = ℕ} 0 1 = cc in absurd (omega arith)
 
 mutual
-  pub fits-at : (ar : List ℕ) (bl : ℕ) (t : Term) → Fits ar bl t → (p : Pos) (f : ℕ) (us : Terms) → sub t p ≡ some (node f us) → getElem? ar f ≡ some (count us)
+  pub fits-at : (ar : List ℕ) (bl : ℕ) (t : Term) → Fits ar bl t → (p : Pos) (f : ℕ) (us : Terms) → sub t p ≡ some (node f us)
+      → getElem? ar f ≡ some (count us)
   fits-at ar bl (blank w) h [] f us e = blank-not e
   fits-at ar bl (blank w) h (i ∷ p) f us e = none-not e
   fits-at ar bl (node g ts) h [] f us e = let a : g ≡ f = cc in let b : ts ≡ us = cc in rw (← a, ← b) (h .1)
   fits-at ar bl (node g ts) h (zero ∷ p) f us e = none-not e
   fits-at ar bl (node g ts) h (suc i ∷ p) f us e = fitss-at ar bl ts (h .2) i p f us e
 
-  fitss-at : (ar : List ℕ) (bl : ℕ) (ts : Terms) → Fitss ar bl ts → (i : ℕ) (p : Pos) (f : ℕ) (us : Terms) → bind (nth ts i) (λ u. sub u p) ≡ some (node f us) → getElem? ar f ≡ some (count us)
+  fitss-at : (ar : List ℕ) (bl : ℕ) (ts : Terms) → Fitss ar bl ts → (i : ℕ) (p : Pos) (f : ℕ) (us : Terms)
+      → bind (nth ts i) (λ u. sub u p) ≡ some (node f us) → getElem? ar f ≡ some (count us)
   fitss-at ar bl tnil h i p f us e = none-not e
   fitss-at ar bl (tcons t ts) h zero p f us e = fits-at ar bl t (h .0) p f us e
   fitss-at ar bl (tcons t ts) h (suc i) p f us e = fitss-at ar bl ts (h .1) i p f us e
@@ -97,7 +100,8 @@ fits-sub ar bl (zero ∷ p) (node f ts) h e = none-not e
 fits-sub ar bl (suc i ∷ p) (node f ts) h e = on-bind (nth ts i) _ e λ v ev d. fits-sub ar bl p v (nth-fits ar bl ts i (h .2) ev) d
 
 -- where symbols have at most 4 children
-pub fits-proper : (ar : List ℕ) → ((f n : ℕ) → getElem? ar f ≡ some n → n ≤ 4) → (bl : ℕ) (p : Pos) (t : Term) {u : Term} → Fits ar bl t → sub t p ≡ some u → Proper p
+pub fits-proper : (ar : List ℕ) → ((f n : ℕ) → getElem? ar f ≡ some n → n ≤ 4) → (bl : ℕ) (p : Pos) (t : Term) {u : Term} → Fits ar bl t
+    → sub t p ≡ some u → Proper p
 fits-proper ar few bl [] t h e = proper-nil
 fits-proper ar few bl (i ∷ p) (blank w) h e = none-not e
 fits-proper ar few bl (zero ∷ p) (node f ts) h e = none-not e
@@ -113,7 +117,8 @@ mutual
   whole-at (node f ts) h (zero ∷ p) u e = none-not e
   whole-at (node f ts) h (suc i ∷ p) u e = wholes-at ts h i p u e
 
-  wholes-at : (ts : Terms) → Wholes ts → (i : ℕ) (p : Pos) (u : Term) → bind (nth ts i) (λ v. sub v p) ≡ some u → (f : ℕ) × (us : Terms) × (u ≡ node f us)
+  wholes-at : (ts : Terms) → Wholes ts → (i : ℕ) (p : Pos) (u : Term) → bind (nth ts i) (λ v. sub v p) ≡ some u → (f : ℕ) × (us : Terms)
+      × (u ≡ node f us)
   wholes-at tnil h i p u e = none-not e
   wholes-at (tcons t ts) h zero p u e = whole-at t (h .0) p u e
   wholes-at (tcons t ts) h (suc i) p u e = wholes-at ts (h .1) i p u e
@@ -137,18 +142,22 @@ doms-in (tcons t ts) c zero u q e m =
     let z : t ≡ u = cc in
     let y : c + 0 ≡ c = omega arith in
     rw (y, z) (∈-left (doms ts (suc c)) (map-in (λ p. c ∷ p) m))
-doms-in (tcons t ts) c (suc i) u q e m = let y : c + suc i ≡ suc c + i = omega arith in rw y (∈-right (map (λ p. c ∷ p) (dom t)) (doms-in ts (suc c) i u q e m))
+doms-in (tcons t ts) c (suc i) u q e m = let y : c + suc i ≡ suc c + i = omega arith in
+    rw y (∈-right (map (λ p. c ∷ p) (dom t)) (doms-in ts (suc c) i u q e m))
 
 pub dom-in : (q : Pos) (t : Term) {u : Term} → sub t q ≡ some u → q ∈ dom t
 dom-in [] (blank w) e = here refl
 dom-in [] (node f ts) e = here refl
 dom-in (i ∷ q) (blank w) e = none-not e
 dom-in (zero ∷ q) (node f ts) e = none-not e
-dom-in (suc i ∷ q) (node f ts) e = on-bind (nth ts i) _ e λ u eu e₁. let y : 1 + i ≡ suc i = omega arith in rw (← y) (there (doms-in ts 1 i u q eu (dom-in q u e₁)))
+dom-in (suc i ∷ q) (node f ts) e = on-bind (nth ts i) _ e λ u eu e₁. let y : 1 + i ≡ suc i = omega arith in
+    rw (← y) (there (doms-in ts 1 i u q eu (dom-in q u e₁)))
 
-on-doms {κ} : {C : Type κ} (ts : Terms) (c : ℕ) (q : Pos) → q ∈ doms ts c → ((i : ℕ) (u : Term) (r : Pos) → nth ts i ≡ some u → r ∈ dom u → q ≡ (c + i) ∷ r → C) → C
+on-doms {κ} : {C : Type κ} (ts : Terms) (c : ℕ) (q : Pos) → q ∈ doms ts c
+    → ((i : ℕ) (u : Term) (r : Pos) → nth ts i ≡ some u → r ∈ dom u → q ≡ (c + i) ∷ r → C) → C
 on-doms (tcons t ts) c q m k = ⊎-elim (λ a. on-map (λ p. c ∷ p) (dom t) a λ r j e. let z : c + 0 ≡ c = omega arith in k 0 t r refl j (rw z e))
-    (λ a. on-doms ts (suc c) q a (λ i u r e j d. let z : suc c + i ≡ c + suc i = omega arith in k (suc i) u r e j (rw z at d))) (∈-append (map (λ p. c ∷ p) (dom t)) m)
+    (λ a. on-doms ts (suc c) q a (λ i u r e j d. let z : suc c + i ≡ c + suc i = omega arith in k (suc i) u r e j (rw z at d)))
+    (∈-append (map (λ p. c ∷ p) (dom t)) m)
 
 -- by the length of the position
 in-dom-up : (n : ℕ) (q : Pos) → length q ≤ n → (t : Term) → q ∈ dom t → (u : Term) × (sub t q ≡ some u)
@@ -178,7 +187,8 @@ mutual
   length-doms (tcons t ts) i = simp (length-append, length-map, length-dom t, length-doms ts (suc i))
 
 doms-from {κ} : {C : Type κ} (ts : Terms) (c : ℕ) (q : Pos) → q ∈ doms ts c → ((j : ℕ) (r : Pos) → q ≡ j ∷ r → c ≤ j → C) → C
-doms-from {C = C} (tcons t ts) c q m k = ⊎-elim (λ i. on-map (λ p. c ∷ p) (dom t) i λ r j e. k c r e (omega arith)) (λ i. doms-from ts (suc c) q i (λ j r e l. k j r e (omega arith))) (∈-append (map (λ p. c ∷ p) (dom t)) m)
+doms-from {C = C} (tcons t ts) c q m k = ⊎-elim (λ i. on-map (λ p. c ∷ p) (dom t) i λ r j e. k c r e (omega arith))
+    (λ i. doms-from ts (suc c) q i (λ j r e l. k j r e (omega arith))) (∈-append (map (λ p. c ∷ p) (dom t)) m)
 
 mutual
   pub dom-ordered : (t : Term) → Pairwise Before (dom t)

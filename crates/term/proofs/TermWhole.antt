@@ -36,7 +36,8 @@ first ws at w r e =
 mutual
   unfolding reading
 
-  pub read-back : (ar ws : List ℕ) (l : Limits) (t : Term) (d at : ℕ) (r : List ℕ) → Fits ar (l .blanks) t → depth t < d → at + span t ≤ l .stop → drop at ws ≡ flatten t ++ r
+  pub read-back : (ar ws : List ℕ) (l : Limits) (t : Term) (d at : ℕ) (r : List ℕ) → Fits ar (l .blanks) t → depth t < d → at + span t ≤ l .stop
+      → drop at ws ≡ flatten t ++ r
       → (reading ar ws l d at ≡ Whole (met (at + span t))) × (drop (at + span t) ws ≡ r)
   read-back ar ws l (blank w) zero at r p h g e = absurd (omega arith)
   read-back ar ws l (blank w) (suc d) at r p h g e =
@@ -46,14 +47,17 @@ mutual
   read-back ar ws l (node s ts) zero at r p h g e = absurd (omega arith)
   read-back ar ws l (node s ts) (suc d) at r p h g e =
       let f = first ws at s (flattens ts ++ r) e in
-      let k = head-kids ar ws l at (f .0) (ap (childrenOf ar (l .blanks)) (f .1) ∙ children-symbol ar (l .blanks) s (p .0) (at-below ar s (p .1))) (omega arith) in
+      let k = head-kids ar ws l at (f .0) (ap (childrenOf ar (l .blanks)) (f .1) ∙ children-symbol ar (l .blanks) s (p .0) (at-below ar s (p .1)))
+      (omega arith) in
       let b = reads-back ar ws l ts d (at + 1) r (p .2) (omega arith) (omega arith) (f .2) in
       let q : at + 1 + spans ts ≡ at + suc (spans ts) = omega arith in (
-        ap (λ c. enter c at (λ n. kidsOf (reading ar ws l d) n (met (at + 1)))) k ∙ ap (λ (n : ℕ). kidsOf (reading ar ws l d) n (met (at + 1))) (getD-at ar s 0 (p .1)) ∙ b .0 ∙ ap (λ (n : ℕ). Whole (met n)) q,
+        ap (λ c. enter c at (λ n. kidsOf (reading ar ws l d) n (met (at + 1)))) k
+            ∙ ap (λ (n : ℕ). kidsOf (reading ar ws l d) n (met (at + 1))) (getD-at ar s 0 (p .1)) ∙ b .0 ∙ ap (λ (n : ℕ). Whole (met n)) q,
         ap (λ (n : ℕ). drop n ws) (sym q) ∙ b .1,
       )
 
-  pub reads-back : (ar ws : List ℕ) (l : Limits) (ts : Terms) (d at : ℕ) (r : List ℕ) → Fitss ar (l .blanks) ts → depths ts ≤ d → at + spans ts ≤ l .stop → drop at ws ≡ flattens ts ++ r
+  pub reads-back : (ar ws : List ℕ) (l : Limits) (ts : Terms) (d at : ℕ) (r : List ℕ) → Fitss ar (l .blanks) ts → depths ts ≤ d
+      → at + spans ts ≤ l .stop → drop at ws ≡ flattens ts ++ r
       → (kidsOf (reading ar ws l d) (count ts) (met at) ≡ Whole (met (at + spans ts))) × (drop (at + spans ts) ws ≡ r)
   reads-back ar ws l tnil d at r p h g e = (ap (λ (n : ℕ). Whole (met n)) (sym (add-zero at)), ap (λ (n : ℕ). drop n ws) (add-zero at) ∙ e)
   reads-back ar ws l (tcons t ts) d at r p h g e =
@@ -71,13 +75,15 @@ term-whole ar ws l d at e r h =
     read-back ar ws l (r .tree) d at (drop e ws) (r .fits) (r .flat) (omega arith) (r .words) .0 ∙ ap (λ (n : ℕ). Whole (met n)) (sym s)
 
 mutual
-  pub parse-flatten : (ar : List ℕ) (bl : ℕ) (t : Term) (d : ℕ) (r : List ℕ) → Fits ar bl t → depth t < d → parse ar bl d (flatten t ++ r) ≡ some (t, r)
+  pub parse-flatten : (ar : List ℕ) (bl : ℕ) (t : Term) (d : ℕ) (r : List ℕ) → Fits ar bl t → depth t < d
+      → parse ar bl d (flatten t ++ r) ≡ some (t, r)
   parse-flatten ar bl (blank w) zero r p h = absurd (omega arith)
   parse-flatten ar bl (blank w) (suc d) r p h = rw (le-leb bl w p)
   parse-flatten ar bl (node f ts) zero r p h = absurd (omega arith)
   parse-flatten ar bl (node f ts) (suc d) r p h = rw (lt-leb bl f (p .0), p .1, many-flatten ar bl ts d r (p .2) (omega arith))
 
-  pub many-flatten : (ar : List ℕ) (bl : ℕ) (ts : Terms) (d : ℕ) (r : List ℕ) → Fitss ar bl ts → depths ts ≤ d → many (λ v. parse ar bl d v) (count ts) (flattens ts ++ r) ≡ some (ts, r)
+  pub many-flatten : (ar : List ℕ) (bl : ℕ) (ts : Terms) (d : ℕ) (r : List ℕ) → Fitss ar bl ts → depths ts ≤ d
+      → many (λ v. parse ar bl d v) (count ts) (flattens ts ++ r) ≡ some (ts, r)
   many-flatten ar bl tnil d r p h = refl
   many-flatten ar bl (tcons t ts) d r p h =
       rw (append-assoc, parse-flatten ar bl t d (flattens ts ++ r) (p .0) (omega arith), many-flatten ar bl ts d r (p .1) (omega arith))
@@ -88,7 +94,8 @@ parse-none ar bl zero (suc k) = refl
 parse-none ar bl (suc d) (suc k) = refl
 
 -- terms back to back
-pub parse-all : (ar : List ℕ) (bl d : ℕ) (ts : List Term) (k : ℕ) → length ts ≤ k → ((t : Term) → t ∈ ts → Fits ar bl t × (depth t < d)) → parseAll ar bl d k (gather flatten ts) ≡ ts
+pub parse-all : (ar : List ℕ) (bl d : ℕ) (ts : List Term) (k : ℕ) → length ts ≤ k → ((t : Term) → t ∈ ts → Fits ar bl t × (depth t < d))
+    → parseAll ar bl d k (gather flatten ts) ≡ ts
 parse-all ar bl d [] k h p = parse-none ar bl d k
 parse-all ar bl d (t ∷ ts) zero h p = absurd (omega arith)
 parse-all ar bl d (t ∷ ts) (suc k) h p =

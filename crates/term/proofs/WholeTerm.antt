@@ -43,7 +43,8 @@ kids-same : {m n : ℕ} → Kids m ≡ Kids n → m ≡ n
 kids-same e = cc
 
 -- what a node is that passes
-on-children {κ} : {C : Type κ} (ar : List ℕ) (bl w n : ℕ) → childrenOf ar bl w ≡ Kids n → (bl ≤ w → n ≡ 0 → C) → (w < bl → getElem? ar w ≡ some n → C) → C
+on-children {κ} : {C : Type κ} (ar : List ℕ) (bl w n : ℕ) → childrenOf ar bl w ≡ Kids n → (bl ≤ w → n ≡ 0 → C) → (w < bl → getElem? ar w ≡ some n → C)
+    → C
 unfolding childrenOf
 on-children {C = C} ar bl w n e x y = go (leb bl w) refl (ltb w (length ar)) refl e
   where
@@ -65,7 +66,8 @@ head-children ar ws l at n e = go (ltb at (length ws)) (childrenOf ar (l .blanks
     go true (Kids m) e = under m (ltb at (l .stop)) e
     go false c e = never-kids e
 
-kids-terms : (ar ws : List ℕ) (bl d : ℕ) (f : ℕ → Reading) → ((at : ℕ) (m : Met) → f at ≡ Whole m → TermAt ar ws bl d at (m .end)) → (n : ℕ) (c m : Met) → kidsOf f n c ≡ Whole m → TermsAt ar ws bl d n (c .end) (m .end)
+kids-terms : (ar ws : List ℕ) (bl d : ℕ) (f : ℕ → Reading) → ((at : ℕ) (m : Met) → f at ≡ Whole m → TermAt ar ws bl d at (m .end))
+    → (n : ℕ) (c m : Met) → kidsOf f n c ≡ Whole m → TermsAt ar ws bl d n (c .end) (m .end)
 kids-terms ar ws bl d f each zero c m e =
     let s : c .end ≡ m .end = cc in
     record { trees = tnil; many = refl; words = ap (λ (n : ℕ). drop n ws) s; fits = tt; flat = omega arith; size = omega arith }
@@ -76,7 +78,8 @@ kids-terms ar ws bl d f each (suc n) c m e =
     record {
       trees = tcons (a .tree) (b .trees);
       many = ap suc (b .many);
-      words = a .words ∙ ap (λ (l : List ℕ). flatten (a .tree) ++ l) (b .words) ∙ sym (append-assoc (flatten (a .tree)) (flattens (b .trees)) (drop (m .end) ws));
+      words = a .words ∙ ap (λ (l : List ℕ). flatten (a .tree) ++ l) (b .words)
+          ∙ sym (append-assoc (flatten (a .tree)) (flattens (b .trees)) (drop (m .end) ws));
       fits = (a .fits, b .fits);
       flat = omega (arith, a .flat, b .flat);
       size = omega (arith, a .size, b .size);
@@ -92,11 +95,20 @@ whole-term ar ws l (suc d) at m e =
     built : (n : ℕ) → headOf ar ws l at ≡ Kids n → TermsAt ar ws (l .blanks) d n (at + 1) (m .end) → TermAt ar ws (l .blanks) (suc d) at (m .end)
     built n h b =
         let i = head-in ar ws l at n h in
-        let w : drop at ws ≡ getD ws at 0 ∷ (flattens (b .trees) ++ drop (m .end) ws) = from ws at (i .0) ∙ ap (λ (x : List ℕ). getD ws at 0 ∷ x) (b .words) in
+        let w : drop at ws ≡ getD ws at 0 ∷ (flattens (b .trees) ++ drop (m .end) ws) =
+        from ws at (i .0) ∙ ap (λ (x : List ℕ). getD ws at 0 ∷ x) (b .words) in
         on-children ar (l .blanks) (getD ws at 0) n (head-children ar ws l at n h)
         (λ x z. lone x (b .trees) (b .many ∙ z) w (b .size))
-        (λ x y. record { tree = node (getD ws at 0) (b .trees); words = w; fits = (x, y ∙ ap some (sym (b .many)), b .fits); flat = omega (arith, b .flat); size = omega (arith, b .size) })
+        (λ x y. record {
+          tree = node (getD ws at 0) (b .trees);
+          words = w;
+          fits = (x, y ∙ ap some (sym (b .many)), b .fits);
+          flat =
+              omega (arith, b .flat);
+          size = omega (arith, b .size);
+        })
       where
-        lone : l .blanks ≤ getD ws at 0 → (ts : Terms) → count ts ≡ 0 → drop at ws ≡ getD ws at 0 ∷ (flattens ts ++ drop (m .end) ws) → m .end ≡ at + 1 + spans ts → TermAt ar ws (l .blanks) (suc d) at (m .end)
+        lone : l .blanks ≤ getD ws at 0 → (ts : Terms) → count ts ≡ 0 → drop at ws ≡ getD ws at 0 ∷ (flattens ts ++ drop (m .end) ws)
+            → m .end ≡ at + 1 + spans ts → TermAt ar ws (l .blanks) (suc d) at (m .end)
         lone x tnil c w s = record { tree = blank (getD ws at 0); words = w; fits = x; flat = omega arith; size = omega arith }
         lone x (tcons t ts) c w s = absurd (omega arith)

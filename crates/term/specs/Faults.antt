@@ -21,6 +21,8 @@ pub data FaultIn (ar ws : List ℕ) (l : Limits) : ℕ → ℕ → Fault → ℕ
   no-symbol : (d at : ℕ) → at < length ws → length ar ≤ getD ws at 0 → getD ws at 0 < l .blanks → FaultIn ar ws l d at NoSymbol at
   many : (d at : ℕ) → at < length ws → Known ar l (getD ws at 0) → l .stop ≤ at → FaultIn ar ws l d at Many at
   deep : (at : ℕ) → at < length ws → Known ar l (getD ws at 0) → at < l .stop → FaultIn ar ws l zero at Deep at
-  under : (d at n : ℕ) (before : Terms) (next : ℕ) (f : Fault) (p : ℕ) → at < length ws → at < l .stop → getD ws at 0 < l .blanks → getElem? ar (getD ws at 0) ≡ some n
-      → count before < n → Fitss ar (l .blanks) before → depths before ≤ d → drop (at + 1) ws ≡ flattens before ++ drop next ws → next ≡ at + 1 + spans before → next ≤ l .stop
+  under : (d at n : ℕ) (before : Terms) (next : ℕ) (f : Fault) (p : ℕ) → at < length ws → at < l .stop → getD ws at 0 < l .blanks
+      → getElem? ar (getD ws at 0) ≡ some n
+      → count before < n → Fitss ar (l .blanks) before → depths before ≤ d → drop (at + 1) ws ≡ flattens before ++ drop next ws
+      → next ≡ at + 1 + spans before → next ≤ l .stop
       → FaultIn ar ws l d next f p → FaultIn ar ws l (suc d) at f p

@@ -28,18 +28,22 @@ module _ (i n : ℕ) (items : List ℕ) (ns : List (ℕ × ℕ)) where
       let M : List ℕ = take (2 * n - (2 * i + 2)) (drop (2 * i + 2) items) in
       let N = pairWords ns in
       let long = pairWords-length ns in
-      let fm : length M ≡ 2 * n - (2 * i + 2) = length-take-le (2 * n - (2 * i + 2)) (drop (2 * i + 2) items) (let k = length-drop (2 * i + 2) items in omega arith) in
-      let first : pairWords (take i (pairList items 0 n)) ≡ take (2 * i) items = ap pairWords (pairList-take i n items 0 (omega arith)) ∙ pairWords-list i items 0 (omega arith) in
+      let fm : length M ≡ 2 * n - (2 * i + 2) =
+      length-take-le (2 * n - (2 * i + 2)) (drop (2 * i + 2) items) (let k = length-drop (2 * i + 2) items in omega arith) in
+      let first : pairWords (take i (pairList items 0 n)) ≡ take (2 * i) items =
+      ap pairWords (pairList-take i n items 0 (omega arith)) ∙ pairWords-list i items 0 (omega arith) in
       let e₁ : 2 * (n - suc i) ≡ 2 * n - (2 * i + 2) = omega arith in
       let e₂ : 0 + 2 * suc i ≡ 2 * i + 2 = omega arith in
       let mid : pairWords (drop (suc i) (pairList items 0 n)) ≡ M =
-      ap pairWords (pairList-drop (suc i) n items 0 (omega arith)) ∙ pairWords-list (n - suc i) items (0 + 2 * suc i) (omega arith) ∙ ap₂ (λ (k m : ℕ). take k (drop m items)) e₁ e₂ in
+      ap pairWords (pairList-drop (suc i) n items 0 (omega arith)) ∙ pairWords-list (n - suc i) items (0 + 2 * suc i) (omega arith)
+      ∙ ap₂ (λ (k m : ℕ). take k (drop m items)) e₁ e₂ in
       let words : pairWords (onward i (pairList items 0 n) ns) ≡ take (2 * i) items ++ (M ++ N) =
       pairWords-append (take i (pairList items 0 n)) (drop (suc i) (pairList items 0 n) ++ ns)
       ∙ ap₂ (λ (a c : List ℕ). a ++ c) first (pairWords-append (drop (suc i) (pairList items 0 n)) ns ∙ ap (λ (a : List ℕ). a ++ N) mid) in
       let ft : length (take (2 * i) items) ≡ 2 * i = length-take-le (2 * i) items (omega arith) in
       let fl = length-append M N in
-      let long-all : length (take (2 * i) items ++ (M ++ N)) ≡ 2 * i + length (M ++ N) = length-append (take (2 * i) items) (M ++ N) ∙ ap (λ (k : ℕ). k + length (M ++ N)) ft in
+      let long-all : length (take (2 * i) items ++ (M ++ N)) ≡ 2 * i + length (M ++ N) =
+      length-append (take (2 * i) items) (M ++ N) ∙ ap (λ (k : ℕ). k + length (M ++ N)) ft in
       let seam : 2 * i + length M ≡ 2 * n - 2 = omega arith in
       ap (λ (l : List ℕ). onto l items) words
       ∙ ap (λ (k : ℕ). (take (2 * i) items ++ (M ++ N)) ++ drop k items) long-all

@@ -101,7 +101,9 @@ module _ (ar score spans items log marks : List ℕ) where
         pub tells-marks : length marks < length score → Clauses (Refused ShortBuffers) items log marks
         tells-marks l = sym (started-marks ar score spans W good fits h l)
 
-        pub tells-on : {marks′ : List ℕ} → length score ≤ length marks → marks′ ≡ sets marks 0 (replicate (length score) 0) → Clauses (On (counting 1 0)) (set (set items 0 0) 1 0) log marks′
+        pub tells-on : {marks′ : List ℕ} → length score ≤ length marks → marks′ ≡ sets marks 0 (replicate (length score) 0)
+            → Clauses (On (counting 1 0)) (set (set items 0 0) 1 0) log marks′
         tells-on l e =
             let some = score-some ar score spans good in
-            on-is log refl (begun-items items (omega arith)) (e ∙ begun-marks (length score) marks l) ∙ sym (started-on ar score spans W good fits h l)
+            on-is log refl (begun-items items (omega arith)) (e ∙ begun-marks (length score) marks l)
+            ∙ sym (started-on ar score spans W good fits h l)

@@ -80,8 +80,10 @@ module _ (plan score spans : List ℕ) (it : ℕ × ℕ) where
       go x none = refl
       go x (some b) = refl
 
-      block : (x f : ℕ) → bind (blockOf plan (getD plan 0 0) (getD plan 1 0) (it .0) f) (from x) ≡ bind (bind (blockStart plan (getD plan 0 0) (getD plan 1 0) (it .0) f) (λ b. some (x, b))) rest
-      block x f = ap (λ (o : Option (List (ℕ × ℕ) × List (ℕ × ℕ))). bind o (from x)) (block-start plan (getD plan 0 0) (getD plan 1 0) (it .0) f) ∙ go x (blockStart plan (getD plan 0 0) (getD plan 1 0) (it .0) f)
+      block : (x f : ℕ) → bind (blockOf plan (getD plan 0 0) (getD plan 1 0) (it .0) f) (from x) ≡ bind
+          (bind (blockStart plan (getD plan 0 0) (getD plan 1 0) (it .0) f) (λ b. some (x, b))) rest
+      block x f = ap (λ (o : Option (List (ℕ × ℕ) × List (ℕ × ℕ))). bind o (from x)) (block-start plan (getD plan 0 0) (getD plan 1 0) (it .0) f)
+          ∙ go x (blockStart plan (getD plan 0 0) (getD plan 1 0) (it .0) f)
 
 -- ---- what an item finds
 module _ (plan score spans : List ℕ) (s at : ℕ) where
@@ -110,7 +112,8 @@ module _ (plan score spans : List ℕ) (s at : ℕ) where
         unfolding lookHead
         head-block d = rw (good, word, e, symbol, d)
 
-        pub head-at : (b : ℕ) → blockStart plan (getD plan 0 0) (getD plan 1 0) s (getD score x 0) ≡ some b → lookHead plan score spans (s, at) ≡ some (x, b)
+        pub head-at : (b : ℕ) → blockStart plan (getD plan 0 0) (getD plan 1 0) s (getD score x 0) ≡ some b
+            → lookHead plan score spans (s, at) ≡ some (x, b)
         unfolding lookHead
         head-at b d = rw (good, word, e, symbol, d)
 
@@ -137,7 +140,8 @@ module _ (plan : List ℕ) (n : ℕ) (spans : List ℕ) (from b marks : ℕ) whe
   unfolding leadsFine
   leads-outs e = rw e
 
-  pub leads-nexts : all (fine (getD plan 2 0) marks (target n spans from)) (outsAt plan b) ≡ true → leadsFine plan n spans from b marks ≡ all (fine (getD plan 0 0) 65536 (target n spans from)) (nextsAt plan b)
+  pub leads-nexts : all (fine (getD plan 2 0) marks (target n spans from)) (outsAt plan b) ≡ true
+      → leadsFine plan n spans from b marks ≡ all (fine (getD plan 0 0) 65536 (target n spans from)) (nextsAt plan b)
   unfolding leadsFine
   leads-nexts e = rw e
 
@@ -157,12 +161,14 @@ module _ (plan score spans items : List ℕ) (log marks : ℕ) (r : Record) (i :
   sight-few l = rw (lt-leb _ _ l)
 
   module _ (g : 2 * r .waiting ≤ length items) where
-    pub sight-head : lookHead plan score spans (getD items (2 * i) 0, getD items (2 * i + 1) 0) ≡ none → sighted plan score spans items log marks r i ≡ none
+    pub sight-head : lookHead plan score spans (getD items (2 * i) 0, getD items (2 * i + 1) 0) ≡ none
+        → sighted plan score spans items log marks r i ≡ none
     unfolding sighted
     sight-head e = rw (le-leb _ _ g, e)
 
     module _ (x b : ℕ) (e : lookHead plan score spans (getD items (2 * i) 0, getD items (2 * i + 1) 0) ≡ some (x, b)) where
-      pub sight-leads : leadsFine plan (length score) spans (getD items (2 * i + 1) 0) b marks ≡ false → sighted plan score spans items log marks r i ≡ none
+      pub sight-leads : leadsFine plan (length score) spans (getD items (2 * i + 1) 0) b marks ≡ false
+          → sighted plan score spans items log marks r i ≡ none
       unfolding sighted
       sight-leads d = rw (le-leb _ _ g, e, d)
 
@@ -171,7 +177,8 @@ module _ (plan score spans items : List ℕ) (log marks : ℕ) (r : Record) (i :
         unfolding sighted
         sight-room d = rw (le-leb _ _ g, e, l, d)
 
-        pub sight-some : roomLeft plan b (length items) log r ≡ true → sighted plan score spans items log marks r i ≡ some (getD items (2 * i + 1) 0, x, b)
+        pub sight-some : roomLeft plan b (length items) log r ≡ true
+            → sighted plan score spans items log marks r i ≡ some (getD items (2 * i + 1) 0, x, b)
         unfolding sighted
         sight-some d = rw (le-leb _ _ g, e, l, d)
 
@@ -189,13 +196,16 @@ module _ (plan score spans items : List ℕ) (log marks : ℕ) (r : Record) (i :
   sighted-is {from} {x} {b} e =
       on-need (leb (2 * r .waiting) (length items)) _ e λ t₁ e₁.
       on-bind (lookHead plan score spans (getD items (2 * i) 0, getD items (2 * i + 1) 0)) _ e₁ λ h eh e₂.
-      on-need (all (fine (getD plan 2 0) marks (target (length score) spans (getD items (2 * i + 1) 0))) (outsAt plan (h .1)) && all (fine (getD plan 0 0) 65536 (target (length score) spans (getD items (2 * i + 1) 0))) (nextsAt plan (h .1))) _ e₂ λ t₃ e₃.
+      on-need (all (fine (getD plan 2 0) marks (target (length score) spans (getD items (2 * i + 1) 0))) (outsAt plan (h .1)) && all
+      (fine (getD plan 0 0) 65536 (target (length score) spans (getD items (2 * i + 1) 0))) (nextsAt plan (h .1))) _ e₂ λ t₃ e₃.
       on-need (ltb (r .logged) log && leb (2 * (r .waiting - 1 + getD plan (middle plan (h .1)) 0)) (length items)) _ e₃ λ t₄ e₄.
       let z : _≡_ {A = ℕ × ℕ × ℕ} (getD items (2 * i + 1) 0, h .0, h .1) (from, x, b) = cc in
       parts h eh (ap (λ q. q .0) z) (ap (λ q. q .1) z) (ap (λ q. q .2) z) t₁ t₃ t₄
     where
-      parts : (h : ℕ × ℕ) → lookHead plan score spans (getD items (2 * i) 0, getD items (2 * i + 1) 0) ≡ some h → getD items (2 * i + 1) 0 ≡ from → h .0 ≡ x → h .1 ≡ b → leb (2 * r .waiting) (length items) ≡ true
-          → (all (fine (getD plan 2 0) marks (target (length score) spans (getD items (2 * i + 1) 0))) (outsAt plan (h .1)) && all (fine (getD plan 0 0) 65536 (target (length score) spans (getD items (2 * i + 1) 0))) (nextsAt plan (h .1))) ≡ true
+      parts : (h : ℕ × ℕ) → lookHead plan score spans (getD items (2 * i) 0, getD items (2 * i + 1) 0) ≡ some h → getD items (2 * i + 1) 0 ≡ from
+          → h .0 ≡ x → h .1 ≡ b → leb (2 * r .waiting) (length items) ≡ true
+          → (all (fine (getD plan 2 0) marks (target (length score) spans (getD items (2 * i + 1) 0))) (outsAt plan (h .1)) && all
+          (fine (getD plan 0 0) 65536 (target (length score) spans (getD items (2 * i + 1) 0))) (nextsAt plan (h .1))) ≡ true
           → (ltb (r .logged) log && leb (2 * (r .waiting - 1 + getD plan (middle plan (h .1)) 0)) (length items)) ≡ true → Sighted from x b
       parts h eh ef ex eb t₁ t₃ t₄ = rw (← ef, ← ex, ← eb) (record {
         fits = leb-is _ _ t₁;
@@ -210,7 +220,8 @@ module _ (plan score spans items : List ℕ) (log marks : ℕ) (r : Record) (i :
   module _ {from x b : ℕ} (d : Sighted from x b) where
     -- as the marks' writer asks it
     pub sight-outs : all (fine 16 marks (target (length score) spans from)) (outsAt plan b) ≡ true
-    sight-outs = all-wider (getD plan 2 0) 16 marks (target (length score) spans from) (outsAt plan b) (counts-of plan (head-good plan score spans (getD items (2 * i) 0, from) x b (d .head)) .3) (d .outs)
+    sight-outs = all-wider (getD plan 2 0) 16 marks (target (length score) spans from) (outsAt plan b)
+        (counts-of plan (head-good plan score spans (getD items (2 * i) 0, from) x b (d .head)) .3) (d .outs)
 
     pub sight-block : middle plan b + 1 + 2 * getD plan (middle plan b) 0 ≤ length plan
     sight-block = fits-in plan b (head-fits plan score spans (getD items (2 * i) 0, from) x b (d .head))
@@ -230,9 +241,11 @@ module _ (plan score spans : List ℕ) (i : ℕ) (w : Walk) (h : i < w .count .w
   step-by : stepped plan score spans i w ≡ orRefuse w (bind (look plan score spans item) then)
   unfolding stepped tried
   step-by =
-      let p : pairs (w .count .waiting) (w .items) ≡ some (its, drop (0 + 2 * w .count .waiting) (w .items)) = pairs-list (w .count .waiting) (w .items) 0 (omega arith) in
+      let p : pairs (w .count .waiting) (w .items) ≡ some (its, drop (0 + 2 * w .count .waiting) (w .items)) =
+      pairs-list (w .count .waiting) (w .items) 0 (omega arith) in
       let z : 0 + 2 * i ≡ 2 * i = omega arith in
-      let q : getElem? its i ≡ some item = pairList-at (w .count .waiting) (w .items) 0 i h ∙ ap (λ (k : ℕ). some (getD (w .items) k 0, getD (w .items) (k + 1) 0)) z in
+      let q : getElem? its i ≡ some item =
+      pairList-at (w .count .waiting) (w .items) 0 i h ∙ ap (λ (k : ℕ). some (getD (w .items) k 0, getD (w .items) (k + 1) 0)) z in
       rw (lt-ltb _ _ h, p, q)
 
   pub step-nothing : lookHead plan score spans item ≡ none → stepped plan score spans i w ≡ refuseWalk OutOfRange w
@@ -252,12 +265,14 @@ module _ (plan score spans : List ℕ) (i : ℕ) (w : Walk) (h : i < w .count .w
     found = record { node = x; outs = outs; nexts = nexts }
 
     step-found : stepped plan score spans i w ≡ orRefuse w (bind (rest plan score spans item (x, b)) then)
-    step-found = step-by ∙ ap (λ (o : Option Finding). orRefuse w (bind o then)) (look-head plan score spans item ∙ ap (λ (o : Option (ℕ × ℕ)). bind o (rest plan score spans item)) e)
+    step-found = step-by ∙ ap (λ (o : Option Finding). orRefuse w (bind o then))
+        (look-head plan score spans item ∙ ap (λ (o : Option (ℕ × ℕ)). bind o (rest plan score spans item)) e)
 
     after-many : length (onward i its nexts) ≡ w .count .waiting - 1 + getD plan (middle plan b) 0
     after-many =
         onward-length i (w .count .waiting) its nexts h (pairList-length (w .count .waiting) (w .items) 0)
-        ∙ ap (λ (k : ℕ). w .count .waiting - 1 + k) (landed-length to (nextsAt plan b) ∙ pairList-length (getD plan (middle plan b) 0) plan (middle plan b + 1))
+        ∙ ap (λ (k : ℕ). w .count .waiting - 1 + k)
+        (landed-length to (nextsAt plan b) ∙ pairList-length (getD plan (middle plan b) 0) plan (middle plan b + 1))
 
     -- nothing stands against it
     module _ (d : Sighted plan score spans (w .items) (length (w .log)) (length (w .marks)) (w .count) i (getD (w .items) (2 * i + 1) 0) x b) where
@@ -276,65 +291,89 @@ module _ (plan score spans : List ℕ) (i : ℕ) (w : Walk) (h : i < w .count .w
       pub done-waiting : moved w found (onward i its nexts) .count .waiting ≡ w .count .waiting - 1 + getD plan (middle plan b) 0
       done-waiting = after-many
 
-      pub done-items : moved w found (onward i its nexts) .items ≡ sets (closedUp (w .items) (2 * i) (2 * w .count .waiting)) (2 * w .count .waiting - 2) (pairWords nexts)
-      done-items = onward-words i (w .count .waiting) (w .items) nexts h g (let a = d .room in let m = landed-length to (nextsAt plan b) in let k = pairList-length (getD plan (middle plan b) 0) plan (middle plan b + 1) in omega arith)
+      pub done-items : moved w found (onward i its nexts) .items ≡ sets (closedUp (w .items) (2 * i) (2 * w .count .waiting))
+          (2 * w .count .waiting - 2) (pairWords nexts)
+      done-items = onward-words i (w .count .waiting) (w .items) nexts h g
+          (let a = d .room in let m = landed-length to (nextsAt plan b) in let k =
+          pairList-length (getD plan (middle plan b) 0) plan (middle plan b + 1) in omega arith)
 
     -- something does
-    no-room : (os ns : List (ℕ × ℕ)) → roomy w (record { node = x; outs = os; nexts = ns }) (onward i its ns) ≡ false → then (record { node = x; outs = os; nexts = ns }) ≡ none
+    no-room : (os ns : List (ℕ × ℕ)) → roomy w (record { node = x; outs = os; nexts = ns }) (onward i its ns) ≡ false
+        → then (record { node = x; outs = os; nexts = ns }) ≡ none
     no-room os ns r = rw r
 
     bad-outs : all (fine (getD plan 2 0) (length (w .marks)) to) (outsAt plan b) ≡ false → bind (rest plan score spans item (x, b)) then ≡ none
     bad-outs a = ⊎-elim
         (λ (t : targets (getD plan 2 0) to (outsAt plan b) ≡ none). rw t)
-        (λ (t : (targets (getD plan 2 0) to (outsAt plan b) ≡ some outs) × (all (λ y. ltb (y .1) (length (w .marks))) outs ≡ false)). rw (t .0) (go (targets (getD plan 0 0) to (nextsAt plan b)) (t .1)))
+        (λ (t : (targets (getD plan 2 0) to (outsAt plan b) ≡ some outs) × (all (λ y. ltb (y .1) (length (w .marks))) outs ≡ false)). rw (t .0)
+        (go (targets (getD plan 0 0) to (nextsAt plan b)) (t .1)))
         (fine-fail (getD plan 2 0) (length (w .marks)) to (outsAt plan b) a)
       where
-        go : (o : Option (List (ℕ × ℕ))) → all (λ y. ltb (y .1) (length (w .marks))) outs ≡ false → bind (bind o (λ ns. some (record { node = x; outs = outs; nexts = ns }))) then ≡ none
+        go : (o : Option (List (ℕ × ℕ))) → all (λ y. ltb (y .1) (length (w .marks))) outs ≡ false
+            → bind (bind o (λ ns. some (record { node = x; outs = outs; nexts = ns }))) then ≡ none
         go none q = refl
-        go (some ns) q = no-room outs ns (and-false (ltb (w .count .logged) (length (w .log))) (and-false (leb (2 * length (onward i its ns)) (length (w .items))) q))
+        go (some ns) q = no-room outs ns (and-false (ltb (w .count .logged) (length (w .log)))
+            (and-false (leb (2 * length (onward i its ns)) (length (w .items))) q))
 
-    bad-nexts : all (fine (getD plan 2 0) (length (w .marks)) to) (outsAt plan b) ≡ true → all (fine (getD plan 0 0) 65536 to) (nextsAt plan b) ≡ false → bind (rest plan score spans item (x, b)) then ≡ none
-    bad-nexts a c = rw (fine-split (getD plan 2 0) (length (w .marks)) to (outsAt plan b) a .0, fine-small (getD plan 0 0) to (λ k y d. target-in (length score) spans (getD (w .items) (2 * i + 1) 0) k y d .1) (nextsAt plan b) c)
+    bad-nexts : all (fine (getD plan 2 0) (length (w .marks)) to) (outsAt plan b) ≡ true
+        → all (fine (getD plan 0 0) 65536 to) (nextsAt plan b) ≡ false → bind (rest plan score spans item (x, b)) then ≡ none
+    bad-nexts a c = rw (
+      fine-split (getD plan 2 0) (length (w .marks)) to (outsAt plan b) a .0,
+      fine-small (getD plan 0 0) to
+          (λ k y d. target-in (length score) spans (getD (w .items) (2 * i + 1) 0) k y d .1) (nextsAt plan b) c,
+    )
 
     bad-room : all (fine (getD plan 2 0) (length (w .marks)) to) (outsAt plan b) ≡ true → all (fine (getD plan 0 0) 65536 to) (nextsAt plan b) ≡ true
-        → (ltb (w .count .logged) (length (w .log)) && leb (2 * (w .count .waiting - 1 + getD plan (middle plan b) 0)) (length (w .items))) ≡ false → bind (rest plan score spans item (x, b)) then ≡ none
+        → (ltb (w .count .logged) (length (w .log)) && leb (2 * (w .count .waiting - 1 + getD plan (middle plan b) 0)) (length (w .items))) ≡ false
+        → bind (rest plan score spans item (x, b)) then ≡ none
     bad-room a c r =
         rw (fine-split (getD plan 2 0) (length (w .marks)) to (outsAt plan b) a .0, fine-split (getD plan 0 0) 65536 to (nextsAt plan b) c .0)
-        (no-room outs nexts (rw after-many (three (ltb (w .count .logged) (length (w .log))) (leb (2 * (w .count .waiting - 1 + getD plan (middle plan b) 0)) (length (w .items))) (all (λ y. ltb (y .1) (length (w .marks))) outs) r)))
+        (no-room outs nexts (rw after-many
+        (three (ltb (w .count .logged) (length (w .log))) (leb (2 * (w .count .waiting - 1 + getD plan (middle plan b) 0)) (length (w .items)))
+        (all (λ y. ltb (y .1) (length (w .marks))) outs) r)))
       where
         three : (p q s : Bool) → (p && q) ≡ false → (p && (q && s)) ≡ false
         three true true s k = false-true (sym k)
         three true false s k = refl
         three false q s k = refl
 
-    bad-leads : leadsFine plan (length score) spans (getD (w .items) (2 * i + 1) 0) b (length (w .marks)) ≡ false → bind (rest plan score spans item (x, b)) then ≡ none
+    bad-leads : leadsFine plan (length score) spans (getD (w .items) (2 * i + 1) 0) b (length (w .marks)) ≡ false
+        → bind (rest plan score spans item (x, b)) then ≡ none
     unfolding leadsFine
     bad-leads k = go (all (fine (getD plan 2 0) (length (w .marks)) to) (outsAt plan b)) refl k
       where
-        go : (a : Bool) → all (fine (getD plan 2 0) (length (w .marks)) to) (outsAt plan b) ≡ a → (a && all (fine (getD plan 0 0) 65536 to) (nextsAt plan b)) ≡ false → bind (rest plan score spans item (x, b)) then ≡ none
+        go : (a : Bool) → all (fine (getD plan 2 0) (length (w .marks)) to) (outsAt plan b) ≡ a
+            → (a && all (fine (getD plan 0 0) 65536 to) (nextsAt plan b)) ≡ false → bind (rest plan score spans item (x, b)) then ≡ none
         go false ea k = bad-outs ea
         go true ea k = bad-nexts ea k
 
-    bad-left : leadsFine plan (length score) spans (getD (w .items) (2 * i + 1) 0) b (length (w .marks)) ≡ true → roomLeft plan b (length (w .items)) (length (w .log)) (w .count) ≡ false → bind (rest plan score spans item (x, b)) then ≡ none
+    bad-left : leadsFine plan (length score) spans (getD (w .items) (2 * i + 1) 0) b (length (w .marks)) ≡ true
+        → roomLeft plan b (length (w .items)) (length (w .log)) (w .count) ≡ false → bind (rest plan score spans item (x, b)) then ≡ none
     unfolding leadsFine roomLeft
     bad-left l k = bad-room (and-l _ l) (and-r (all (fine (getD plan 2 0) (length (w .marks)) to) (outsAt plan b)) l) k
 
   -- no step without a sight
-  pub step-unseen : sighted plan score spans (w .items) (length (w .log)) (length (w .marks)) (w .count) i ≡ none → stepped plan score spans i w ≡ refuseWalk OutOfRange w
+  pub step-unseen : sighted plan score spans (w .items) (length (w .log)) (length (w .marks)) (w .count) i ≡ none
+      → stepped plan score spans i w ≡ refuseWalk OutOfRange w
   unfolding sighted
   step-unseen e = go (lookHead plan score spans item) refl (rw (le-leb _ _ g) at e)
     where
-      left : (x b : ℕ) → lookHead plan score spans item ≡ some (x, b) → (l m : Bool) → leadsFine plan (length score) spans (getD (w .items) (2 * i + 1) 0) b (length (w .marks)) ≡ l
-          → roomLeft plan b (length (w .items)) (length (w .log)) (w .count) ≡ m → need {A = ℕ × ℕ × ℕ} l (need m (some (getD (w .items) (2 * i + 1) 0, x, b))) ≡ none → stepped plan score spans i w ≡ refuseWalk OutOfRange w
+      left : (x b : ℕ) → lookHead plan score spans item ≡ some (x, b) → (l m : Bool)
+          → leadsFine plan (length score) spans (getD (w .items) (2 * i + 1) 0) b (length (w .marks)) ≡ l
+          → roomLeft plan b (length (w .items)) (length (w .log)) (w .count) ≡ m
+          → need {A = ℕ × ℕ × ℕ} l (need m (some (getD (w .items) (2 * i + 1) 0, x, b))) ≡ none
+          → stepped plan score spans i w ≡ refuseWalk OutOfRange w
       left x b eh true true el em d = none-not (sym d)
       left x b eh true false el em d = step-found x b eh ∙ ap (orRefuse w) (bad-left x b eh el em)
       left x b eh false m el em d = step-found x b eh ∙ ap (orRefuse w) (bad-leads x b eh el)
 
       go : (o : Option (ℕ × ℕ)) → lookHead plan score spans item ≡ o
-          → bind o (λ h. need {A = ℕ × ℕ × ℕ} (leadsFine plan (length score) spans (getD (w .items) (2 * i + 1) 0) (h .1) (length (w .marks))) (need (roomLeft plan (h .1) (length (w .items)) (length (w .log)) (w .count)) (some (getD (w .items) (2 * i + 1) 0, h .0, h .1)))) ≡ none
+          → bind o (λ h. need {A = ℕ × ℕ × ℕ} (leadsFine plan (length score) spans (getD (w .items) (2 * i + 1) 0) (h .1) (length (w .marks)))
+          (need (roomLeft plan (h .1) (length (w .items)) (length (w .log)) (w .count)) (some (getD (w .items) (2 * i + 1) 0, h .0, h .1)))) ≡ none
           → stepped plan score spans i w ≡ refuseWalk OutOfRange w
       go none eh d = step-nothing eh
-      go (some h) eh d = left (h .0) (h .1) eh (leadsFine plan (length score) spans (getD (w .items) (2 * i + 1) 0) (h .1) (length (w .marks))) (roomLeft plan (h .1) (length (w .items)) (length (w .log)) (w .count)) refl refl d
+      go (some h) eh d = left (h .0) (h .1) eh (leadsFine plan (length score) spans (getD (w .items) (2 * i + 1) 0) (h .1) (length (w .marks)))
+          (roomLeft plan (h .1) (length (w .items)) (length (w .log)) (w .count)) refl refl d
 
 -- ---- as the code tells it
 module _ (plan score spans items log marks : List ℕ) (r : Record) (i : ℕ) where
@@ -355,11 +394,14 @@ module _ (plan score spans items log marks : List ℕ) (r : Record) (i : ℕ) wh
       go (yes g) = sym (step-unseen plan score spans i W h g e)
       go (no g) = sym (step-few plan score spans i W h (omega arith))
 
-  pub tells-on : {items′ up marks′ : List ℕ} {from x b : ℕ} → i < r .waiting → sighted plan score spans items (length log) (length marks) r i ≡ some (from, x, b)
-      → up ≡ closedUp items (2 * i) (2 * r .waiting) → items′ ≡ sets up (2 * r .waiting - 2) (pairWords (landed (target (length score) spans from) (nextsAt plan b)))
+  pub tells-on : {items′ up marks′ : List ℕ} {from x b : ℕ} → i < r .waiting
+      → sighted plan score spans items (length log) (length marks) r i ≡ some (from, x, b)
+      → up ≡ closedUp items (2 * i) (2 * r .waiting)
+      → items′ ≡ sets up (2 * r .waiting - 2) (pairWords (landed (target (length score) spans from) (nextsAt plan b)))
       → marks′ ≡ marked (landed (target (length score) spans from) (outsAt plan b)) marks
       → Clauses (On (counting (r .waiting - 1 + getD plan (middle plan b) 0) (r .logged + 1))) items′ (set log (r .logged) x) marks′
-  tells-on {items′} {up} {marks′} {from} {x} {b} h e eu it ma = let d = sighted-is plan score spans items (length log) (length marks) r i e in go from (d .is-from) d it ma
+  tells-on {items′} {up} {marks′} {from} {x} {b} h e eu it ma = let d = sighted-is plan score spans items (length log) (length marks) r i e in
+      go from (d .is-from) d it ma
     where
       -- from the item's node
       here : Sighted plan score spans items (length log) (length marks) r i (getD items (2 * i + 1) 0) x b
@@ -368,10 +410,14 @@ module _ (plan score spans items log marks : List ℕ) (r : Record) (i : ℕ) wh
           → Clauses (On (counting (r .waiting - 1 + getD plan (middle plan b) 0) (r .logged + 1))) items′ (set log (r .logged) x) marks′
       here d it ma =
           let lw = sym (done-waiting plan score spans i W h (d .fits) x b (d .head) d) in
-          let li = ap (λ (l : List ℕ). sets l (2 * r .waiting - 2) (pairWords (landed (target (length score) spans (getD items (2 * i + 1) 0)) (nextsAt plan b)))) eu ∙ sym (done-items plan score spans i W h (d .fits) x b (d .head) d) in
-          on-is (set log (r .logged) x) (ap₂ counting lw (add-one (r .logged))) (it ∙ li) ma ∙ sym (step-done plan score spans i W h (d .fits) x b (d .head) d)
+          let li = ap (λ (l : List ℕ). sets l (2 * r .waiting - 2)
+          (pairWords (landed (target (length score) spans (getD items (2 * i + 1) 0)) (nextsAt plan b)))) eu
+          ∙ sym (done-items plan score spans i W h (d .fits) x b (d .head) d) in
+          on-is (set log (r .logged) x) (ap₂ counting lw (add-one (r .logged))) (it ∙ li) ma
+          ∙ sym (step-done plan score spans i W h (d .fits) x b (d .head) d)
 
       go : (from : ℕ) → from ≡ getD items (2 * i + 1) 0 → Sighted plan score spans items (length log) (length marks) r i from x b
-          → items′ ≡ sets up (2 * r .waiting - 2) (pairWords (landed (target (length score) spans from) (nextsAt plan b))) → marks′ ≡ marked (landed (target (length score) spans from) (outsAt plan b)) marks
+          → items′ ≡ sets up (2 * r .waiting - 2) (pairWords (landed (target (length score) spans from) (nextsAt plan b)))
+          → marks′ ≡ marked (landed (target (length score) spans from) (outsAt plan b)) marks
           → Clauses (On (counting (r .waiting - 1 + getD plan (middle plan b) 0) (r .logged + 1))) items′ (set log (r .logged) x) marks′
       go from z d it ma = here (rw z at d) (rw z at it) (rw z at ma)

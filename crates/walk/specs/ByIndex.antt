@@ -32,7 +32,8 @@ lookHead plan score spans it =
 
 -- n is the number of score words; from the item's node; of the block at b
 unfoldable pub leadsFine : List ℕ → ℕ → List ℕ → ℕ → ℕ → ℕ → Bool
-leadsFine plan n spans from b marks = all (fine (getD plan 2 0) marks (target n spans from)) (outsAt plan b) && all (fine (getD plan 0 0) 65536 (target n spans from)) (nextsAt plan b)
+leadsFine plan n spans from b marks = all (fine (getD plan 2 0) marks (target n spans from)) (outsAt plan b) && all
+    (fine (getD plan 0 0) 65536 (target n spans from)) (nextsAt plan b)
 
 unfoldable pub roomLeft : List ℕ → ℕ → ℕ → ℕ → Record → Bool
 roomLeft plan b items log r = ltb (r .logged) log && leb (2 * (r .waiting - 1 + getD plan (middle plan b) 0)) items

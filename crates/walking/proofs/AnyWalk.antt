@@ -88,14 +88,16 @@ module _ {C : Scored} (F : OneFolio C) where
         go (moves h n d) = absurd (omega arith)
         go (refuses h d) = d
 
-    pub taken : (i : ℕ) → i < walkIn F choices w .count .waiting → stepIn F i (walkIn F choices w) .answer ≡ On (stepIn F i (walkIn F choices w) .walk .count)
+    pub taken : (i : ℕ) → i < walkIn F choices w .count .waiting
+        → stepIn F i (walkIn F choices w) .answer ≡ On (stepIn F i (walkIn F choices w) .walk .count)
     taken i l = go (step-is i)
       where
         go : Stepping F W i → stepIn F i W .answer ≡ On (stepIn F i W .walk .count)
         go (moves h n d) = rw d
         go (refuses h d) = absurd (omega arith)
 
-    pub one-logged : (i : ℕ) → i < walkIn F choices w .count .waiting → stepIn F i (walkIn F choices w) .walk .count .logged ≡ suc (walkIn F choices w .count .logged)
+    pub one-logged : (i : ℕ) → i < walkIn F choices w .count .waiting
+        → stepIn F i (walkIn F choices w) .walk .count .logged ≡ suc (walkIn F choices w .count .logged)
     one-logged i l = go (step-is i)
       where
         go : Stepping F W i → stepIn F i W .walk .count .logged ≡ suc (W .count .logged)
@@ -110,7 +112,8 @@ module _ {C : Scored} (F : OneFolio C) where
         go (refuses h d) = absurd (omega arith)
 
     finished : walkIn F choices w .count .waiting ≡ 0 → Walked C [] (same-walk .read) (same-walk .told)
-    finished e = subst (λ l. Walked C (map (posItem (F .states)) l) (same-walk .read) (same-walk .told)) (none-left (same-walk .ns) (sym (same-walk .waiting-is) ∙ e)) (same-walk .walked)
+    finished e = subst (λ l. Walked C (map (posItem (F .states)) l) (same-walk .read) (same-walk .told))
+        (none-left (same-walk .ns) (sym (same-walk .waiting-is) ∙ e)) (same-walk .walked)
 
     bit-told : (j n : ℕ) (p : Pos) → number t p ≡ some n → (bit (getD (walkIn F choices w .marks) n 0) j ≡ 1) ↔ (announced j p ∈ same-walk .told)
     bit-told j n p e =
@@ -123,7 +126,8 @@ module _ {C : Scored} (F : OneFolio C) where
     stands q m = (walked-invariant C (same-walk .walked)) .read-inside q m
 
     -- a node is in the log exactly if its position was read
-    in-log : (q : Pos) (m : ℕ) → number t q ≡ some m → (m ∈ take (walkIn F choices w .count .logged) (walkIn F choices w .log)) ↔ (q ∈ same-walk .read)
+    in-log : (q : Pos) (m : ℕ) → number t q ≡ some m
+        → (m ∈ take (walkIn F choices w .count .logged) (walkIn F choices w .log)) ↔ (q ∈ same-walk .read)
     in-log q m e = rw (same-walk .logged-is, same-walk .log-are) (
       λ i. on-map (num t) (same-walk .read) i λ r k d.
           let v = stands r k in
@@ -138,7 +142,8 @@ module _ {C : Scored} (F : OneFolio C) where
         z : m ≡ num t q
         z = let d : number t q ≡ some (num t q) = num-is t q (u .0) (u .1) in cc
 
-    pub marks-right : walkIn F choices w .count .waiting ≡ 0 → (j : ℕ) (x : Term) → getElem? shapes j ≡ some x → (n : ℕ) (p : Pos) → number t p ≡ some n
+    pub marks-right : walkIn F choices w .count .waiting ≡ 0 → (j : ℕ) (x : Term) → getElem? shapes j ≡ some x → (n : ℕ) (p : Pos)
+        → number t p ≡ some n
         → (bit (getD (walkIn F choices w .marks) n 0) j ≡ 1) ↔ Matches x t p
     marks-right done j x gx n p e =
         let b = bit-told j n p e in
@@ -147,7 +152,8 @@ module _ {C : Scored} (F : OneFolio C) where
 
     pub marks-so-far : (j : ℕ) (x : Term) → getElem? shapes j ≡ some x → (n : ℕ) (p : Pos) → number t p ≡ some n
         → (bit (getD (walkIn F choices w .marks) n 0) j ≡ 1)
-        ↔ (Matches x t p × ((r : Pos) (k m : ℕ) → headAt x r ≡ some k → number t (p ++ r) ≡ some m → m ∈ take (walkIn F choices w .count .logged) (walkIn F choices w .log)))
+        ↔ (Matches x t p × ((r : Pos) (k m : ℕ) → headAt x r ≡ some k → number t (p ++ r) ≡ some m
+        → m ∈ take (walkIn F choices w .count .logged) (walkIn F choices w .log)))
     marks-so-far j x gx n p e =
         let b = bit-told j n p e in
         let c = walks.announced-so-far C (same-walk .walked) j x gx p in (
@@ -161,7 +167,8 @@ module _ {C : Scored} (F : OneFolio C) where
         )
 
     pub marks-shapes : (j n : ℕ) → n < span t → bit (getD (walkIn F choices w .marks) n 0) j ≡ 1 → (x : Term) × (getElem? shapes j ≡ some x)
-    marks-shapes j n h b = let p = node-at t n h in (walked-invariant C (same-walk .walked)) .shape (announced j (p .0)) ((bit-told j n (p .0) (p .1)) .0 b)
+    marks-shapes j n h b = let p = node-at t n h in
+        (walked-invariant C (same-walk .walked)) .shape (announced j (p .0)) ((bit-told j n (p .0) (p .1)) .0 b)
 
     pub waits-unread : walkIn F choices w .count .waiting + walkIn F choices w .count .logged ≤ span t
     waits-unread =
@@ -181,7 +188,8 @@ module _ {C : Scored} (F : OneFolio C) where
     steps-end = let e = ends-read in (λ h. accepted-logged ∙ e .0 h, λ h. e .1 (sym accepted-logged ∙ h))
 
     pub log-once : Distinct (take (walkIn F choices w .count .logged) (walkIn F choices w .log))
-    log-once = rw (same-walk .logged-is, same-walk .log-are) (distinct-map (num t) (same-walk .read) inj ((walks.each-read-once C (same-walk .walked)) .0))
+    log-once = rw (same-walk .logged-is, same-walk .log-are)
+        (distinct-map (num t) (same-walk .read) inj ((walks.each-read-once C (same-walk .walked)) .0))
       where
         inj : (a b : Pos) → a ∈ same-walk .read → b ∈ same-walk .read → num t a ≡ num t b → a ≡ b
         inj a b i j e =
@@ -190,16 +198,19 @@ module _ {C : Scored} (F : OneFolio C) where
             num-inj t a b (u .0) (v .0) (u .1) (v .1) e
 
     pub log-nodes : (m : ℕ) → m ∈ take (walkIn F choices w .count .logged) (walkIn F choices w .log) → m < span t
-    log-nodes m i = on-map (num t) (same-walk .read) (rw (same-walk .logged-is, same-walk .log-are) at i) λ q k d. let u = stands q k in rw d (num-below t q (u .0) (u .1))
+    log-nodes m i = on-map (num t) (same-walk .read) (rw (same-walk .logged-is, same-walk .log-are) at i) λ q k d. let u = stands q k in
+        rw d (num-below t q (u .0) (u .1))
 
-    pub log-all : walkIn F choices w .count .waiting ≡ 0 → (n : ℕ) → n < span t → n ∈ take (walkIn F choices w .count .logged) (walkIn F choices w .log)
+    pub log-all : walkIn F choices w .count .waiting ≡ 0 → (n : ℕ) → n < span t
+        → n ∈ take (walkIn F choices w .count .logged) (walkIn F choices w .log)
     log-all done n h =
         let p = node-at t n h in
         let u = sub-number (p .0) t n (p .1) in
         (in-log (p .0) n (p .1)) .1 (read-all C (walked-invariant C (finished done)) (p .0) (u .0) (u .1))
 
   -- whatever was chosen, and whatever the buffers held before
-  pub same-marks : (w : Walk) → EnoughLent F w → (choices : List ℕ) (w′ : Walk) → EnoughLent F w′ → (choices′ : List ℕ) → walkIn F choices w .count .waiting ≡ 0 → walkIn F choices′ w′ .count .waiting ≡ 0
+  pub same-marks : (w : Walk) → EnoughLent F w → (choices : List ℕ) (w′ : Walk) → EnoughLent F w′ → (choices′ : List ℕ)
+      → walkIn F choices w .count .waiting ≡ 0 → walkIn F choices′ w′ .count .waiting ≡ 0
       → (n : ℕ) → n < span t → getD (walkIn F choices w .marks) n 0 ≡ getD (walkIn F choices′ w′ .marks) n 0
   same-marks w lent choices w′ lent′ choices′ e e′ n h =
       let p = node-at t n h in

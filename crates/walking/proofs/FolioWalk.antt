@@ -41,7 +41,8 @@ module _ {ar : List ℕ} {shapes : List Term} {score : Term} (folio : Folio ar s
   scoredOf = record { setting = settingOf; score = score; score-blanks = noBlank; score-fits = folio .is-score .fits; whole = folio .is-score .whole }
 
   -- the words of the plan of these states and blocks, and any words behind them
-  abbrev oneFolio : (states : List (State Pos)) (blocks : List Block) → explored (construction (bare shapes)) ar ≡ made states blocks → (behind : List ℕ)
+  abbrev oneFolio : (states : List (State Pos)) (blocks : List Block) → explored (construction (bare shapes)) ar ≡ made states blocks
+      → (behind : List ℕ)
       → OneFolio scoredOf
   oneFolio states blocks ex behind =
       let n = explored-numbered settingOf states blocks ex in

@@ -34,7 +34,8 @@ not-refused e = let z : _≡_ {A = ℕ} 0 1 = cc in absurd (omega arith)
 
 module _ (plan score spans : List ℕ) (i : ℕ) (w : Walk) where
   on-tried {κ} : {Z : Type κ} (v : Walk) → tried plan score spans i w ≡ some v
-      → ((its : List (ℕ × ℕ)) (found : Finding) → roomy w found (onward i its (found .nexts)) ≡ true → v ≡ moved w found (onward i its (found .nexts)) → Z) → Z
+      → ((its : List (ℕ × ℕ)) (found : Finding) → roomy w found (onward i its (found .nexts)) ≡ true → v ≡ moved w found (onward i its (found .nexts))
+      → Z) → Z
   unfolding tried
   on-tried v e k =
       on-bind (pairs (w .count .waiting) (w .items)) _ e λ its e₁ d₁.
@@ -89,7 +90,8 @@ module _ (plan score spans : List ℕ) (i : ℕ) (w : Walk) where
     where
       go : (ns : List (ℕ × ℕ)) (found : Finding) → roomy w found ns ≡ true → Kept (moved w found ns)
       go ns found t =
-          let r : leb (2 * length ns) (length (w .items)) ≡ true = and-l (all (λ x. ltb (x .1) (length (w .marks))) (found .outs)) (and-r (ltb (w .count .logged) (length (w .log))) t) in
+          let r : leb (2 * length ns) (length (w .items)) ≡ true =
+          and-l (all (λ x. ltb (x .1) (length (w .marks))) (found .outs)) (and-r (ltb (w .count .logged) (length (w .log))) t) in
           let h = leb-is (2 * length ns) (length (w .items)) r in
           let l = pairWords-length ns in
           record {
@@ -110,7 +112,8 @@ module _ (ar score spans : List ℕ) where
       go true ea false eb = rw (ea, eb)
       go true ea true eb = not-refused (sym (whole ea eb) ∙ e)
         where
-          whole : scoreGood ar score spans ≡ true → roomFor (length score) w ≡ true → started ar score spans w .answer ≡ On (begun (length score) w .count)
+          whole : scoreGood ar score spans ≡ true → roomFor (length score) w ≡ true
+              → started ar score spans w .answer ≡ On (begun (length score) w .count)
           whole p q = rw (p, q)
 
   -- the record that the walk had before is not looked at
@@ -123,9 +126,11 @@ module _ (ar score spans : List ℕ) where
   start-any items log marks c d = go (scoreGood ar score spans) (roomFor (length score) (walkOf items log marks c))
     where
       tell : Bool → Bool → Record → WalkOutcome
-      tell a b r = unless a (refuseWalk BadScore (walkOf items log marks r)) (unless b (refuseWalk ShortBuffers (walkOf items log marks r)) (goOn (begun (length score) (walkOf items log marks r))))
+      tell a b r = unless a (refuseWalk BadScore (walkOf items log marks r))
+          (unless b (refuseWalk ShortBuffers (walkOf items log marks r)) (goOn (begun (length score) (walkOf items log marks r))))
 
-      go : (a b : Bool) → (tell a b c .answer ≡ tell a b d .answer) × (tell a b c .walk .items ≡ tell a b d .walk .items) × (tell a b c .walk .log ≡ tell a b d .walk .log) × (tell a b c .walk .marks ≡ tell a b d .walk .marks)
+      go : (a b : Bool) → (tell a b c .answer ≡ tell a b d .answer) × (tell a b c .walk .items ≡ tell a b d .walk .items)
+          × (tell a b c .walk .log ≡ tell a b d .walk .log) × (tell a b c .walk .marks ≡ tell a b d .walk .marks)
       go false b = (refl, refl, refl, refl)
       go true false = (refl, refl, refl, refl)
       go true true = (refl, refl, refl, refl)

@@ -44,15 +44,23 @@ unfolding marked
 marked-length [] ms = refl
 marked-length (x ∷ xs) ms = marked-length xs (put x ms) ∙ length-set ms (x .1) (withBit (getD ms (x .1) 0) (x .0))
 
-pub marked-is : (xs : List (ℕ × ℕ)) (ms : List ℕ) → ((x : ℕ × ℕ) → x ∈ xs → x .1 < length ms) → (y : ℕ × ℕ) → Marked (marked xs ms) y ↔ (Marked ms y ⊎ (y ∈ xs))
+pub marked-is : (xs : List (ℕ × ℕ)) (ms : List ℕ) → ((x : ℕ × ℕ) → x ∈ xs → x .1 < length ms) → (y : ℕ × ℕ)
+    → Marked (marked xs ms) y ↔ (Marked ms y ⊎ (y ∈ xs))
 unfolding marked
 marked-is [] ms h y = (λ m. inl m, λ c. ⊎-elim (λ m. m) (λ m. elim m [ ]) c)
-marked-is (x ∷ xs) ms h y = both-ways (marked-is xs (put x ms) (λ z m. rw (length-set ms (x .1) (withBit (getD ms (x .1) 0) (x .0))) (h z (there m))) y) (put-cases ms x (h x (here refl)) y)
+marked-is (x ∷ xs) ms h y = both-ways
+    (marked-is xs (put x ms) (λ z m. rw (length-set ms (x .1) (withBit (getD ms (x .1) 0) (x .0))) (h z (there m))) y)
+    (put-cases ms x (h x (here refl)) y)
   where
-    both-ways : Marked (marked xs (put x ms)) y ↔ (Marked (put x ms) y ⊎ (y ∈ xs)) → (y ≡ x) ⊎ (bit (getD (put x ms) (y .1) 0) (y .0) ≡ bit (getD ms (y .1) 0) (y .0))
+    both-ways : Marked (marked xs (put x ms)) y ↔ (Marked (put x ms) y ⊎ (y ∈ xs)) → (y ≡ x)
+        ⊎ (bit (getD (put x ms) (y .1) 0) (y .0) ≡ bit (getD ms (y .1) 0) (y .0))
         → Marked (marked xs (put x ms)) y ↔ (Marked ms y ⊎ (y ∈ (x ∷ xs)))
     both-ways ih (inl e) = (λ m. inr (here e), λ c. ih .1 (inl (rw e (put-new ms x (h x (here refl))))))
-    both-ways ih (inr e) = (λ m. ⊎-elim (λ (a : Marked (put x ms) y). inl (sym e ∙ a)) (λ i. inr (there i)) (ih .0 m), λ c. ih .1 (⊎-elim (λ (a : Marked ms y). inl (e ∙ a)) rest c))
+    both-ways ih (inr e) = (
+      λ m. ⊎-elim (λ (a : Marked (put x ms) y). inl (sym e ∙ a)) (λ i. inr (there i)) (ih .0 m),
+      λ c. ih .1
+          (⊎-elim (λ (a : Marked ms y). inl (e ∙ a)) rest c),
+    )
       where
         rest : y ∈ (x ∷ xs) → Marked (put x ms) y ⊎ (y ∈ xs)
         rest (here d) = inl (rw d (put-new ms x (h x (here refl))))

@@ -23,7 +23,8 @@ use Rattle.walking.specs.OneFolio.{outPair, succPair, ReadsAs}
 use Rattle.readers.specs.PlanParts.{countsGood, pairs, countedPairs, blockAt, labelWord, blockOf}
 
 -- ---- a block at the head of the words
-pairs-of : {A : Type 0} (F G : A → ℕ) (xs : List A) (r : List ℕ) → pairs (length xs) (gather (λ x. F x ∷ G x ∷ []) xs ++ r) ≡ some (map (λ x. (F x, G x)) xs, r)
+pairs-of : {A : Type 0} (F G : A → ℕ) (xs : List A) (r : List ℕ)
+    → pairs (length xs) (gather (λ x. F x ∷ G x ∷ []) xs ++ r) ≡ some (map (λ x. (F x, G x)) xs, r)
 unfolding pairs
 pairs-of F G [] r = refl
 pairs-of F G (x ∷ xs) r = rw (pairs-of F G xs r)
@@ -138,11 +139,13 @@ module _ {S : Type 0} (C : Construction S) (k n : ℕ) (ss : List S) (bs : List 
         whole : 4 + length ss + length ss * k ≡ length H + length (map blockWords bs)
         whole = omega (arith, length-map ss (λ s. code (C .label s)), length-map bs blockWords)
 
-    pub block-read : (s f : ℕ) (b : Block) → s < length ss → f < k → getElem? bs (s * k + f) ≡ some b → blockOf words (length ss) k s f ≡ some (map outPair (b .out), map succPair (b .succs))
+    pub block-read : (s f : ℕ) (b : Block) → s < length ss → f < k → getElem? bs (s * k + f) ≡ some b
+        → blockOf words (length ss) k s f ≡ some (map outPair (b .out), map succPair (b .succs))
     unfolding blockOf
     block-read s f b hs hf e =
         let w = block-there (s * k + f) b e in
-        rw (is-ltb s (length ss) hs, is-ltb f k hf, getElem-some words (4 + length ss + (s * k + f)) (start-there (s * k + f) b e)) (ap blockAt (w .1) ∙ block-of b (w .0))
+        rw (is-ltb s (length ss) hs, is-ltb f k hf, getElem-some words (4 + length ss + (s * k + f)) (start-there (s * k + f) b e))
+        (ap blockAt (w .1) ∙ block-of b (w .0))
 
     pub plan-reads : 1 ≤ length ss → length ss ≤ 128 → 1 ≤ k → k ≤ 32 → 1 ≤ n → n ≤ 16 → ReadsAs C k n ss bs words
     plan-reads a b c d e f = record {
@@ -159,7 +162,8 @@ pub on-planned {κ} : {Z : Type κ} {S : Type 0} (C : Construction S) (ar : List
     → ((ss : List S) (bs : List Block) → explored C ar ≡ made ss bs → m ≡ length ss → w ≡ planWords C (length ar) n ss bs → Z) → Z
 on-planned {Z = Z} {S = S} C ar n room m w e k = go (explored C ar) refl e
   where
-    fits : (ss : List S) (bs : List Block) (b : Bool) → explored C ar ≡ made ss bs → cond b too-long (plan-of (length ss) (planWords C (length ar) n ss bs)) ≡ plan-of m w → Z
+    fits : (ss : List S) (bs : List Block) (b : Bool) → explored C ar ≡ made ss bs
+        → cond b too-long (plan-of (length ss) (planWords C (length ar) n ss bs)) ≡ plan-of m w → Z
     fits ss bs true em d = let z : _≡_ {A = ℕ} 0 1 = cc in absurd (omega arith)
     fits ss bs false em d =
         let a : m ≡ length ss = cc in
@@ -168,4 +172,5 @@ on-planned {Z = Z} {S = S} C ar n room m w e k = go (explored C ar) refl e
 
     go : (x : Made S) → explored C ar ≡ x → toPlan C room (length ar) n x ≡ plan-of m w → Z
     go (refused r p) em d = let z : _≡_ {A = ℕ} 0 1 = cc in absurd (omega arith)
-    go (made ss bs) em d = fits ss bs (ltb room (length (planWords C (length ar) n ss bs)) || ltb 65535 (length (planWords C (length ar) n ss bs))) em d
+    go (made ss bs) em d = fits ss bs (ltb room (length (planWords C (length ar) n ss bs)) || ltb 65535 (length (planWords C (length ar) n ss bs))) em
+        d

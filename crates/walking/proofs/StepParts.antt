@@ -16,7 +16,8 @@ use Rattle.walk.specs.Starting.{Walk}
 use Rattle.walk.specs.Stepping.{Finding, look, onward, roomy, moved, tried}
 use Rattle.queue.specs.Targets.{targets}
 
-pub targets-of : {A : Type 0} (limit : ℕ) (to : ℕ → Option ℕ) (N C D : A → ℕ) (xs : List A) → ((x : A) → x ∈ xs → (N x < limit) × (to (C x) ≡ some (D x)))
+pub targets-of : {A : Type 0} (limit : ℕ) (to : ℕ → Option ℕ) (N C D : A → ℕ) (xs : List A)
+    → ((x : A) → x ∈ xs → (N x < limit) × (to (C x) ≡ some (D x)))
     → targets limit to (map (λ x. (N x, C x)) xs) ≡ some (map (λ x. (N x, D x)) xs)
 unfolding targets
 targets-of limit to N C D [] h = refl
@@ -33,7 +34,9 @@ pub look-of : (plan score spans : List ℕ) (m k n : ℕ) → countsGood plan �
 unfolding look
 look-of plan score spans m k n good em ek en s x c y f os ns os′ ns′ el et ef eb eo es = rw (good, em, ek, en, el, et, ef, eb, eo, es)
 
-pub tried-of : (plan score spans : List ℕ) (i : ℕ) (v : Walk) (its : List (ℕ × ℕ)) (rest : List ℕ) (it : ℕ × ℕ) (found : Finding) → pairs (v .count .waiting) (v .items) ≡ some (its, rest) → getElem? its i ≡ some it
-    → look plan score spans it ≡ some found → roomy v found (onward i its (found .nexts)) ≡ true → tried plan score spans i v ≡ some (moved v found (onward i its (found .nexts)))
+pub tried-of : (plan score spans : List ℕ) (i : ℕ) (v : Walk) (its : List (ℕ × ℕ)) (rest : List ℕ) (it : ℕ × ℕ) (found : Finding)
+    → pairs (v .count .waiting) (v .items) ≡ some (its, rest) → getElem? its i ≡ some it
+    → look plan score spans it ≡ some found → roomy v found (onward i its (found .nexts)) ≡ true
+    → tried plan score spans i v ≡ some (moved v found (onward i its (found .nexts)))
 unfolding tried
 tried-of plan score spans i v its rest it found a b c d = rw (a, b, c, d)

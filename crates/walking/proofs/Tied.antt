@@ -119,36 +119,48 @@ module _ {C : Scored} (F : OneFolio C) where
         at-goal : (g : Goal Pos) → a ≡ announcement g → a .shape < length (S .shapes) → Small (a .at) → label K st ≼ g .ann → OutOk S t (y .1) a
         at-goal g d l sm low =
             let ea : a .at ≡ g .ann = ap (λ x. x .at) d in
-            let e : y .1 ++ label K st ≡ (y .1 ++ a .at) ++ low .by = ap (λ q. y .1 ++ q) (low .eq ∙ ap (λ q. q ++ low .by) (sym ea)) ∙ sym (append-assoc (y .1) (a .at) (low .by)) in
+            let e : y .1 ++ label K st ≡ (y .1 ++ a .at) ++ low .by =
+            ap (λ q. y .1 ++ q) (low .eq ∙ ap (λ q. q ++ low .by) (sym ea)) ∙ sym (append-assoc (y .1) (a .at) (low .by)) in
             let v = sub-prefix t (y .1 ++ a .at) (low .by) (node f ts) (sym (ap (sub t) e) ∙ seen) in
             record { below = l; to = target-num t (y .1) (a .at) (v .0) (F .few-nodes) sm (v .1); there-is = v .0; stands = v .1 }
 
     -- the step over positions
-    after : Walked C (cs ++ (ds ++ map (posItem ss) (map (succItem (y .1)) (blk .0 .succs)))) (read ++ (looks S (posItem ss y) ∷ [])) (told ++ announces S (posItem ss y) f (count ts))
+    after : Walked C (cs ++ (ds ++ map (posItem ss) (map (succItem (y .1)) (blk .0 .succs)))) (read ++ (looks S (posItem ss y) ∷ []))
+        (told ++ announces S (posItem ss y) f (count ts))
     after = step cs ds read told (posItem ss y) f ts (map (posItem ss) (map (succItem (y .1)) (blk .0 .succs))) w seen
         (rw (map-map (posItem ss) (succItem (y .1)) (blk .0 .succs)) (links-go S ss bs made (posItem ss y) f (count ts) (blk .0) (blk .2)))
 
-    succ-ok : (x : Succ) → x ∈ blk .0 .succs → (x .to < length ss) × (target (length (flatten t)) (sizes t) (num t (y .1)) (code (x .by)) ≡ some (num t (y .1 ++ x .by)))
+    succ-ok : (x : Succ) → x ∈ blk .0 .succs → (x .to < length ss)
+        × (target (length (flatten t)) (sizes t) (num t (y .1)) (code (x .by)) ≡ some (num t (y .1 ++ x .by)))
     succ-ok x m =
         let sm = succ-small S ss bs made st sound f (count ts) arity (blk .0) (blk .2) x m in
-        let u = can-look C (walked-invariant C after) (posItem ss (succItem (y .1) x)) (∈-right cs (∈-right ds (map-in (posItem ss) (map-in (succItem (y .1)) m)))) in
+        let u = can-look C (walked-invariant C after) (posItem ss (succItem (y .1) x))
+        (∈-right cs (∈-right ds (map-in (posItem ss) (map-in (succItem (y .1)) m)))) in
         let v = sub-prefix t (y .1 ++ x .by) (label K (getD ss (x .to) [])) (node (u .0) (u .1)) (u .2) in
         (sm .0, target-num t (y .1) (x .by) (v .0) (F .few-nodes) (sm .1) (v .1))
 
     -- what the words say
     look-is : look (planIn F) (flatten t) (sizes t) (wordItem t y)
-        ≡ some (record { node = num t (looks S (posItem ss y)); outs = map (outWord t (y .1)) (blk .0 .out); nexts = map (λ x. wordItem t (succItem (y .1) x)) (blk .0 .succs) })
+        ≡ some (record {
+          node = num t (looks S (posItem ss y));
+          outs = map (outWord t (y .1)) (blk .0 .out);
+          nexts =
+              map (λ x. wordItem t (succItem (y .1) x)) (blk .0 .succs);
+        })
     look-is =
         look-of (planIn F) (flatten t) (sizes t) (length ss) (length (S .counts)) (length (S .shapes))
         (F .reads .counts-good) (F .reads .states-are) (F .reads .symbols-are) (F .reads .shapes-are)
         (y .0) (num t (y .1)) (code (label K st)) (num t (looks S (posItem ss y))) f
-        (map outPair (blk .0 .out)) (map succPair (blk .0 .succs)) (map (outWord t (y .1)) (blk .0 .out)) (map (λ x. wordItem t (succItem (y .1) x)) (blk .0 .succs))
+        (map outPair (blk .0 .out)) (map succPair (blk .0 .succs)) (map (outWord t (y .1)) (blk .0 .out))
+        (map (λ x. wordItem t (succItem (y .1) x)) (blk .0 .succs))
         (F .reads .label-read (y .0) st (at-getD ss (y .0) [] known))
         (target-num t (y .1) (label K st) (node f ts) (F .few-nodes) (label-small S st sound) seen)
         (word-at t (looks S (posItem ss y)) f ts (num t (looks S (posItem ss y))) seen (num-is t (looks S (posItem ss y)) (node f ts) seen))
         (F .reads .block-read (y .0) f (blk .0) known (at-below (S .counts) f arity) (blk .1))
-        (targets-of (length (S .shapes)) (target (length (flatten t)) (sizes t) (num t (y .1))) (λ a. a .shape) (λ a. code (a .at)) (λ a. num t (y .1 ++ a .at)) (blk .0 .out) (λ a m. let o = out-ok a m in (o .below, o .to)))
-        (targets-of (length ss) (target (length (flatten t)) (sizes t) (num t (y .1))) (λ x. x .to) (λ x. code (x .by)) (λ x. num t (y .1 ++ x .by)) (blk .0 .succs) succ-ok)
+        (targets-of (length (S .shapes)) (target (length (flatten t)) (sizes t) (num t (y .1))) (λ a. a .shape) (λ a. code (a .at))
+        (λ a. num t (y .1 ++ a .at)) (blk .0 .out) (λ a m. let o = out-ok a m in (o .below, o .to)))
+        (targets-of (length ss) (target (length (flatten t)) (sizes t) (num t (y .1))) (λ x. x .to) (λ x. code (x .by)) (λ x. num t (y .1 ++ x .by))
+        (blk .0 .succs) succ-ok)
 
   pub record Tied (v : Walk) : Type 0 where
     pub ns : List (ℕ × Pos)
@@ -177,7 +189,8 @@ module _ {C : Scored} (F : OneFolio C) where
     pub clear : (x : ℕ × ℕ) → x ∈ found .outs → bit (getD (v .marks) (x .1) 0) (x .0) ≡ 0
     pub apart : Distinct (found .outs)
 
-  module _ (v : Walk) (T : Tied v) (i : ℕ) (y : ℕ × Pos) (ey : getElem? (T .ns) i ≡ some y) (f : ℕ) (ts : Terms) (seen : sub t (looks S (posItem ss y)) ≡ some (node f ts)) where
+  module _ (v : Walk) (T : Tied v) (i : ℕ) (y : ℕ × Pos) (ey : getElem? (T .ns) i ≡ some y) (f : ℕ) (ts : Terms)
+      (seen : sub t (looks S (posItem ss y)) ≡ some (node f ts)) where
     abbrev cs : List Item
     cs = map (posItem ss) (take i (T .ns))
 
@@ -185,7 +198,8 @@ module _ {C : Scored} (F : OneFolio C) where
     ds = map (posItem ss) (drop (suc i) (T .ns))
 
     w₁ : Walked C (cs ++ (posItem ss y ∷ ds)) (T .read) (T .told)
-    w₁ = subst (λ l. Walked C l (T .read) (T .told)) (ap (map (posItem ss)) (split-at (T .ns) i ey) ∙ map-append (posItem ss) (take i (T .ns)) (y ∷ drop (suc i) (T .ns))) (T .walked)
+    w₁ = subst (λ l. Walked C l (T .read) (T .told))
+        (ap (map (posItem ss)) (split-at (T .ns) i ey) ∙ map-append (posItem ss) (take i (T .ns)) (y ∷ drop (suc i) (T .ns))) (T .walked)
 
     yk : y .0 < length ss
     yk = T .known y (at-in (T .ns) i ey)
@@ -204,7 +218,8 @@ module _ {C : Scored} (F : OneFolio C) where
 
     w₂ : Walked C (map (posItem ss) ns′) (T .read ++ (q ∷ [])) (T .told ++ new)
     w₂ = subst (λ l. Walked C l (T .read ++ (q ∷ [])) (T .told ++ new))
-        (sym (map-append (posItem ss) (take i (T .ns)) (drop (suc i) (T .ns) ++ map (succItem (y .1)) (B .succs)) ∙ ap (λ l. cs ++ l) (map-append (posItem ss) (drop (suc i) (T .ns)) (map (succItem (y .1)) (B .succs)))))
+        (sym (map-append (posItem ss) (take i (T .ns)) (drop (suc i) (T .ns) ++ map (succItem (y .1)) (B .succs))
+        ∙ ap (λ l. cs ++ l) (map-append (posItem ss) (drop (suc i) (T .ns)) (map (succItem (y .1)) (B .succs)))))
         (after cs ds (T .read) (T .told) y w₁ yk f ts seen)
 
     abbrev found : Finding
@@ -249,7 +264,8 @@ module _ {C : Scored} (F : OneFolio C) where
         let l = length-map ns′ (wordItem t) in
         let h = fewer in
         let g = log-has-room in
-        both (is-ltb (v .count .logged) (length (v .log)) (omega arith)) (both (is-leb (2 * length (map (wordItem t) ns′)) (length (v .items)) (omega arith))
+        both (is-ltb (v .count .logged) (length (v .log)) (omega arith))
+        (both (is-leb (2 * length (map (wordItem t) ns′)) (length (v .items)) (omega arith))
         (all-of (λ x. ltb (x .1) (length (v .marks))) (found .outs) (λ x m. let k = out-node x m in is-ltb (x .1) (length (v .marks)) (omega arith))))
 
     -- bits and announcements
@@ -266,7 +282,8 @@ module _ {C : Scored} (F : OneFolio C) where
         let ep : p ≡ y .1 ++ a .at = num-inj t p (y .1 ++ a .at) u (o .there-is) e (o .stands) (ap (λ z. z .1) d) in
         rw (ej, ep, new-is) (map-in (placed S (posItem ss y)) k)
 
-    bits′ : (j : ℕ) (p : Pos) (u : Term) → sub t p ≡ some u → Marked (marked (found .outs) (v .marks)) (j, num t p) ↔ (announced j p ∈ (T .told ++ new))
+    bits′ : (j : ℕ) (p : Pos) (u : Term) → sub t p ≡ some u
+        → Marked (marked (found .outs) (v .marks)) (j, num t p) ↔ (announced j p ∈ (T .told ++ new))
     bits′ j p u e =
         let d = T .marks-room in
         let h = marked-is (found .outs) (v .marks) (λ x m. let k = out-node x m in omega arith) (j, num t p) in
@@ -288,7 +305,8 @@ module _ {C : Scored} (F : OneFolio C) where
         let a : length (T .read ++ (q ∷ [])) ≡ suc (length (T .read)) = rw length-append (omega arith) in
         let b = T .log-room in
         let g = log-has-room in
-        rw (a, T .logged-is) (take-set (v .log) (length (T .read)) (num t q) (omega arith) ∙ rw (T .log-are) (sym (map-append (num t) (T .read) (q ∷ []))))
+        rw (a, T .logged-is) (take-set (v .log) (length (T .read)) (num t q) (omega arith)
+        ∙ rw (T .log-are) (sym (map-append (num t) (T .read) (q ∷ []))))
 
     next-tied : Tied (moved v found (map (wordItem t) ns′))
     next-tied = record {
@@ -317,12 +335,14 @@ module _ {C : Scored} (F : OneFolio C) where
         let o = ok a k in
         let told-before = (T .bits (a .shape) (y .1 ++ a .at) (o .there-is) (o .stands)) .0 b in
         new-only C cs ds (T .read) (T .told) (posItem ss y) f ts (map (posItem ss) (map (succItem (y .1)) (B .succs))) (walked-invariant C w₁) seen
-        (rw (map-map (posItem ss) (succItem (y .1)) (B .succs)) (links-go S ss bs made (posItem ss y) f (count ts) B ((blk cs ds (T .read) (T .told) y w₁ yk f ts seen) .2)))
+        (rw (map-map (posItem ss) (succItem (y .1)) (B .succs))
+        (links-go S ss bs made (posItem ss y) f (count ts) B ((blk cs ds (T .read) (T .told) y w₁ yk f ts seen) .2)))
         (announced (a .shape) (y .1 ++ a .at)) (rw new-is (map-in (placed S (posItem ss y)) k)) told-before))
 
     -- two announcements differ in shape or node
     apart′ : Distinct (found .outs)
-    apart′ = pairwise-distinct (λ a b. a ≡ b → ⊥) (λ x n. n refl) (found .outs) (pairwise-map Differs (λ a b. a ≡ b → ⊥) (outWord t (y .1)) (B .out) differ outs-differ)
+    apart′ = pairwise-distinct (λ a b. a ≡ b → ⊥) (λ x n. n refl) (found .outs)
+        (pairwise-map Differs (λ a b. a ≡ b → ⊥) (outWord t (y .1)) (B .out) differ outs-differ)
       where
         Differs : Announcement → Announcement → Type 0
         Differs a b = placed S (posItem ss y) a ≡ placed S (posItem ss y) b → ⊥
@@ -332,14 +352,16 @@ module _ {C : Scored} (F : OneFolio C) where
         unmap (x ∷ xs) p = (λ z m. p .0 (placed S (posItem ss y) z) (map-in (placed S (posItem ss y)) m), unmap xs (p .1))
 
         outs-differ : Pairwise Differs (B .out)
-        outs-differ = unmap (B .out) (rw new-is at (announces-differ S (posItem ss y) (sound cs ds (T .read) (T .told) y w₁ yk f ts seen) f (count ts)))
+        outs-differ = unmap (B .out) (rw new-is at
+            (announces-differ S (posItem ss y) (sound cs ds (T .read) (T .told) y w₁ yk f ts seen) f (count ts)))
 
         differ : (a b : Announcement) → a ∈ B .out → b ∈ B .out → Differs a b → outWord t (y .1) a ≡ outWord t (y .1) b → ⊥
         differ a b i j n e =
             let oa = ok a i in
             let ob = ok b j in
             let es : a .shape ≡ b .shape = ap (λ z. z .0) e in
-            let ep : y .1 ++ a .at ≡ y .1 ++ b .at = num-inj t (y .1 ++ a .at) (y .1 ++ b .at) (oa .there-is) (ob .there-is) (oa .stands) (ob .stands) (ap (λ z. z .1) e) in
+            let ep : y .1 ++ a .at ≡ y .1 ++ b .at =
+            num-inj t (y .1 ++ a .at) (y .1 ++ b .at) (oa .there-is) (ob .there-is) (oa .stands) (ob .stands) (ap (λ z. z .1) e) in
             n (λ k. record { shape = es k; at = ep k })
 
     next : Next v i

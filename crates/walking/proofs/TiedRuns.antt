@@ -61,7 +61,8 @@ module _ {C : Scored} (F : OneFolio C) where
     log-are = refl;
     items-room = let a = length-drop 2 (w .items) in let b = span-pos t in let l = length-flatten t in omega (arith, items-long);
     log-room = let l = length-flatten t in omega (arith, log-long);
-    marks-room = let a = length-append zeros (drop (length zeros) (w .marks)) in let b = length-replicate {A = ℕ} (length (scoreIn F)) 0 in let c = length-drop (length zeros) (w .marks) in let l = length-flatten t in omega (arith, marks-long);
+    marks-room = let a = length-append zeros (drop (length zeros) (w .marks)) in let b = length-replicate {A = ℕ} (length (scoreIn F)) 0 in let c =
+        length-drop (length zeros) (w .marks) in let l = length-flatten t in omega (arith, marks-long);
     bits = λ j p u e. (λ m. absurd (no-bit j (rw (clean p u e) at m)), λ m. elim m [ ]);
   }
     where
@@ -85,7 +86,8 @@ module _ {C : Scored} (F : OneFolio C) where
           let b = num-below t p u e in
           let f = length-flatten t in
           let l = length-replicate {A = ℕ} (length (scoreIn F)) 0 in
-          List·getD-append zeros (drop (length zeros) (w .marks)) 0 (num t p) (omega arith) ∙ getD-replicate (length (scoreIn F)) (num t p) 0 0 (omega arith)
+          List·getD-append zeros (drop (length zeros) (w .marks)) 0 (num t p) (omega arith)
+          ∙ getD-replicate (length (scoreIn F)) (num t p) 0 0 (omega arith)
 
   pub data Stepping (v : Walk) (i : ℕ) : Type 0 where
     moves : i < v .count .waiting → (n : Next F v i) → stepIn F i v ≡ goOn (n .walk) → Stepping v i
@@ -111,7 +113,8 @@ module _ {C : Scored} (F : OneFolio C) where
   run-tied [] v T = T
   run-tied (i ∷ is) v T = run-tied is (stepIn F i v .walk) (step-stays v T i)
 
-  pub run-logged : (is : List ℕ) (v : Walk) → Tied F v → run (planIn F) (scoreIn F) (spansIn F) is v .count .logged ≡ v .count .logged + accepted (planIn F) (scoreIn F) (spansIn F) is v
+  pub run-logged : (is : List ℕ) (v : Walk) → Tied F v
+      → run (planIn F) (scoreIn F) (spansIn F) is v .count .logged ≡ v .count .logged + accepted (planIn F) (scoreIn F) (spansIn F) is v
   unfolding run accepted
   run-logged [] v T = sym (add-zero (v .count .logged))
   run-logged (i ∷ is) v T =

@@ -202,7 +202,8 @@ starts-append : (at : ℕ) (bs cs : List (List ℕ)) → startsFrom at (bs ++ cs
 starts-append at [] cs = ap (λ k. startsFrom k cs) (sym (add-zero at))
 starts-append at (b ∷ bs) cs =
     ap (λ l. at ∷ l)
-    (starts-append (at + length b) bs cs ∙ ap (λ k. startsFrom (at + length b) bs ++ startsFrom k cs) (let z = length-append b (concat bs) in omega arith))
+    (starts-append (at + length b) bs cs ∙ ap (λ k. startsFrom (at + length b) bs ++ startsFrom k cs)
+    (let z = length-append b (concat bs) in omega arith))
 
 module _ (tab : List ℕ) (n : ℕ) (sc : List ℕ) (m i : ℕ) (ar : List ℕ) where
   abbrev blockWordsOn : ℕ → List ℕ
@@ -233,12 +234,20 @@ module _ (tab : List ℕ) (n : ℕ) (sc : List ℕ) (m i : ℕ) (ar : List ℕ) 
     pub long : length l ≡ length l₀
     pub past : at ≤ here
     pub stands : here + length (concat (rowWords tab n sc m i f (drop f ar))) ≡ at + length (rowAll ar tab n sc m i)
-    pub is : sets (sets l₀ S (startsFrom at (rowWords tab n sc m i 0 ar))) at (rowAll ar tab n sc m i) ≡ sets (sets l (S + f) (startsFrom here (rowWords tab n sc m i f (drop f ar)))) here (concat (rowWords tab n sc m i f (drop f ar)))
+    pub is : sets (sets l₀ S (startsFrom at (rowWords tab n sc m i 0 ar))) at (rowAll ar tab n sc m i) ≡ sets
+        (sets l (S + f) (startsFrom here (rowWords tab n sc m i f (drop f ar)))) here (concat (rowWords tab n sc m i f (drop f ar)))
 
 module _ {tab : List ℕ} {n : ℕ} {sc : List ℕ} {m i : ℕ} {ar : List ℕ} {S at : ℕ} {l₀ : List ℕ} where
   pub rowed-begin : Rowed tab n sc m i ar S at l₀ l₀ at 0
   rowed-begin =
-      record { below = omega arith; long = refl; past = omega arith; stands = refl; is = ap (λ k. sets (sets l₀ k (startsFrom at (rowWords tab n sc m i 0 ar))) at (rowAll ar tab n sc m i)) (sym (add-zero S)) }
+      record {
+        below = omega arith;
+        long = refl;
+        past = omega arith;
+        stands = refl;
+        is =
+            ap (λ k. sets (sets l₀ k (startsFrom at (rowWords tab n sc m i 0 ar))) at (rowAll ar tab n sc m i)) (sym (add-zero S));
+      }
 
   module _ {l : List ℕ} {here f : ℕ} (s : Rowed tab n sc m i ar S at l₀ l here f) where
     pub rowed-room : f < length ar → here + length (blockIn ar tab n sc m i f) ≤ at + length (rowAll ar tab n sc m i)
@@ -283,7 +292,8 @@ module _ {tab : List ℕ} {n : ℕ} {sc : List ℕ} {m i : ℕ} {ar : List ℕ} 
         }
 
     pub rowed-end : length ar ≤ f
-        → (here ≡ at + length (rowAll ar tab n sc m i)) × (l ≡ sets (sets l₀ S (startsFrom at (rowWords tab n sc m i 0 ar))) at (rowAll ar tab n sc m i))
+        → (here ≡ at + length (rowAll ar tab n sc m i))
+        × (l ≡ sets (sets l₀ S (startsFrom at (rowWords tab n sc m i 0 ar))) at (rowAll ar tab n sc m i))
     rowed-end h =
         let e = rest-end tab n sc m i ar f h in
         let z = s .stands in
@@ -458,24 +468,31 @@ module _ {ar tab : List ℕ} {n : ℕ} {sc : List ℕ} {m : ℕ} where
         let mm = states-length sc m in
         sym (
         ap₂
-        (λ x y. sets plan 0 (x ∷ length ar ∷ n ∷ y ∷ labelsFrom ar tab n sc m 0 ++ (startsFrom (4 + x + x * length ar) (wordsFrom ar tab n sc m 0) ++ concat (wordsFrom ar tab n sc m 0))))
+        (λ x y. sets plan 0 (x ∷ length ar ∷ n ∷ y ∷ labelsFrom ar tab n sc m 0 ++
+        (startsFrom (4 + x + x * length ar) (wordsFrom ar tab n sc m 0) ++ concat (wordsFrom ar tab n sc m 0))))
         mm head
         ∙ ap
-        (λ x. sets x 4 (labelsFrom ar tab n sc m 0 ++ (startsFrom (base ar tab n sc m) (wordsFrom ar tab n sc m 0) ++ concat (wordsFrom ar tab n sc m 0))))
+        (λ x. sets x 4 (labelsFrom ar tab n sc m 0 ++
+        (startsFrom (base ar tab n sc m) (wordsFrom ar tab n sc m 0) ++ concat (wordsFrom ar tab n sc m 0))))
         (sym d)
         ∙ sets-append l₀ 4 (labelsFrom ar tab n sc m 0)
         (startsFrom (base ar tab n sc m) (wordsFrom ar tab n sc m 0) ++ concat (wordsFrom ar tab n sc m 0))
         ∙ ap
-        (λ x. sets (sets l₀ 4 (labelsFrom ar tab n sc m 0)) x (startsFrom (base ar tab n sc m) (wordsFrom ar tab n sc m 0) ++ concat (wordsFrom ar tab n sc m 0)))
+        (λ x. sets (sets l₀ 4 (labelsFrom ar tab n sc m 0)) x
+        (startsFrom (base ar tab n sc m) (wordsFrom ar tab n sc m 0) ++ concat (wordsFrom ar tab n sc m 0)))
         (ap (λ x. 4 + x) (labels-length ar tab n sc m 0 ∙ sub-zero m))
         ∙ sets-append (sets l₀ 4 (labelsFrom ar tab n sc m 0)) (4 + m) (startsFrom (base ar tab n sc m) (wordsFrom ar tab n sc m 0))
         (concat (wordsFrom ar tab n sc m 0))
         ∙ ap
-        (λ x. sets (sets (sets l₀ 4 (labelsFrom ar tab n sc m 0)) (4 + m) (startsFrom (base ar tab n sc m) (wordsFrom ar tab n sc m 0))) x (concat (wordsFrom ar tab n sc m 0)))
-        (ap (λ x. 4 + m + x) (starts-length (base ar tab n sc m) (wordsFrom ar tab n sc m 0) ∙ words-count ar tab n sc m 0 ∙ ap (λ x. x * length ar) (sub-zero m)))
+        (λ x. sets (sets (sets l₀ 4 (labelsFrom ar tab n sc m 0)) (4 + m) (startsFrom (base ar tab n sc m) (wordsFrom ar tab n sc m 0))) x
+        (concat (wordsFrom ar tab n sc m 0)))
+        (ap (λ x. 4 + m + x) (starts-length (base ar tab n sc m) (wordsFrom ar tab n sc m 0) ∙ words-count ar tab n sc m 0
+        ∙ ap (λ x. x * length ar) (sub-zero m)))
         ∙ s .is
         ∙ ap
-        (λ ss. sets (sets (sets l (4 + i) (map (λ t. code (words tab n .label t)) ss)) (4 + m + i * length ar) (startsFrom at (map blockWords (gather (λ t. blocksOf (words tab n) (statesIn sc m) t 0 ar) ss)))) at (concat (map blockWords (gather (λ t. blocksOf (words tab n) (statesIn sc m) t 0 ar) ss))))
+        (λ ss. sets (sets (sets l (4 + i) (map (λ t. code (words tab n .label t)) ss)) (4 + m + i * length ar)
+        (startsFrom at (map blockWords (gather (λ t. blocksOf (words tab n) (statesIn sc m) t 0 ar) ss)))) at
+        (concat (map blockWords (gather (λ t. blocksOf (words tab n) (statesIn sc m) t 0 ar) ss))))
         gone)
 
   module _ {total : ℕ} {plan : List ℕ} (w : Writable ar tab n sc m total plan) where

@@ -69,7 +69,8 @@ pub record RowWritable (ar tab : List ℕ) (n : ℕ) (sc : List ℕ) (m i c at :
 
 abbrev pub RowWritten : List ℕ → List ℕ → ℕ → List ℕ → ℕ → ℕ → ℕ → ℕ → List ℕ → List ℕ → Type 0
 RowWritten ar tab n sc m i at r old new =
-    (r ≡ at + length (rowAll ar tab n sc m i)) × (new ≡ sets (sets old (startsAt ar m i) (startsFrom at (rowWords tab n sc m i 0 ar))) at (rowAll ar tab n sc m i))
+    (r ≡ at + length (rowAll ar tab n sc m i))
+    × (new ≡ sets (sets old (startsAt ar m i) (startsFrom at (rowWords tab n sc m i 0 ar))) at (rowAll ar tab n sc m i))
 
 -- a plan of `total` words
 pub record Writable (ar tab : List ℕ) (n : ℕ) (sc : List ℕ) (m total : ℕ) (plan : List ℕ) : Type 0 where

@@ -8,7 +8,8 @@ use Rattle.damaged.proofs.walk_on.Statement.{statement}
 use Rattle.damaged.proofs.walk_on.Tie as tie
 
 abbrev Inv-loop : tie.InvT-loop
-Inv-loop plan score spans waiting₀ log₀ marks₀ record₀ taken₀ waiting log marks «record» taken = (taken ≤ 10) × (length waiting ≡ 20) × (length log ≡ 10) × (length marks ≡ 10)
+Inv-loop plan score spans waiting₀ log₀ marks₀ record₀ taken₀ waiting log marks «record» taken =
+    (taken ≤ 10) × (length waiting ≡ 20) × (length log ≡ 10) × (length marks ≡ 10)
 
 abbrev μ-loop : tie.MeasureT-loop
 μ-loop plan score spans waiting₀ log₀ marks₀ record₀ taken₀ waiting log marks «record» taken = 10 - taken
@@ -83,7 +84,8 @@ slice-aggregate-show-end c =
 
 slice-aggregate-show-end-2 : tie.Need-slice-aggregate-show-end-2 Inv-loop μ-loop
 slice-aggregate-show-end-2 c =
-    let at-loop = c .before .before .before .before .before .before .before .before .before .before .before .before .before .before .before .before .loop in
+    let at-loop =
+    c .before .before .before .before .before .before .before .before .before .before .before .before .before .before .before .before .loop in
     let at-step = c .before .before .before .before .before .before .before .before .before .step in
     sym (at-step .kept .1 .1 .1 .1 .1 .0 ∙ at-loop .inv .3)
 
@@ -102,8 +104,13 @@ loop-less c = search needs
 loop-again : tie.Need-loop-again Inv-loop μ-loop
 loop-again c =
     let at-loop = c .before .before .before .before .before .before .before .before .before .before .before .before .before .loop in
-    let at-step = c .before .before .before .before .before .before .step in
-    (omega arith, at-step .kept .1 .1 .1 .0 ∙ at-loop .inv .1, at-step .kept .1 .1 .1 .1 .0 ∙ at-loop .inv .2, at-step .kept .1 .1 .1 .1 .1 .0 ∙ at-loop .inv .3)
+    let at-step = c .before .before .before .before .before .before .step in (
+      omega arith,
+      at-step .kept .1 .1 .1 .0 ∙ at-loop .inv .1,
+      at-step .kept .1 .1 .1 .1 .0 ∙ at-loop .inv .2,
+      at-step .kept .1 .1 .1 .1 .1 .0
+          ∙ at-loop .inv .3,
+    )
 
 slice-aggregate-show-end-3 : tie.Need-slice-aggregate-show-end-3 Inv-loop μ-loop
 slice-aggregate-show-end-3 c = sym (c .before .before .loop .inv .2)

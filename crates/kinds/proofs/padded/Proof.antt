@@ -22,11 +22,18 @@ length-requires c κs = search needs
 
 loop-holds : tie.Need-loop-holds Inv-loop μ-loop
 loop-holds c =
-    let entry = c .before .before in
-    (omega (arith, c .length .ensures, decode-short 7 (entry .args .p .0)), ap (λ (n : ℕ). entry .args .p .0 * 5 ^ (7 - n)) (c .length .ensures) ∙ padded-start (entry .args .p .0) (omega arith))
+    let entry = c .before .before in (
+      omega (arith, c .length .ensures, decode-short 7 (entry .args .p .0)),
+      ap (λ (n : ℕ). entry .args .p .0 * 5 ^ (7 - n)) (c .length .ensures)
+          ∙ padded-start (entry .args .p .0) (omega arith),
+    )
 
 mul-code : tie.Need-mul-code Inv-loop μ-loop
-mul-code c = omega (arith, padded-room (c .before .loop .code) (7 - c .before .loop .n) (c .before .before .before .before .args .p .0) (c .before .loop .inv .1))
+mul-code c = omega (
+  arith,
+  padded-room (c .before .loop .code) (7 - c .before .loop .n) (c .before .before .before .before .args .p .0)
+      (c .before .loop .inv .1),
+)
 
 add-n : tie.Need-add-n Inv-loop μ-loop
 add-n c = search needs

@@ -6,7 +6,8 @@ use Rattle.walks.proofs.take_steps.Statement.{statement}
 use Rattle.walks.proofs.take_steps.Tie as tie
 
 abbrev Inv-loop : tie.InvT-loop
-Inv-loop plan score spans waiting₀ log₀ marks₀ way record₀ turn₀ taken₀ waiting log marks «record» turn taken = (length waiting ≡ length waiting₀) × (length log ≡ length log₀) × (length marks ≡ length marks₀)
+Inv-loop plan score spans waiting₀ log₀ marks₀ way record₀ turn₀ taken₀ waiting log marks «record» turn taken =
+    (length waiting ≡ length waiting₀) × (length log ≡ length log₀) × (length marks ≡ length marks₀)
 
 abbrev μ-loop : tie.MeasureT-loop
 μ-loop plan score spans waiting₀ log₀ marks₀ way record₀ turn₀ taken₀ waiting log marks «record» turn taken = 5000 - taken
@@ -37,19 +38,22 @@ show-end-requires c κs = search needs
 
 same-length : tie.Need-same-length Inv-loop μ-loop
 same-length c =
-    let at-loop = c .before .before .before .before .before .before .before .before .before .before .before .before .before .before .before .before .before .before .before .loop in
+    let at-loop =
+    c .before .before .before .before .before .before .before .before .before .before .before .before .before .before .before .before .before .before .before .loop in
     let at-take = c .before .before .before .before .before .before .before .before .before .before .before .before .take in
     at-take .kept .1 .1 .1 .0 ∙ at-loop .inv .0
 
 same-length-2 : tie.Need-same-length-2 Inv-loop μ-loop
 same-length-2 c =
-    let at-loop = c .before .before .before .before .before .before .before .before .before .before .before .before .before .before .before .before .before .before .before .loop in
+    let at-loop =
+    c .before .before .before .before .before .before .before .before .before .before .before .before .before .before .before .before .before .before .before .loop in
     let at-take = c .before .before .before .before .before .before .before .before .before .before .before .before .take in
     at-take .kept .1 .1 .1 .1 .0 ∙ at-loop .inv .1
 
 same-length-3 : tie.Need-same-length-3 Inv-loop μ-loop
 same-length-3 c =
-    let at-loop = c .before .before .before .before .before .before .before .before .before .before .before .before .before .before .before .before .before .before .before .loop in
+    let at-loop =
+    c .before .before .before .before .before .before .before .before .before .before .before .before .before .before .before .before .before .before .before .loop in
     let at-take = c .before .before .before .before .before .before .before .before .before .before .before .before .take in
     at-take .kept .1 .1 .1 .1 .1 .0 ∙ at-loop .inv .2
 
@@ -64,7 +68,8 @@ loop-less c = search needs
 
 loop-again : tie.Need-loop-again Inv-loop μ-loop
 loop-again c =
-    let at-loop = c .before .before .before .before .before .before .before .before .before .before .before .before .before .before .before .before .loop in
+    let at-loop =
+    c .before .before .before .before .before .before .before .before .before .before .before .before .before .before .before .before .loop in
     let at-take = c .before .before .before .before .before .before .before .before .before .take in
     (at-take .kept .1 .1 .1 .0 ∙ at-loop .inv .0, at-take .kept .1 .1 .1 .1 .0 ∙ at-loop .inv .1, at-take .kept .1 .1 .1 .1 .1 .0 ∙ at-loop .inv .2)
 

@@ -25,7 +25,8 @@ enum-known-why-2 c = search needs
 returns-2 : tie.Need-returns-2
 returns-2 c =
     let at-test-symbols = c .before .before .before .before .before .before .test-symbols in
-    sym (score-none _ _ _ (sym (at-test-symbols .ensures) ∙ c .before .before .before .before .enum-told .given .1) (sym (c .before .before .before .read-score .ensures) ∙ c .before .why2 .given .1))
+    sym (score-none _ _ _ (sym (at-test-symbols .ensures) ∙ c .before .before .before .before .enum-told .given .1)
+    (sym (c .before .before .before .read-score .ensures) ∙ c .before .why2 .given .1))
 
 enum-told-2 : tie.Need-enum-told-2
 enum-told-2 c = search needs
@@ -36,7 +37,8 @@ spans-are-requires c κs = search needs
 returns-3 : tie.Need-returns-3
 returns-3 c =
     let at-test-symbols = c .before .before .before .before .before .before .test-symbols in
-    c .spans-are .ensures ∙ sym (score-again _ _ _ (sym (at-test-symbols .ensures) ∙ c .before .before .before .before .enum-told .given .1) (sym (c .before .before .before .read-score .ensures) ∙ c .before .enum-told2 .given .1))
+    c .spans-are .ensures ∙ sym (score-again _ _ _ (sym (at-test-symbols .ensures) ∙ c .before .before .before .before .enum-told .given .1)
+    (sym (c .before .before .before .read-score .ensures) ∙ c .before .enum-told2 .given .1))
 
 pub score-good-spec : {M : Type 1} → statement M
 score-good-spec =

@@ -34,7 +34,8 @@ returns-2 : tie.Need-returns-2
 returns-2 c =
     let at-test-symbols = c .before .before .before .before .before .before .before .before .test-symbols in
     let at-enum-told = c .before .before .before .before .before .before .enum-told in
-    sym (again-refused _ _ _ (sym (at-test-symbols .ensures) ∙ at-enum-told .given .1) (sym (c .before .before .before .before .read-shapes .ensures .0) ∙ c .before .why2 .given .1))
+    sym (again-refused _ _ _ (sym (at-test-symbols .ensures) ∙ at-enum-told .given .1)
+    (sym (c .before .before .before .before .read-shapes .ensures .0) ∙ c .before .why2 .given .1))
 
 enum-known-n : tie.Need-enum-known-n
 enum-known-n c = search needs
@@ -48,7 +49,11 @@ part-equal-start c = search needs
 part-equal-end : tie.Need-part-equal-end
 part-equal-end c =
     let entry = c .before .before .before .before .before .before .before .before .before .before .before .before .before in
-    omega (arith, found-count (entry .args .symbols .now) blankWord (entry .args .words .now) _ (sym (c .before .before .before .before .before .read-shapes .ensures .0) ∙ c .before .before .n .given .1))
+    omega (
+      arith,
+      found-count (entry .args .symbols .now) blankWord (entry .args .words .now) _
+          (sym (c .before .before .before .before .before .read-shapes .ensures .0) ∙ c .before .before .n .given .1),
+    )
 
 equal-requires : tie.Need-equal-requires
 equal-requires c κs = search needs
@@ -59,7 +64,9 @@ returns-3 c =
     let at-test-symbols = c .before .before .before .before .before .before .before .before .before .before .before .test-symbols in
     let at-enum-told = c .before .before .before .before .before .before .before .before .before .enum-told in
     let at-read-shapes = c .before .before .before .before .before .before .before .read-shapes in
-    c .equal .ensures ∙ sym (again-found (entry .args .symbols .now) (entry .args .words .now) (entry .args .starts .now) _ (replicate {A = ℕ} 16 0) _ (sym (at-test-symbols .ensures) ∙ at-enum-told .given .1) (sym (at-read-shapes .ensures .0) ∙ c .before .before .before .before .n .given .1) (length-replicate {A = ℕ} 16 0) (at-read-shapes .ensures .1))
+    c .equal .ensures ∙ sym (again-found (entry .args .symbols .now) (entry .args .words .now) (entry .args .starts .now) _ (replicate {A = ℕ} 16 0) _
+    (sym (at-test-symbols .ensures) ∙ at-enum-told .given .1) (sym (at-read-shapes .ensures .0) ∙ c .before .before .before .before .n .given .1)
+    (length-replicate {A = ℕ} 16 0) (at-read-shapes .ensures .1))
 
 pub shapes-good-spec : {M : Type 1} → statement M
 shapes-good-spec =

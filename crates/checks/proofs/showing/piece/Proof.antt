@@ -43,13 +43,16 @@ mul-result : tie.Need-mul-result
 mul-result c = search needs
 
 sub-result-3 : tie.Need-sub-result-3
-sub-result-3 c = let w = whole-in _ _ _ _ _ _ (sym (c .before .before .before .read-term .ensures) ∙ c .before .m .given .1) in omega (arith, w .some, w .inside)
+sub-result-3 c = let w = whole-in _ _ _ _ _ _ (sym (c .before .before .before .read-term .ensures) ∙ c .before .m .given .1) in
+    omega (arith, w .some, w .inside)
 
 part-result-start-3 : tie.Need-part-result-start-3
-part-result-start-3 c = let w = whole-in _ _ _ _ _ _ (sym (c .before .before .before .read-term .ensures) ∙ c .before .m .given .1) in omega (arith, w .some, w .inside)
+part-result-start-3 c = let w = whole-in _ _ _ _ _ _ (sym (c .before .before .before .read-term .ensures) ∙ c .before .m .given .1) in
+    omega (arith, w .some, w .inside)
 
 part-result-end-3 : tie.Need-part-result-end-3
-part-result-end-3 c = let w = whole-in _ _ _ _ _ _ (sym (c .before .before .before .read-term .ensures) ∙ c .before .m .given .1) in omega (arith, w .some, w .inside)
+part-result-end-3 c = let w = whole-in _ _ _ _ _ _ (sym (c .before .before .before .read-term .ensures) ∙ c .before .m .given .1) in
+    omega (arith, w .some, w .inside)
 
 returns-2 : tie.Need-returns-2
 returns-2 c = sym (piece-none _ _ _ _ _ (sym (c .before .before .before .before .read-term .ensures) ∙ c .before .before .f .given .1))

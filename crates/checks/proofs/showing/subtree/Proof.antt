@@ -22,7 +22,8 @@ part-result-end c = search needs
 returns : tie.Need-returns
 returns c =
     let entry = c .before .before .before .before .before .before .before .before in
-    sym (subtree-none _ _ _ (entry .args .score .now) (sym (c .before .before .before .before .test-symbols .ensures) ∙ c .before .before .why .given .1))
+    sym (subtree-none _ _ _ (entry .args .score .now)
+    (sym (c .before .before .before .before .test-symbols .ensures) ∙ c .before .before .why .given .1))
 
 enum-told : tie.Need-enum-told
 enum-told c = search needs
@@ -46,13 +47,16 @@ returns-2 : tie.Need-returns-2
 returns-2 c =
     let entry = c .before .before .before .before .before .before .before .before .before .before in
     let at-test-symbols = c .before .before .before .before .before .before .test-symbols in
-    c .piece .ensures ∙ sym (subtree-some (entry .args .asked) (entry .args .symbols .now) (entry .args .shapes .now) (entry .args .score .now) (sym (at-test-symbols .ensures) ∙ c .before .before .before .before .enum-told .given .1) (c .before .before .asked .given .1))
+    c .piece .ensures ∙ sym (subtree-some (entry .args .asked) (entry .args .symbols .now) (entry .args .shapes .now) (entry .args .score .now)
+    (sym (at-test-symbols .ensures) ∙ c .before .before .before .before .enum-told .given .1) (c .before .before .asked .given .1))
 
 returns-3 : tie.Need-returns-3
 returns-3 c =
     let entry = c .before .before .before .before .before .before .before .before .before .before .before in
     let at-test-symbols = c .before .before .before .before .before .before .before .test-symbols in
-    c .piece2 .ensures ∙ sym (subtree-some (entry .args .asked) (entry .args .symbols .now) (entry .args .shapes .now) (entry .args .score .now) (sym (at-test-symbols .ensures) ∙ c .before .before .before .before .before .enum-told .given .1) (c .before .before .before .asked2 .given .1))
+    c .piece2 .ensures ∙ sym (subtree-some (entry .args .asked) (entry .args .symbols .now) (entry .args .shapes .now) (entry .args .score .now)
+    (sym (at-test-symbols .ensures) ∙ c .before .before .before .before .before .enum-told .given .1)
+    (c .before .before .before .asked2 .given .1))
 
 pub subtree-spec : {M : Type 1} → statement M
 subtree-spec =

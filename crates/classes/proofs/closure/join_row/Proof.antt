@@ -61,7 +61,8 @@ loop-again c =
     let at-loop-test = c .before .before .loop-test in
     let a = entry .args in let p = entry .pre in
     ⊎-elim
-    (λ w. rw (w .1) (row-put (a .n) (a .k) (a .i) (p .0) (p .1) (p .2) (a .dep .now) (at-loop-test .taken) (at-loop .inv) (c .before .before .before .before .if1 .taken) (w .0 .taken)))
+    (λ w. rw (w .1) (row-put (a .n) (a .k) (a .i) (p .0) (p .1) (p .2) (a .dep .now) (at-loop-test .taken) (at-loop .inv)
+    (c .before .before .before .before .if1 .taken) (w .0 .taken)))
     (λ w. rw (w .1) (row-skip (a .n) (a .k) (a .i) (p .0) (p .1) (p .2) (a .dep .now) (at-loop-test .taken) (at-loop .inv) (w .0 .left)))
     (c .if2 .came)
 

@@ -37,7 +37,8 @@ returns c =
     let at-loop-test = c .before .before .loop-test in
     let a = entry .args in
     let l = c .before .before .before .loop in
-    sym (l .inv .1 ∙ leads-no (getD (a .dep .now) (a .i) []) (a .i) (l .j) (omega (arith, at-loop-test .taken, entry .pre .0, entry .pre .1 .cols (a .i) (entry .pre .0))) (at-loop-test .taken) (c .if1 .taken))
+    sym (l .inv .1 ∙ leads-no (getD (a .dep .now) (a .i) []) (a .i) (l .j)
+    (omega (arith, at-loop-test .taken, entry .pre .0, entry .pre .1 .cols (a .i) (entry .pre .0))) (at-loop-test .taken) (c .if1 .taken))
 
 add-j : tie.Need-add-j Inv-loop μ-loop
 add-j c = search needs
@@ -71,7 +72,8 @@ returns-2 c =
     let entry = c .before .before .before in
     let a = entry .args in
     let l = c .before .before .loop in
-    sym (l .inv .1 ∙ leads-end (getD (a .dep .now) (a .i) []) (a .i) (l .j) (omega (arith, entry .pre .0, entry .pre .1 .cols (a .i) (entry .pre .0))) (omega (arith, l .inv .0, c .before .loop-test .left)))
+    sym (l .inv .1 ∙ leads-end (getD (a .dep .now) (a .i) []) (a .i) (l .j) (omega (arith, entry .pre .0, entry .pre .1 .cols (a .i) (entry .pre .0)))
+    (omega (arith, l .inv .0, c .before .loop-test .left)))
 
 pub leader-spec : {M : Type 1} → statement M
 leader-spec =

@@ -21,7 +21,9 @@ use Rattle.goals.proofs.words.put_goal.Reads as put-goal-reads
 
 abbrev Inv-loop : tie.InvT-loop
 Inv-loop dep i ws n out₀ next₀ here₀ j₀ out next here j =
-    (j ≤ n) × (here ≡ 3 * j) × (length out ≡ length out₀) × (next + length (Left (getD dep i []) ws here n j) ≡ length (flat (pickedW (getD dep i []) (goalsFrom ws 0 n)))) × (sets out₀ 0 (flat (pickedW (getD dep i []) (goalsFrom ws 0 n))) ≡ sets out next (Left (getD dep i []) ws here n j))
+    (j ≤ n) × (here ≡ 3 * j) × (length out ≡ length out₀)
+    × (next + length (Left (getD dep i []) ws here n j) ≡ length (flat (pickedW (getD dep i []) (goalsFrom ws 0 n))))
+    × (sets out₀ 0 (flat (pickedW (getD dep i []) (goalsFrom ws 0 n))) ≡ sets out next (Left (getD dep i []) ws here n j))
 
 abbrev μ-loop : tie.MeasureT-loop
 μ-loop dep i ws n out₀ next₀ here₀ j₀ out next here j = n - j
@@ -93,8 +95,13 @@ loop-again c =
       omega (arith, w .7, ap length p),
       l .inv .4 ∙ ap (sets (l .out) (l .next)) p ∙ run-three (l .out) (l .next) _ _ _ rest ∙ rw (w .7, w .6, w .3 .ensures, w .2 .ensures) refl,
     ))
-    (λ w. let p = pick-off row (a .ws .now) (l .here) (a .n) (l .j) (at-loop-test .taken) in-row (w .0 .left) in
-    (omega arith, omega arith, ap length (w .1) ∙ l .inv .2, omega (arith, w .2, ap length p), rw (w .1, w .2) (l .inv .4 ∙ ap (sets (l .out) (l .next)) p)))
+    (λ w. let p = pick-off row (a .ws .now) (l .here) (a .n) (l .j) (at-loop-test .taken) in-row (w .0 .left) in (
+      omega arith,
+      omega arith,
+      ap length (w .1) ∙ l .inv .2,
+      omega (arith, w .2, ap length p),
+      rw (w .1, w .2) (l .inv .4 ∙ ap (sets (l .out) (l .next)) p),
+    ))
     (c .if1 .came)
 
 same-length : tie.Need-same-length Inv-loop μ-loop

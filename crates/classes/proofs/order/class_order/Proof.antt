@@ -93,7 +93,9 @@ loop-again c =
     let at-loop-test = c .before .before .loop-test in
     let a = entry .args in let l = c .before .before .before .loop in
     ⊎-elim
-    (λ w. rw (w .3, w .4) (listed-on (l .inv) (at-loop-test .taken) (sym (c .before .leader .ensures) ∙ w .0 .taken) _ (ap (λ x. 128 * x + l .i) (w .2 .ensures ∙ ap pad (w .1 .ensures) ∙ sym (key-of (a .tab .now) (classAt (a .dep .now) (a .ws .now) (a .n) (l .i)))))))
+    (λ w. rw (w .3, w .4) (listed-on (l .inv) (at-loop-test .taken) (sym (c .before .leader .ensures) ∙ w .0 .taken) _
+    (ap (λ x. 128 * x + l .i)
+    (w .2 .ensures ∙ ap pad (w .1 .ensures) ∙ sym (key-of (a .tab .now) (classAt (a .dep .now) (a .ws .now) (a .n) (l .i)))))))
     (λ w. rw (w .1, w .2) (listed-off (l .inv) (at-loop-test .taken) (sym (c .before .leader .ensures) ∙ w .0 .left)))
     (c .if1 .came)
 

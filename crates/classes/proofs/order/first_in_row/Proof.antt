@@ -61,15 +61,24 @@ loop-again c =
     let row = getD (a .dep .now) (a .i) [] in
     let inside : l .j < length row = omega (arith, at-loop-test .taken, entry .pre .0 .few, entry .pre .1 .cols (a .i) (entry .pre .2)) in
     ⊎-elim
-    (λ w. (omega arith, rw (w .3, w .2 .ensures, w .1 .ensures) (l .inv .1 ∙ first-on (a .tab .now) row (a .ws .now) (a .n) (l .best) (l .j) (at-loop-test .taken) inside (w .0 .taken))))
-    (λ w. (omega arith, rw (w .1) (l .inv .1 ∙ first-off (a .tab .now) row (a .ws .now) (a .n) (l .best) (l .j) (at-loop-test .taken) inside (w .0 .left))))
+    (λ w. (
+      omega arith,
+      rw (w .3, w .2 .ensures, w .1 .ensures)
+          (l .inv .1 ∙ first-on (a .tab .now) row (a .ws .now) (a .n) (l .best) (l .j) (at-loop-test .taken) inside (w .0 .taken)),
+    ))
+    (λ w. (
+      omega arith,
+      rw (w .1) (l .inv .1
+          ∙ first-off (a .tab .now) row (a .ws .now) (a .n) (l .best) (l .j) (at-loop-test .taken) inside (w .0 .left)),
+    ))
     (c .if1 .came)
 
 returns : tie.Need-returns Inv-loop μ-loop
 returns c =
     let a = c .before .before .before .before .args in
     let l = c .before .loop in
-    sym (first-all (a .tab .now) (getD (a .dep .now) (a .i) []) (a .ws .now) (a .n) noCode ∙ l .inv .1 ∙ first-end (a .tab .now) (getD (a .dep .now) (a .i) []) (a .ws .now) (a .n) (l .best) (l .j) (c .loop-test .left))
+    sym (first-all (a .tab .now) (getD (a .dep .now) (a .i) []) (a .ws .now) (a .n) noCode ∙ l .inv .1
+    ∙ first-end (a .tab .now) (getD (a .dep .now) (a .i) []) (a .ws .now) (a .n) (l .best) (l .j) (c .loop-test .left))
 
 pub first-in-row-spec : {M : Type 1} → statement M
 first-in-row-spec =

@@ -43,7 +43,9 @@ returns c =
     let entry = c .before .before .before .before .before .before in
     let a = entry .args in
     let l = c .before .before .before .before .loop in
-    sym (l .inv .1 ∙ among-here (asWords (a .g)) (a .vs .now) (l .here) (l .left) (c .before .before .before .loop-test .taken) (sym (c .before .same-goal .ensures ∙ ap (λ (x : Goal). sameW (asWords (a .g)) (asWords x)) (c .before .before .goal-at .ensures)) ∙ c .if1 .taken))
+    sym (l .inv .1 ∙ among-here (asWords (a .g)) (a .vs .now) (l .here) (l .left) (c .before .before .before .loop-test .taken)
+    (sym (c .before .same-goal .ensures ∙ ap (λ (x : Goal). sameW (asWords (a .g)) (asWords x)) (c .before .before .goal-at .ensures))
+    ∙ c .if1 .taken))
 
 add-here : tie.Need-add-here Inv-loop μ-loop
 add-here c = search needs
@@ -62,7 +64,8 @@ loop-again c =
       omega arith,
       l .inv .1
           ∙ among-not (asWords (a .g)) (a .vs .now) (l .here) (l .left) (c .before .before .before .loop-test .taken)
-          (sym (c .before .same-goal .ensures ∙ ap (λ (x : Goal). sameW (asWords (a .g)) (asWords x)) (c .before .before .goal-at .ensures)) ∙ c .if1 .left),
+          (sym (c .before .same-goal .ensures ∙ ap (λ (x : Goal). sameW (asWords (a .g)) (asWords x)) (c .before .before .goal-at .ensures))
+          ∙ c .if1 .left),
     )
 
 returns-2 : tie.Need-returns-2 Inv-loop μ-loop

@@ -52,7 +52,8 @@ loop-again c =
       omega arith,
       l .inv .1
           ∙ within-on (goalsFrom (a .vs .now) (a .at) (a .k)) (a .ws .now) (l .here) (l .left) (c .before .before .before .loop-test .taken)
-          (sym (c .before .among .ensures ∙ ap (λ (x : Goal). amongW (asWords x) (goalsFrom (a .vs .now) (a .at) (a .k))) (c .before .before .goal-at .ensures)) ∙ c .if1 .taken),
+          (sym (c .before .among .ensures
+          ∙ ap (λ (x : Goal). amongW (asWords x) (goalsFrom (a .vs .now) (a .at) (a .k))) (c .before .before .goal-at .ensures)) ∙ c .if1 .taken),
     )
 
 returns : tie.Need-returns Inv-loop μ-loop
@@ -60,7 +61,9 @@ returns c =
     let entry = c .before .before .before .before .before .before .before in
     let a = entry .args in
     let l = c .before .before .before .before .loop in
-    sym (l .inv .1 ∙ within-off (goalsFrom (a .vs .now) (a .at) (a .k)) (a .ws .now) (l .here) (l .left) (c .before .before .before .loop-test .taken) (sym (c .before .among .ensures ∙ ap (λ (x : Goal). amongW (asWords x) (goalsFrom (a .vs .now) (a .at) (a .k))) (c .before .before .goal-at .ensures)) ∙ c .if1 .left))
+    sym (l .inv .1 ∙ within-off (goalsFrom (a .vs .now) (a .at) (a .k)) (a .ws .now) (l .here) (l .left) (c .before .before .before .loop-test .taken)
+    (sym (c .before .among .ensures ∙ ap (λ (x : Goal). amongW (asWords x) (goalsFrom (a .vs .now) (a .at) (a .k)))
+    (c .before .before .goal-at .ensures)) ∙ c .if1 .left))
 
 returns-2 : tie.Need-returns-2 Inv-loop μ-loop
 returns-2 c =

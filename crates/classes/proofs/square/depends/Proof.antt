@@ -25,12 +25,14 @@ enum-told c = search needs
 returns : tie.Need-returns
 returns c =
     let a = c .before .before .before .before .before .args in
-    sym (sym (shared-is (owedBy (a .tab .now) (asWords (a .g))) (owedBy (a .tab .now) (asWords (a .h)))) ∙ ap isAt (sym (c .before .before .before .share .ensures) ∙ c .before .x .given .1))
+    sym (sym (shared-is (owedBy (a .tab .now) (asWords (a .g))) (owedBy (a .tab .now) (asWords (a .h))))
+    ∙ ap isAt (sym (c .before .before .before .share .ensures) ∙ c .before .x .given .1))
 
 returns-2 : tie.Need-returns-2
 returns-2 c =
     let a = c .before .before .before .before .args in
-    sym (sym (shared-is (owedBy (a .tab .now) (asWords (a .g))) (owedBy (a .tab .now) (asWords (a .h)))) ∙ ap isAt (sym (c .before .before .share .ensures) ∙ c .enum-told .given .1))
+    sym (sym (shared-is (owedBy (a .tab .now) (asWords (a .g))) (owedBy (a .tab .now) (asWords (a .h))))
+    ∙ ap isAt (sym (c .before .before .share .ensures) ∙ c .enum-told .given .1))
 
 pub depends-spec : {M : Type 1} → statement M
 depends-spec = tie.close (tie.spec share-requires enum-known-x enum-told returns returns-2)

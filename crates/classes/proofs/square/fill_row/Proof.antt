@@ -42,8 +42,12 @@ goal-at-requires-2 c κs = search needs
 depends-requires : tie.Need-depends-requires Inv-loop μ-loop
 depends-requires c κs =
     let entry = c .before .before .before .before .before .before in
-    rw (c .before .before .before .goal-at .ensures, c .goal-at2 .ensures)
-    (entry .pre .0 .tabled, stored-first (entry .pre .0) (entry .args .i) (entry .pre .1), stored-first (entry .pre .0) (c .before .before .loop .j) (c .before .loop-test .taken))
+    rw (c .before .before .before .goal-at .ensures, c .goal-at2 .ensures) (
+      entry .pre .0 .tabled,
+      stored-first (entry .pre .0) (entry .args .i) (entry .pre .1),
+      stored-first (entry .pre .0) (c .before .before .loop .j)
+          (c .before .loop-test .taken),
+    )
 
 mul-dep : tie.Need-mul-dep Inv-loop μ-loop
 mul-dep c = search needs

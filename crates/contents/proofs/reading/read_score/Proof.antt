@@ -19,15 +19,18 @@ enum-known-m : tie.Need-enum-known-m
 enum-known-m c = search needs
 
 returns : tie.Need-returns
-returns c = sym (score-surplus _ _ (sym (c .before .before .before .before .before .read-term .ensures) ∙ c .before .before .before .m .given .1) (c .if1 .taken))
+returns c = sym (score-surplus _ _ (sym (c .before .before .before .before .before .read-term .ensures) ∙ c .before .before .before .m .given .1)
+    (c .if1 .taken))
 
 returns-2 : tie.Need-returns-2
 returns-2 c =
     let at-f = c .before .before .f in
-    ap (λ (r : Reason). score.Refused r (at-f .given .0 .1 .0)) (c .score-reason .ensures) ∙ sym (score-refused _ _ (sym (c .before .before .before .before .read-term .ensures) ∙ at-f .given .1))
+    ap (λ (r : Reason). score.Refused r (at-f .given .0 .1 .0)) (c .score-reason .ensures)
+    ∙ sym (score-refused _ _ (sym (c .before .before .before .before .read-term .ensures) ∙ at-f .given .1))
 
 returns-3 : tie.Need-returns-3
-returns-3 c = sym (score-whole _ _ (sym (c .before .before .before .before .before .read-term .ensures) ∙ c .before .before .before .m .given .1) (c .if1 .left))
+returns-3 c = sym (score-whole _ _ (sym (c .before .before .before .before .before .read-term .ensures) ∙ c .before .before .before .m .given .1)
+    (c .if1 .left))
 
 pub read-score-spec : {M : Type 1} → statement M
 read-score-spec =

@@ -12,7 +12,8 @@ use Rattle.contents.proofs.reading.read_shapes.Statement.{statement}
 use Rattle.contents.proofs.reading.read_shapes.Tie as tie
 
 abbrev Inv-loop : tie.InvT-loop
-Inv-loop symbols blanks words starts₀ at₀ n₀ starts at n = (n ≤ 16) × (at ≤ 16 * n) × Left (shapesOf symbols blanks words) (shapesFrom symbols blanks words (16 - n) n at) starts₀ starts n
+Inv-loop symbols blanks words starts₀ at₀ n₀ starts at n =
+    (n ≤ 16) × (at ≤ 16 * n) × Left (shapesOf symbols blanks words) (shapesFrom symbols blanks words (16 - n) n at) starts₀ starts n
 
 abbrev μ-loop : tie.MeasureT-loop
 μ-loop symbols blanks words starts₀ at₀ n₀ starts at n = 16 - n
@@ -20,7 +21,8 @@ abbrev μ-loop : tie.MeasureT-loop
 returns : tie.Need-returns Inv-loop μ-loop
 returns c =
     let entry = c .before .before .before .before in
-    (let e = shapes-none _ (entry .args .blanks) _ (c .if1 .taken) in (sym (ap (λ (r : ShapesRead). r .answer) e), sym (ap (λ (r : ShapesRead). sets (entry .args .starts .now) 0 (r .starts)) e)))
+    (let e = shapes-none _ (entry .args .blanks) _ (c .if1 .taken) in
+    (sym (ap (λ (r : ShapesRead). r .answer) e), sym (ap (λ (r : ShapesRead). sets (entry .args .starts .now) 0 (r .starts)) e)))
 
 loop-holds : tie.Need-loop-holds Inv-loop μ-loop
 loop-holds c = (omega arith, omega arith, left-first _ (shapes-some _ _ _ (c .if1 .left)))
@@ -53,7 +55,8 @@ returns-3 c =
     let at-loop = c .before .before .before .before .before .before .before .loop in
     let at-loop-test = c .before .before .before .before .before .before .loop-test in
     let at-f = c .before .before .f in
-    let w = left-end (at-loop .inv .2) (shapes-refused _ _ _ _ _ (at-loop-test .taken) (at-loop .inv .0) (c .before .before .before .before .before .if2 .left) (sym (c .before .before .before .before .read-term .ensures) ∙ at-f .given .1)) in
+    let w = left-end (at-loop .inv .2) (shapes-refused _ _ _ _ _ (at-loop-test .taken) (at-loop .inv .0)
+    (c .before .before .before .before .before .if2 .left) (sym (c .before .before .before .before .read-term .ensures) ∙ at-f .given .1)) in
     (ap (λ (r : Reason). shapes.Refused r (at-f .given .0 .1 .0)) (c .shape-reason .ensures) ∙ w .0, w .1)
 
 enum-known-m : tie.Need-enum-known-m Inv-loop μ-loop
@@ -80,7 +83,8 @@ returns-4 c =
     let at-loop = c .before .before .before .before .before .before .before .before .loop in
     let at-loop-test = c .before .before .before .before .before .before .before .loop-test in
     let at-if2 = c .before .before .before .before .before .before .if2 in
-    left-end (at-loop .inv .2) (shapes-lone _ _ _ _ _ (at-loop-test .taken) (at-loop .inv .0) (at-if2 .left) (sym (c .before .before .before .before .before .read-term .ensures) ∙ c .before .before .before .m .given .1) (c .if3 .taken))
+    left-end (at-loop .inv .2) (shapes-lone _ _ _ _ _ (at-loop-test .taken) (at-loop .inv .0) (at-if2 .left)
+    (sym (c .before .before .before .before .before .read-term .ensures) ∙ c .before .before .before .m .given .1) (c .if3 .taken))
 
 cast-starts : tie.Need-cast-starts Inv-loop μ-loop
 cast-starts c = omega arith
@@ -107,8 +111,12 @@ loop-again c =
     let at-loop-test = c .before .before .before .before .before .before .before .loop-test in
     let at-if2 = c .before .before .before .before .before .before .if2 in
     let e = sym (c .before .before .before .before .before .read-term .ensures) ∙ c .before .before .before .m .given .1 in
-    let w = whole-in _ _ _ _ _ _ e in
-    (omega arith, omega (arith, w .few), left-next (at-loop .inv .2) (shapes-next _ _ _ _ _ (at-loop-test .taken) (at-loop .inv .0) (at-if2 .left) e (c .if3 .left)))
+    let w = whole-in _ _ _ _ _ _ e in (
+      omega arith,
+      omega (arith, w .few),
+      left-next (at-loop .inv .2)
+          (shapes-next _ _ _ _ _ (at-loop-test .taken) (at-loop .inv .0) (at-if2 .left) e (c .if3 .left)),
+    )
 
 same-length-4 : tie.Need-same-length-4 Inv-loop μ-loop
 same-length-4 c = c .before .loop .inv .2 .long

@@ -17,7 +17,8 @@ score-good-requires c κs = search needs
 returns : tie.Need-returns
 returns c =
     let entry = c .before .before .before .before .before .before .before in
-    sym (count-short (clashNumber (clash (entry .args .spans .now))) _ _ _ _ (sym (c .before .before .score-good .ensures) ∙ c .before .if1 .taken) (c .if2 .taken))
+    sym (count-short (clashNumber (clash (entry .args .spans .now))) _ _ _ _ (sym (c .before .before .score-good .ensures) ∙ c .before .if1 .taken)
+    (c .if2 .taken))
 
 sub-count-clashing : tie.Need-sub-count-clashing
 sub-count-clashing c = search needs
@@ -32,12 +33,22 @@ count-clashing-requires : tie.Need-count-clashing-requires
 count-clashing-requires c κs =
     let entry = c .before .before .before .before .before .before .before .before in
     let g = sym (c .before .before .before .score-good .ensures) ∙ c .before .before .if1 .taken in
-    omega (arith, few-nodes _ _ _ g, length-take (length (entry .args .score .now) - 0) (entry .args .marks .now), ap length (score-good-is _ _ _ g .spans), length-spans (entry .args .symbols .now) (entry .args .score .now))
+    omega (
+      arith,
+      few-nodes _ _ _ g,
+      length-take (length (entry .args .score .now) - 0) (entry .args .marks .now),
+      ap length
+          (score-good-is _ _ _ g .spans),
+      length-spans (entry .args .symbols .now) (entry .args .score .now),
+    )
 
 returns-2 : tie.Need-returns-2
 returns-2 c =
     let entry = c .before .before .before .before .before .before .before .before .before in
-    ap Number (c .count-clashing .ensures) ∙ sym (count-is (clashNumber (clash (entry .args .spans .now))) (entry .args .symbols .now) (entry .args .score .now) (entry .args .spans .now) (entry .args .marks .now) (sym (c .before .before .before .before .score-good .ensures) ∙ c .before .before .before .if1 .taken) (c .before .before .if2 .left))
+    ap Number (c .count-clashing .ensures)
+    ∙ sym (count-is (clashNumber (clash (entry .args .spans .now))) (entry .args .symbols .now) (entry .args .score .now)
+    (entry .args .spans .now) (entry .args .marks .now)
+    (sym (c .before .before .before .before .score-good .ensures) ∙ c .before .before .before .if1 .taken) (c .before .before .if2 .left))
 
 returns-3 : tie.Need-returns-3
 returns-3 c =

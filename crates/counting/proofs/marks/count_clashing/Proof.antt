@@ -14,7 +14,8 @@ use Rattle.counting.proofs.marks.count_clashing.Statement.{statement}
 use Rattle.counting.proofs.marks.count_clashing.Tie as tie
 
 abbrev Inv-loop : tie.InvT-loop
-Inv-loop spans marks sum₀ reach₀ x₀ sum reach x = (x ≤ length marks) × (sum ≤ 16 * x) × (sum ≡ sumTo x (numberAt marks (clashing (clash spans) marks))) × Reach marks spans x reach
+Inv-loop spans marks sum₀ reach₀ x₀ sum reach x =
+    (x ≤ length marks) × (sum ≤ 16 * x) × (sum ≡ sumTo x (numberAt marks (clashing (clash spans) marks))) × Reach marks spans x reach
 
 abbrev μ-loop : tie.MeasureT-loop
 μ-loop spans marks sum₀ reach₀ x₀ sum reach x = length marks - x
@@ -33,7 +34,11 @@ shared-slice-read-ones c = search needs
 cast-ones : tie.Need-cast-ones Inv-loop μ-loop
 cast-ones c =
     let at-loop = c .before .before .loop in
-    omega (arith, ones-le 16 (getD (c .before .before .before .before .before .args .marks .now) (at-loop .x) 0) (c .shared-slice-known3 .given (at-loop .x) .fits))
+    omega (
+      arith,
+      ones-le 16 (getD (c .before .before .before .before .before .args .marks .now) (at-loop .x) 0)
+          (c .shared-slice-known3 .given (at-loop .x) .fits),
+    )
 
 mul-end : tie.Need-mul-end Inv-loop μ-loop
 mul-end c = search needs
@@ -57,7 +62,14 @@ add-sum : tie.Need-add-sum Inv-loop μ-loop
 add-sum c =
     let entry = c .before .before .before .before .before .before .before .before in
     let at-loop = c .before .before .before .before .before .loop in
-    omega (arith, ones-le 16 (getD (entry .args .marks .now) (at-loop .x) 0) (c .before .before .before .shared-slice-known3 .given (at-loop .x) .fits), c .gain .ensures, gain-le (c .before .is-hit .result) (ones (getD (entry .args .marks .now) (at-loop .x) 0)))
+    omega (
+      arith,
+      ones-le 16 (getD (entry .args .marks .now) (at-loop .x) 0)
+          (c .before .before .before .shared-slice-known3 .given (at-loop .x) .fits),
+      c .gain .ensures,
+      gain-le (c .before .is-hit .result)
+          (ones (getD (entry .args .marks .now) (at-loop .x) 0)),
+    )
 
 furthest-requires : tie.Need-furthest-requires Inv-loop μ-loop
 furthest-requires c κs = search needs
@@ -76,15 +88,22 @@ loop-again c =
     let at-is-hit = c .before .before .is-hit in
     let le = ones-le 16 (getD (entry .args .marks .now) (at-loop .x) 0) (at-shared-slice-known3 .given (at-loop .x) .fits) in
     let g = gain-le (at-is-hit .result) (ones (getD (entry .args .marks .now) (at-loop .x) 0)) in
-    let n = count-next (entry .args .marks .now) (entry .args .spans .now) (at-loop .x) (at-loop .reach) (λ y. at-shared-slice-known3 .given y .fits) (c .before .before .before .before .before .loop-test .taken) (at-loop .inv .3) in
-    let e = c .before .gain .ensures ∙ ap (λ b. cond b (ones (getD (entry .args .marks .now) (at-loop .x) 0)) 0) (at-is-hit .ensures) in
-    (omega arith, omega (arith, le, g, c .before .gain .ensures), omega (arith, n, e, at-loop .inv .2), rw (c .furthest .ensures) (reach-next (entry .args .marks .now) (entry .args .spans .now) (at-loop .x) (at-loop .reach) (at-loop .inv .3)))
+    let n = count-next (entry .args .marks .now) (entry .args .spans .now) (at-loop .x) (at-loop .reach) (λ y. at-shared-slice-known3 .given y .fits)
+    (c .before .before .before .before .before .loop-test .taken) (at-loop .inv .3) in
+    let e = c .before .gain .ensures ∙ ap (λ b. cond b (ones (getD (entry .args .marks .now) (at-loop .x) 0)) 0) (at-is-hit .ensures) in (
+      omega arith,
+      omega (arith, le, g, c .before .gain .ensures),
+      omega (arith, n, e, at-loop .inv .2),
+      rw (c .furthest .ensures)
+          (reach-next (entry .args .marks .now) (entry .args .spans .now) (at-loop .x) (at-loop .reach) (at-loop .inv .3)),
+    )
 
 returns : tie.Need-returns Inv-loop μ-loop
 returns c =
     let entry = c .before .before .before .before in
     let q : c .before .loop .x ≡ length (entry .args .marks .now) = omega arith in
-    c .before .loop .inv .2 ∙ ap (λ (n : ℕ). sumTo n (numberAt (entry .args .marks .now) (clashing (clash (entry .args .spans .now)) (entry .args .marks .now)))) q
+    c .before .loop .inv .2 ∙ ap (λ (n : ℕ). sumTo n
+    (numberAt (entry .args .marks .now) (clashing (clash (entry .args .spans .now)) (entry .args .marks .now)))) q
 
 pub count-clashing-spec : {M : Type 1} → statement M
 count-clashing-spec =

@@ -33,7 +33,8 @@ returns-2 : tie.Need-returns-2 Inv-loop μ-loop
 returns-2 c =
     let entry = c .before .before .before .before .before in
     let at-loop = c .before .before .before .before .loop in
-    sym (marked-here (entry .args .marks .now) (entry .args .from) (entry .args .to) (at-loop .i) (at-loop .inv .0) (c .before .before .before .loop-test .taken) (c .if2 .taken))
+    sym (marked-here (entry .args .marks .now) (entry .args .from) (entry .args .to) (at-loop .i) (at-loop .inv .0)
+    (c .before .before .before .loop-test .taken) (c .if2 .taken))
 
 add-i : tie.Need-add-i Inv-loop μ-loop
 add-i c = search needs
@@ -50,7 +51,8 @@ loop-again c =
 returns-3 : tie.Need-returns-3 Inv-loop μ-loop
 returns-3 c =
     let entry = c .before .before in
-    sym (marked-none (entry .args .marks .now) (entry .args .from) (entry .args .to) (c .before .loop .i) (c .before .loop .inv .1) (inl (c .loop-test .left)))
+    sym (marked-none (entry .args .marks .now) (entry .args .from) (entry .args .to) (c .before .loop .i) (c .before .loop .inv .1)
+    (inl (c .loop-test .left)))
 
 pub is-marked-spec : {M : Type 1} → statement M
 is-marked-spec =

@@ -28,12 +28,19 @@ part-ones-of-end c = search needs
 ones-of-requires : tie.Need-ones-of-requires
 ones-of-requires c κs =
     let entry = c .before .before .before .before .before .before .before .before in
-    omega (arith, few-nodes _ _ _ (sym (c .before .before .before .score-good .ensures) ∙ c .before .before .if1 .taken), length-take (length (entry .args .score .now) - 0) (entry .args .marks .now))
+    omega (
+      arith,
+      few-nodes _ _ _ (sym (c .before .before .before .score-good .ensures) ∙ c .before .before .if1 .taken),
+      length-take
+          (length (entry .args .score .now) - 0) (entry .args .marks .now),
+    )
 
 returns-2 : tie.Need-returns-2
 returns-2 c =
     let entry = c .before .before .before .before .before .before .before .before .before in
-    ap Number (c .ones-of .ensures) ∙ sym (count-is total (entry .args .symbols .now) (entry .args .score .now) (entry .args .spans .now) (entry .args .marks .now) (sym (c .before .before .before .before .score-good .ensures) ∙ c .before .before .before .if1 .taken) (c .before .before .if2 .left))
+    ap Number (c .ones-of .ensures)
+    ∙ sym (count-is total (entry .args .symbols .now) (entry .args .score .now) (entry .args .spans .now) (entry .args .marks .now)
+    (sym (c .before .before .before .before .score-good .ensures) ∙ c .before .before .before .if1 .taken) (c .before .before .if2 .left))
 
 returns-3 : tie.Need-returns-3
 returns-3 c = sym (count-bad total _ _ _ _ (sym (c .before .score-good .ensures) ∙ c .if1 .left))

@@ -63,7 +63,12 @@ mul-items c =
     let at-shared-slice-known2 = c .before .before .before .before .before .before .before .before .shared-slice-known2 in
     let at-loop = c .before .before .before .before .before .before .loop in
     let at-goal-at = c .before .before .before .before .goal-at in
-    omega (arith, c .padded .ensures, pad-word (at-goal-at .result .at .0) (omega (arith, ap (λ (x : Goal). x .at .0) (at-goal-at .ensures), at-shared-slice-known2 .given (entry .args .at + 3 * at-loop .j + 1))))
+    omega (
+      arith,
+      c .padded .ensures,
+      pad-word (at-goal-at .result .at .0)
+          (omega (arith, ap (λ (x : Goal). x .at .0) (at-goal-at .ensures), at-shared-slice-known2 .given (entry .args .at + 3 * at-loop .j + 1))),
+    )
 
 cast-items : tie.Need-cast-items Inv-loop μ-loop
 cast-items c = search needs
@@ -75,7 +80,14 @@ add-items c =
     let at-loop = c .before .before .before .before .before .before .before .loop in
     let at-loop-test = c .before .before .before .before .before .before .loop-test in
     let at-goal-at = c .before .before .before .before .before .goal-at in
-    omega (arith, ap (λ (x : Goal). x .shape .0) (at-goal-at .ensures), stored-low (entry .pre .0) (at-loop .j) (at-loop-test .taken), c .before .padded .ensures, pad-word (at-goal-at .result .at .0) (omega (arith, ap (λ (x : Goal). x .at .0) (at-goal-at .ensures), at-shared-slice-known2 .given (entry .args .at + 3 * at-loop .j + 1))))
+    omega (
+      arith,
+      ap (λ (x : Goal). x .shape .0) (at-goal-at .ensures),
+      stored-low (entry .pre .0) (at-loop .j) (at-loop-test .taken),
+      c .before .padded .ensures,
+      pad-word (at-goal-at .result .at .0)
+          (omega (arith, ap (λ (x : Goal). x .at .0) (at-goal-at .ensures), at-shared-slice-known2 .given (entry .args .at + 3 * at-loop .j + 1))),
+    )
 
 mul-items-2 : tie.Need-mul-items-2 Inv-loop μ-loop
 mul-items-2 c =
@@ -84,7 +96,14 @@ mul-items-2 c =
     let at-loop = c .before .before .before .before .before .before .before .loop in
     let at-loop-test = c .before .before .before .before .before .before .loop-test in
     let at-goal-at = c .before .before .before .before .before .goal-at in
-    omega (arith, ap (λ (x : Goal). x .shape .0) (at-goal-at .ensures), stored-low (entry .pre .0) (at-loop .j) (at-loop-test .taken), c .before .padded .ensures, pad-word (at-goal-at .result .at .0) (omega (arith, ap (λ (x : Goal). x .at .0) (at-goal-at .ensures), at-shared-slice-known2 .given (entry .args .at + 3 * at-loop .j + 1))))
+    omega (
+      arith,
+      ap (λ (x : Goal). x .shape .0) (at-goal-at .ensures),
+      stored-low (entry .pre .0) (at-loop .j) (at-loop-test .taken),
+      c .before .padded .ensures,
+      pad-word (at-goal-at .result .at .0)
+          (omega (arith, ap (λ (x : Goal). x .at .0) (at-goal-at .ensures), at-shared-slice-known2 .given (entry .args .at + 3 * at-loop .j + 1))),
+    )
 
 cast-items-2 : tie.Need-cast-items-2 Inv-loop μ-loop
 cast-items-2 c = search needs
@@ -96,7 +115,14 @@ add-items-2 c =
     let at-loop = c .before .before .before .before .before .before .before .loop in
     let at-loop-test = c .before .before .before .before .before .before .loop-test in
     let at-goal-at = c .before .before .before .before .before .goal-at in
-    omega (arith, ap (λ (x : Goal). x .shape .0) (at-goal-at .ensures), stored-low (entry .pre .0) (at-loop .j) (at-loop-test .taken), c .before .padded .ensures, pad-word (at-goal-at .result .at .0) (omega (arith, ap (λ (x : Goal). x .at .0) (at-goal-at .ensures), at-shared-slice-known2 .given (entry .args .at + 3 * at-loop .j + 1))))
+    omega (
+      arith,
+      ap (λ (x : Goal). x .shape .0) (at-goal-at .ensures),
+      stored-low (entry .pre .0) (at-loop .j) (at-loop-test .taken),
+      c .before .padded .ensures,
+      pad-word (at-goal-at .result .at .0)
+          (omega (arith, ap (λ (x : Goal). x .at .0) (at-goal-at .ensures), at-shared-slice-known2 .given (entry .args .at + 3 * at-loop .j + 1))),
+    )
 
 mul-items-3 : tie.Need-mul-items-3 Inv-loop μ-loop
 mul-items-3 c =
@@ -131,7 +157,9 @@ loop-again c =
     let d =
     c .before .reduce .ensures ∙ ap (λ (x : Goal). reduct (a .tab .now) (a .root .0) (a .symbol .0) (asWords x)) (at-goal-at .ensures) in
     ⊎-elim
-    (λ w. rw (w .4, w .5) (listed-on (l .inv) (at-loop-test .taken) (eq-eqb _ _ (sym d ∙ w .0 .taken)) _ (ap₂ (λ (x : ℕ) (y : Goal). 128 * (16 * x + y .shape .0) + l .j) (w .2 .ensures ∙ ap (λ (y : Goal). pad (y .at .0)) (at-goal-at .ensures)) (at-goal-at .ensures))))
+    (λ w. rw (w .4, w .5) (listed-on (l .inv) (at-loop-test .taken) (eq-eqb _ _ (sym d ∙ w .0 .taken)) _
+    (ap₂ (λ (x : ℕ) (y : Goal). 128 * (16 * x + y .shape .0) + l .j) (w .2 .ensures ∙ ap (λ (y : Goal). pad (y .at .0)) (at-goal-at .ensures))
+    (at-goal-at .ensures))))
     (λ w. rw (w .1, w .2) (listed-off (l .inv) (at-loop-test .taken) (ne-eqb _ _ (λ e. w .0 .left (d ∙ e)))))
     (c .if1 .came)
 

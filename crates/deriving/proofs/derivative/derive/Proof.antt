@@ -41,7 +41,14 @@ put-born-requires c κs =
     let z = deriv-size (a .tab .now) (a .n) (a .root .0) (a .symbol .0) (a .k) (goalsFrom (a .ws .now) (a .at) (a .goals)) in (
       entry .pre .1 .0,
       entry .pre .1 .1,
-      omega (arith, z, at-put-staying .ensures .0, at-put-staying .kept .1 .1 .1 .1 .1 .0, at-put-moving .ensures .0, at-put-moving .kept .1 .1 .1 .1 .1 .1 .0),
+      omega (
+        arith,
+        z,
+        at-put-staying .ensures .0,
+        at-put-staying .kept .1 .1 .1 .1 .1 .0,
+        at-put-moving .ensures .0,
+        at-put-moving .kept .1 .1 .1 .1 .1 .1 .0,
+      ),
     )
 
 same-length : tie.Need-same-length
@@ -58,7 +65,13 @@ returns c =
     let S = flat (gather (stays (a .tab .now) (a .root .0)) gs) in
     let M = flat (gather (moves (a .tab .now) (a .root .0) (a .symbol .0)) gs) in
     let B = flat (bornW (a .n) (a .root .0) (a .k)) in (
-      omega (arith, deriv-size (a .tab .now) (a .n) (a .root .0) (a .symbol .0) (a .k) gs, at-put-staying .ensures .0, at-put-moving .ensures .0, at-put-born .ensures .0),
+      omega (
+        arith,
+        deriv-size (a .tab .now) (a .n) (a .root .0) (a .symbol .0) (a .k) gs,
+        at-put-staying .ensures .0,
+        at-put-moving .ensures .0,
+        at-put-born .ensures .0,
+      ),
       at-put-born .ensures .1
           ∙ ap (λ o. sets o (at-put-moving .result) B)
           (at-put-moving .ensures .1 ∙ ap (λ o. sets o (at-put-staying .result) M) (at-put-staying .ensures .1))

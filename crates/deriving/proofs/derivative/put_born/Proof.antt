@@ -17,7 +17,8 @@ use Rattle.deriving.proofs.derivative.put_fresh.Reads as put-fresh-read
 
 abbrev Inv-loop : tie.InvT-loop
 Inv-loop out₀ to n root k next₀ i₀ out next i =
-    (i ≤ k) × (length out ≡ length out₀) × (next + length (bornFrom n (root .0) k i) ≡ to + length (flat (bornW n (root .0) k))) × (sets out₀ to (flat (bornW n (root .0) k)) ≡ sets out next (bornFrom n (root .0) k i))
+    (i ≤ k) × (length out ≡ length out₀) × (next + length (bornFrom n (root .0) k i) ≡ to + length (flat (bornW n (root .0) k)))
+    × (sets out₀ to (flat (bornW n (root .0) k)) ≡ sets out next (bornFrom n (root .0) k i))
 
 abbrev μ-loop : tie.MeasureT-loop
 μ-loop out₀ to n root k next₀ i₀ out next i = k - i
@@ -42,7 +43,12 @@ put-fresh-requires c κs =
     let a = entry .args in let l = c .before .before .before .loop in
     let p = born-next (a .n) (a .root .0) (a .k) (l .i) (c .before .before .loop-test .taken) in (
       entry .pre .0,
-      omega (arith, ap length p, length-append (flat (freshesW (a .n) (5 * a .root .0 + (l .i + 1)))) (bornFrom (a .n) (a .root .0) (a .k) (l .i + 1))),
+      omega (
+        arith,
+        ap length p,
+        length-append (flat (freshesW (a .n) (5 * a .root .0 + (l .i + 1))))
+            (bornFrom (a .n) (a .root .0) (a .k) (l .i + 1)),
+      ),
     )
 
 loop-less : tie.Need-loop-less Inv-loop μ-loop
@@ -60,7 +66,8 @@ loop-again c =
       omega arith,
       at-put-fresh .kept .0 ∙ l .inv .1,
       omega (arith, at-put-fresh .ensures .0, ap length p, length-append one rest),
-      l .inv .3 ∙ ap (sets (l .out) (l .next)) p ∙ sets-append (l .out) (l .next) one rest ∙ ap₂ (λ o i. sets o i rest) (sym (at-put-fresh .ensures .1)) (sym (at-put-fresh .ensures .0)),
+      l .inv .3 ∙ ap (sets (l .out) (l .next)) p ∙ sets-append (l .out) (l .next) one rest
+          ∙ ap₂ (λ o i. sets o i rest) (sym (at-put-fresh .ensures .1)) (sym (at-put-fresh .ensures .0)),
     )
 
 same-length : tie.Need-same-length Inv-loop μ-loop

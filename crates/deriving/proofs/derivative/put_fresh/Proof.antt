@@ -16,7 +16,8 @@ use Rattle.goals.proofs.words.put_goal.Reads as put-goal-reads
 
 abbrev Inv-loop : tie.InvT-loop
 Inv-loop out₀ to n at next₀ j₀ out next j =
-    (j ≤ n) × (length out ≡ length out₀) × (next + length (freshFrom n (at .0) j) ≡ to + length (flat (freshesW n (at .0)))) × (sets out₀ to (flat (freshesW n (at .0))) ≡ sets out next (freshFrom n (at .0) j))
+    (j ≤ n) × (length out ≡ length out₀) × (next + length (freshFrom n (at .0) j) ≡ to + length (flat (freshesW n (at .0))))
+    × (sets out₀ to (flat (freshesW n (at .0))) ≡ sets out next (freshFrom n (at .0) j))
 
 abbrev μ-loop : tie.MeasureT-loop
 μ-loop out₀ to n at next₀ j₀ out next j = n - j
@@ -56,7 +57,8 @@ loop-again c =
       omega arith,
       at-put-goal .kept .0 ∙ l .inv .1,
       omega (arith, ap length p),
-      l .inv .3 ∙ ap (sets (l .out) (l .next)) p ∙ run-three (l .out) (l .next) (l .j) (a .at .0) 1 (freshFrom (a .n) (a .at .0) (l .j + 1)) ∙ ap (λ o. sets o (l .next + 3) (freshFrom (a .n) (a .at .0) (l .j + 1))) (sym (at-put-goal .ensures)),
+      l .inv .3 ∙ ap (sets (l .out) (l .next)) p ∙ run-three (l .out) (l .next) (l .j) (a .at .0) 1 (freshFrom (a .n) (a .at .0) (l .j + 1))
+          ∙ ap (λ o. sets o (l .next + 3) (freshFrom (a .n) (a .at .0) (l .j + 1))) (sym (at-put-goal .ensures)),
     )
 
 same-length : tie.Need-same-length Inv-loop μ-loop

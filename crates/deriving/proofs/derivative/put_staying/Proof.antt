@@ -55,8 +55,10 @@ loop-again c =
     let at-loop-test = c .before .before .before .loop-test in
     let at-goal-at = c .before .before .goal-at in
     ⊎-elim
-    (λ w. stay-on (entry .args .tab .now) (entry .args .root .0) (at-loop .inv) (at-loop-test .taken) _ _ (at-goal-at .ensures) (c .before .node-at .ensures) (w .0 .taken) _ _ (w .5 ∙ w .2 .ensures) (w .6))
-    (λ w. stay-off (entry .args .tab .now) (entry .args .root .0) (at-loop .inv) (at-loop-test .taken) _ _ (at-goal-at .ensures) (c .before .node-at .ensures) (w .0 .left) _ _ (w .1) (w .2))
+    (λ w. stay-on (entry .args .tab .now) (entry .args .root .0) (at-loop .inv) (at-loop-test .taken) _ _ (at-goal-at .ensures)
+    (c .before .node-at .ensures) (w .0 .taken) _ _ (w .5 ∙ w .2 .ensures) (w .6))
+    (λ w. stay-off (entry .args .tab .now) (entry .args .root .0) (at-loop .inv) (at-loop-test .taken) _ _ (at-goal-at .ensures)
+    (c .before .node-at .ensures) (w .0 .left) _ _ (w .1) (w .2))
     (c .if1 .came)
 
 same-length : tie.Need-same-length Inv-loop μ-loop

@@ -21,7 +21,8 @@ use Rattle.goals.proofs.words.put_goal.Reads as put-goal-reads
 
 abbrev Inv-loop : tie.InvT-loop
 Inv-loop ws at n top out₀ next₀ here₀ left₀ out next here left =
-    (left ≤ n) × (here + 3 * left ≡ at + 3 * n) × (next + 3 * left ≡ 3 * n) × (length out ≡ length out₀) × (sets out₀ 0 (lifted (top .0) ws at n) ≡ sets out next (lifted (top .0) ws here left))
+    (left ≤ n) × (here + 3 * left ≡ at + 3 * n) × (next + 3 * left ≡ 3 * n) × (length out ≡ length out₀)
+    × (sets out₀ 0 (lifted (top .0) ws at n) ≡ sets out next (lifted (top .0) ws here left))
 
 abbrev μ-loop : tie.MeasureT-loop
 μ-loop ws at n top out₀ next₀ here₀ left₀ out next here left = left
@@ -72,7 +73,9 @@ loop-again c =
       omega arith,
       omega arith,
       at-put-goal .kept .0 ∙ l .inv .3,
-      l .inv .4 ∙ ap (sets (l .out) (l .next)) p ∙ run-three (l .out) (l .next) (getD (a .ws .now) (l .here) 0) u (getD (a .ws .now) (l .here + 2) 0) rest ∙ ap (λ o. sets o (l .next + 3) rest) (sym (at-put-goal .ensures ∙ e)),
+      l .inv .4 ∙ ap (sets (l .out) (l .next)) p
+          ∙ run-three (l .out) (l .next) (getD (a .ws .now) (l .here) 0) u (getD (a .ws .now) (l .here + 2) 0) rest
+          ∙ ap (λ o. sets o (l .next + 3) rest) (sym (at-put-goal .ensures ∙ e)),
     )
 
 same-length : tie.Need-same-length Inv-loop μ-loop

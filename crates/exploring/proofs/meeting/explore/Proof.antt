@@ -36,7 +36,8 @@ loop-holds : tie.Need-loop-holds Inv-loop μ-loop
 loop-holds c =
     let entry = c .before .before .before .before .before .before .before .before .before .before .before in
     let at-put-fresh = c .before .before .before .before .before .before .put-fresh in
-    (running-begin (entry .args .scratch .now) (entry .pre .0) (entry .pre .1) _ _ (at-put-fresh .ensures .1) (c .before .before .add-state .ensures)) .0
+    (running-begin (entry .args .scratch .now) (entry .pre .0) (entry .pre .1) _ _ (at-put-fresh .ensures .1)
+    (c .before .before .add-state .ensures)) .0
 
 cast-t25 : tie.Need-cast-t25 Inv-loop μ-loop
 cast-t25 c = omega (arith, c .before .loop-test .taken, c .before .before .loop .inv .held .kept .few)
@@ -55,7 +56,8 @@ add-words c =
     let at-loop-test = c .before .before .before .before .before .before .before .loop-test in
     let at-explore-state = c .before .before .before .before .before .explore-state in
     let s =
-    (running-on (at-loop .inv) (at-loop-test .taken) _ (at-explore-state .result) _ _ (c .before .states .given .1) (at-explore-state .ensures .0) (at-explore-state .ensures .1) (at-explore-state .kept .1 .1 .1 .0)) in
+    (running-on (at-loop .inv) (at-loop-test .taken) _ (at-explore-state .result) _ _ (c .before .states .given .1) (at-explore-state .ensures .0)
+    (at-explore-state .ensures .1) (at-explore-state .kept .1 .1 .1 .0)) in
     omega (arith, s .sum, s .below, s .held .kept .few)
 
 enum-known-reason : tie.Need-enum-known-reason Inv-loop μ-loop
@@ -109,7 +111,8 @@ loop-again c =
     let at-loop = c .before .before .before .before .before .before .before .before .loop in
     let at-loop-test = c .before .before .before .before .before .before .before .loop-test in
     let at-explore-state = c .before .before .before .before .before .explore-state in
-    (running-on (at-loop .inv) (at-loop-test .taken) _ (at-explore-state .result) _ _ (c .before .states .given .1) (at-explore-state .ensures .0) (at-explore-state .ensures .1) (at-explore-state .kept .1 .1 .1 .0))
+    (running-on (at-loop .inv) (at-loop-test .taken) _ (at-explore-state .result) _ _ (c .before .states .given .1) (at-explore-state .ensures .0)
+    (at-explore-state .ensures .1) (at-explore-state .kept .1 .1 .1 .0))
 
 same-length-2 : tie.Need-same-length-2 Inv-loop μ-loop
 same-length-2 c = c .before .loop .inv .long ∙ c .before .before .before .before .add-state .kept .0
@@ -120,7 +123,8 @@ returns-2 c =
     let at-put-fresh = c .before .before .before .before .before .before .before .before .put-fresh in (
       running-end (c .before .loop .inv) (c .loop-test .left),
       c .before .loop .inv .behind
-          ∙ (running-begin (entry .args .scratch .now) (entry .pre .0) (entry .pre .1) _ _ (at-put-fresh .ensures .1) (c .before .before .before .before .add-state .ensures)) .1,
+          ∙ (running-begin (entry .args .scratch .now) (entry .pre .0) (entry .pre .1) _ _ (at-put-fresh .ensures .1)
+          (c .before .before .before .before .add-state .ensures)) .1,
     )
 
 pub explore-spec : {M : Type 1} → statement M

@@ -6,7 +6,8 @@ use Rattle.find.proofs.finding.take_all.Statement.{statement}
 use Rattle.find.proofs.finding.take_all.Tie as tie
 
 abbrev Inv-loop : tie.InvT-loop
-Inv-loop plan score spans waiting₀ log₀ marks₀ record₀ taken₀ taken-end waiting log marks «record» taken = (length waiting ≡ length waiting₀) × (length log ≡ length log₀) × (length marks ≡ length marks₀)
+Inv-loop plan score spans waiting₀ log₀ marks₀ record₀ taken₀ taken-end waiting log marks «record» taken =
+    (length waiting ≡ length waiting₀) × (length log ≡ length log₀) × (length marks ≡ length marks₀)
 
 abbrev μ-loop : tie.MeasureT-loop
 μ-loop plan score spans waiting₀ log₀ marks₀ record₀ taken₀ taken-end waiting log marks «record» taken = taken-end - taken

@@ -44,19 +44,33 @@ mul-t29 : tie.Need-mul-t29
 mul-t29 c =
     let entry = c .before .before .before .before .before .before .before .before .before .before .before .before .before .before in
     let a = entry .args in
-    omega (arith, shapes-refused-in (a .symbols .now) blankWord (take (a .m - 0) (a .both .now)) _ _ (sym (c .before .before .before .before .read-shapes .ensures .0) ∙ c .before .reason .given .1), ws-length (a .symbols .now) (a .both .now) (a .m) (entry .pre .1))
+    omega (
+      arith,
+      shapes-refused-in (a .symbols .now) blankWord (take (a .m - 0) (a .both .now)) _ _
+          (sym (c .before .before .before .before .read-shapes .ensures .0) ∙ c .before .reason .given .1),
+      ws-length (a .symbols .now) (a .both .now)
+          (a .m) (entry .pre .1),
+    )
 
 add-t30 : tie.Need-add-t30
 add-t30 c =
     let entry = c .before .before .before .before .before .before .before .before .before .before .before .before .before .before in
     let a = entry .args in
-    omega (arith, shapes-refused-in (a .symbols .now) blankWord (take (a .m - 0) (a .both .now)) _ _ (sym (c .before .before .before .before .read-shapes .ensures .0) ∙ c .before .reason .given .1), ws-length (a .symbols .now) (a .both .now) (a .m) (entry .pre .1))
+    omega (
+      arith,
+      shapes-refused-in (a .symbols .now) blankWord (take (a .m - 0) (a .both .now)) _ _
+          (sym (c .before .before .before .before .read-shapes .ensures .0) ∙ c .before .reason .given .1),
+      ws-length (a .symbols .now) (a .both .now)
+          (a .m) (entry .pre .1),
+    )
 
 returns : tie.Need-returns
 returns c =
     let entry = c .before .before .before .before .before .before .before .before .before .before .before .before .before .before in
     let a = entry .args in
-    sym (parts-shapes (a .symbols .now) (a .both .now) (a .m) (entry .pre .1) (a .at) (lent (a .words .now) (a .starts .now) (a .score .now) (a .spans .now)) (sym (c .before .before .before .before .read-shapes .ensures .0) ∙ c .before .reason .given .1))
+    sym (parts-shapes (a .symbols .now) (a .both .now) (a .m) (entry .pre .1) (a .at)
+    (lent (a .words .now) (a .starts .now) (a .score .now) (a .spans .now))
+    (sym (c .before .before .before .before .read-shapes .ensures .0) ∙ c .before .reason .given .1))
 
 enum-known-n : tie.Need-enum-known-n
 enum-known-n c = search needs
@@ -75,22 +89,40 @@ add-t33 c = search needs
 
 mul-t34 : tie.Need-mul-t34
 mul-t34 c =
-    let entry = c .before .before .before .before .before .before .before .before .before .before .before .before .before .before .before .before .before .before in
+    let entry =
+    c .before .before .before .before .before .before .before .before .before .before .before .before .before .before .before .before .before .before in
     let a = entry .args in
-    omega (arith, score-refused-in (a .symbols .now) (take (length (a .both .now) - a .m) (drop (a .m) (a .both .now))) _ _ (sym (c .before .before .before .read-score .ensures) ∙ c .before .reason2 .given .1), sc-length (a .symbols .now) (a .both .now) (a .m) (entry .pre .1))
+    omega (
+      arith,
+      score-refused-in (a .symbols .now) (take (length (a .both .now) - a .m) (drop (a .m) (a .both .now))) _ _
+          (sym (c .before .before .before .read-score .ensures) ∙ c .before .reason2 .given .1),
+      sc-length (a .symbols .now) (a .both .now) (a .m)
+          (entry .pre .1),
+    )
 
 add-t35 : tie.Need-add-t35
 add-t35 c =
-    let entry = c .before .before .before .before .before .before .before .before .before .before .before .before .before .before .before .before .before .before in
+    let entry =
+    c .before .before .before .before .before .before .before .before .before .before .before .before .before .before .before .before .before .before in
     let a = entry .args in
-    omega (arith, score-refused-in (a .symbols .now) (take (length (a .both .now) - a .m) (drop (a .m) (a .both .now))) _ _ (sym (c .before .before .before .read-score .ensures) ∙ c .before .reason2 .given .1), sc-length (a .symbols .now) (a .both .now) (a .m) (entry .pre .1))
+    omega (
+      arith,
+      score-refused-in (a .symbols .now) (take (length (a .both .now) - a .m) (drop (a .m) (a .both .now))) _ _
+          (sym (c .before .before .before .read-score .ensures) ∙ c .before .reason2 .given .1),
+      sc-length (a .symbols .now) (a .both .now) (a .m)
+          (entry .pre .1),
+    )
 
 returns-2 : tie.Need-returns-2
 returns-2 c =
-    let entry = c .before .before .before .before .before .before .before .before .before .before .before .before .before .before .before .before .before .before in
+    let entry =
+    c .before .before .before .before .before .before .before .before .before .before .before .before .before .before .before .before .before .before in
     let at-read-shapes = c .before .before .before .before .before .before .before .before .read-shapes in
     let a = entry .args in
-    sym (parts-score (a .symbols .now) (a .both .now) (a .m) (entry .pre .1) (a .at) (lent (a .words .now) (a .starts .now) (a .score .now) (a .spans .now)) (sym (at-read-shapes .ensures .0) ∙ c .before .before .before .before .before .n .given .1) (sym (c .before .before .before .read-score .ensures) ∙ c .before .reason2 .given .1))
+    sym (parts-score (a .symbols .now) (a .both .now) (a .m) (entry .pre .1) (a .at)
+    (lent (a .words .now) (a .starts .now) (a .score .now) (a .spans .now))
+    (sym (at-read-shapes .ensures .0) ∙ c .before .before .before .before .before .n .given .1)
+    (sym (c .before .before .before .read-score .ensures) ∙ c .before .reason2 .given .1))
 
 enum-told : tie.Need-enum-told
 enum-told c = search needs
@@ -103,10 +135,15 @@ part-store-start c = search needs
 
 part-store-end : tie.Need-part-store-end
 part-store-end c =
-    let entry = c .before .before .before .before .before .before .before .before .before .before .before .before .before .before .before .before .before .before in
+    let entry =
+    c .before .before .before .before .before .before .before .before .before .before .before .before .before .before .before .before .before .before in
     let at-read-shapes = c .before .before .before .before .before .before .before .before .read-shapes in
     let a = entry .args in
-    omega (arith, found-count (a .symbols .now) blankWord (take (a .m - 0) (a .both .now)) _ (sym (at-read-shapes .ensures .0) ∙ c .before .before .before .before .before .n .given .1))
+    omega (
+      arith,
+      found-count (a .symbols .now) blankWord (take (a .m - 0) (a .both .now)) _
+          (sym (at-read-shapes .ensures .0) ∙ c .before .before .before .before .before .n .given .1),
+    )
 
 store-requires : tie.Need-store-requires
 store-requires c κs = search needs
@@ -125,15 +162,22 @@ same-length-4 c = search needs
 
 returns-3 : tie.Need-returns-3
 returns-3 c =
-    let entry = c .before .before .before .before .before .before .before .before .before .before .before .before .before .before .before .before .before .before .before .before .before .before .before .before .before .before .before .before .before .before .before .before in
-    let at-read-shapes = c .before .before .before .before .before .before .before .before .before .before .before .before .before .before .before .before .before .before .before .before .before .before .read-shapes in
-    let at-n = c .before .before .before .before .before .before .before .before .before .before .before .before .before .before .before .before .before .before .before .n in
-    let at-read-score = c .before .before .before .before .before .before .before .before .before .before .before .before .before .before .before .before .before .read-score in
-    let at-enum-told = c .before .before .before .before .before .before .before .before .before .before .before .before .before .before .before .enum-told in
+    let entry =
+    c .before .before .before .before .before .before .before .before .before .before .before .before .before .before .before .before .before .before .before .before .before .before .before .before .before .before .before .before .before .before .before .before in
+    let at-read-shapes =
+    c .before .before .before .before .before .before .before .before .before .before .before .before .before .before .before .before .before .before .before .before .before .before .read-shapes in
+    let at-n =
+    c .before .before .before .before .before .before .before .before .before .before .before .before .before .before .before .before .before .before .before .n in
+    let at-read-score =
+    c .before .before .before .before .before .before .before .before .before .before .before .before .before .before .before .before .before .read-score in
+    let at-enum-told =
+    c .before .before .before .before .before .before .before .before .before .before .before .before .before .before .before .enum-told in
     let at-store = c .before .before .before .before .before .before .before .before .store in
     let a = entry .args in
     let l = lent (a .words .now) (a .starts .now) (a .score .now) (a .spans .now) in
-    let h = parts-on (a .symbols .now) (a .both .now) (a .m) (entry .pre .1) (a .at) l _ (replicate {A = ℕ} 16 0) _ (sym (at-read-shapes .ensures .0) ∙ at-n .given .1) (sym (at-read-score .ensures) ∙ at-enum-told .given .1) (length-replicate {A = ℕ} 16 0) (at-read-shapes .ensures .1) in
+    let h = parts-on (a .symbols .now) (a .both .now) (a .m) (entry .pre .1) (a .at) l _ (replicate {A = ℕ} 16 0) _
+    (sym (at-read-shapes .ensures .0) ∙ at-n .given .1) (sym (at-read-score .ensures) ∙ at-enum-told .given .1) (length-replicate {A = ℕ} 16 0)
+    (at-read-shapes .ensures .1) in
     at-store .ensures ∙ sym h
 
 pub hold-spec : {M : Type 1} → statement M

@@ -19,7 +19,8 @@ returns : tie.Need-returns
 returns c =
     let entry = c .before .before .before .before .before .before .before .before .before in
     let a = entry .args in
-    sym (opened-refused (a .file .now) (lent (a .words .now) (a .starts .now) (a .score .now) (a .spans .now)) (sym (c .before .before .before .find-sections .ensures) ∙ c .before .reason .given .1))
+    sym (opened-refused (a .file .now) (lent (a .words .now) (a .starts .now) (a .score .now) (a .spans .now))
+    (sym (c .before .before .before .find-sections .ensures) ∙ c .before .reason .given .1))
 
 enum-known-p : tie.Need-enum-known-p
 enum-known-p c = search needs
@@ -27,17 +28,20 @@ enum-known-p c = search needs
 sub-fill : tie.Need-sub-fill
 sub-fill c =
     let entry = c .before .before .before .before .before .before .before .before .before in
-    let d = sections-placed (entry .args .file .now) _ (sym (c .before .before .before .find-sections .ensures) ∙ c .before .p .given .1) in omega (arith, d .first, d .second)
+    let d = sections-placed (entry .args .file .now) _ (sym (c .before .before .before .find-sections .ensures) ∙ c .before .p .given .1) in
+    omega (arith, d .first, d .second)
 
 part-fill-start : tie.Need-part-fill-start
 part-fill-start c =
     let entry = c .before .before .before .before .before .before .before .before .before in
-    let d = sections-placed (entry .args .file .now) _ (sym (c .before .before .before .find-sections .ensures) ∙ c .before .p .given .1) in omega (arith, d .first, d .second)
+    let d = sections-placed (entry .args .file .now) _ (sym (c .before .before .before .find-sections .ensures) ∙ c .before .p .given .1) in
+    omega (arith, d .first, d .second)
 
 part-fill-end : tie.Need-part-fill-end
 part-fill-end c =
     let entry = c .before .before .before .before .before .before .before .before .before in
-    let d = sections-placed (entry .args .file .now) _ (sym (c .before .before .before .find-sections .ensures) ∙ c .before .p .given .1) in omega (arith, d .first, d .second, d .size)
+    let d = sections-placed (entry .args .file .now) _ (sym (c .before .before .before .find-sections .ensures) ∙ c .before .p .given .1) in
+    omega (arith, d .first, d .second, d .size)
 
 slice-aggregate-fill : tie.Need-slice-aggregate-fill
 slice-aggregate-fill c = search needs
@@ -46,19 +50,22 @@ fill-requires : tie.Need-fill-requires
 fill-requires c κs =
     let entry = c .before .before .before .before .before .before .before .before .before .before .before in
     let at-p = c .before .before .before .p in
-    let d = sections-placed (entry .args .file .now) _ (sym (c .before .before .before .before .before .find-sections .ensures) ∙ at-p .given .1) in omega (arith, bytes-length (entry .args .file .now) (at-p .given .0 .0) d, d .size, d .short)
+    let d = sections-placed (entry .args .file .now) _ (sym (c .before .before .before .before .before .find-sections .ensures) ∙ at-p .given .1) in
+    omega (arith, bytes-length (entry .args .file .now) (at-p .given .0 .0) d, d .size, d .short)
 
 sub-m : tie.Need-sub-m
 sub-m c =
     let entry = c .before .before .before .before .before .before .before .before .before .before .before .before .before in
     let at-find-sections = c .before .before .before .before .before .before .before .find-sections in
-    let d = sections-placed (entry .args .file .now) _ (sym (at-find-sections .ensures) ∙ c .before .before .before .before .before .p .given .1) in omega (arith, d .first, d .second)
+    let d = sections-placed (entry .args .file .now) _ (sym (at-find-sections .ensures) ∙ c .before .before .before .before .before .p .given .1) in
+    omega (arith, d .first, d .second)
 
 sub-k : tie.Need-sub-k
 sub-k c =
     let entry = c .before .before .before .before .before .before .before .before .before .before .before .before .before in
     let at-find-sections = c .before .before .before .before .before .before .before .find-sections in
-    let d = sections-placed (entry .args .file .now) _ (sym (at-find-sections .ensures) ∙ c .before .before .before .before .before .p .given .1) in omega (arith, d .first, d .second)
+    let d = sections-placed (entry .args .file .now) _ (sym (at-find-sections .ensures) ∙ c .before .before .before .before .before .p .given .1) in
+    omega (arith, d .first, d .second)
 
 sub-hold : tie.Need-sub-hold
 sub-hold c = search needs
@@ -70,7 +77,8 @@ part-hold-end : tie.Need-part-hold-end
 part-hold-end c =
     let entry = c .before .before .before .before .before .before .before .before .before .before .before .before .before in
     let at-find-sections = c .before .before .before .before .before .before .before .find-sections in
-    let d = sections-placed (entry .args .file .now) _ (sym (at-find-sections .ensures) ∙ c .before .before .before .before .before .p .given .1) in omega (arith, d .first, d .second, d .size)
+    let d = sections-placed (entry .args .file .now) _ (sym (at-find-sections .ensures) ∙ c .before .before .before .before .before .p .given .1) in
+    omega (arith, d .first, d .second, d .size)
 
 sub-hold-2 : tie.Need-sub-hold-2
 sub-hold-2 c = search needs
@@ -83,17 +91,25 @@ part-hold-end-2 c =
     let entry = c .before .before .before .before .before .before .before .before .before .before .before .before .before .before .before in
     let at-find-sections = c .before .before .before .before .before .before .before .before .before .find-sections in
     let at-p = c .before .before .before .before .before .before .before .p in
-    let d = sections-placed (entry .args .file .now) _ (sym (at-find-sections .ensures) ∙ at-p .given .1) in omega (arith, d .words, d .size, d .short)
+    let d = sections-placed (entry .args .file .now) _ (sym (at-find-sections .ensures) ∙ at-p .given .1) in
+    omega (arith, d .words, d .size, d .short)
 
 hold-requires : tie.Need-hold-requires
 hold-requires c κs =
-    let entry = c .before .before .before .before .before .before .before .before .before .before .before .before .before .before .before .before .before .before .before .before in
-    let at-find-sections = c .before .before .before .before .before .before .before .before .before .before .before .before .before .before .find-sections in
+    let entry =
+    c .before .before .before .before .before .before .before .before .before .before .before .before .before .before .before .before .before .before .before .before in
+    let at-find-sections =
+    c .before .before .before .before .before .before .before .before .before .before .before .before .before .before .find-sections in
     let at-p = c .before .before .before .before .before .before .before .before .before .before .before .before .p in
     let at-fill = c .before .before .before .before .before .before .before .before .fill in
     let d = sections-placed (entry .args .file .now) _ (sym (at-find-sections .ensures) ∙ at-p .given .1) in
-    let b = both-length (entry .args .file .now) (at-p .given .0 .0) d (replicate {A = ℕ} 4368 0) _ (length-replicate {A = ℕ} 4368 0) (at-fill .ensures) in
-    (omega (arith, d .first, d .second, d .size, d .short), omega (arith, b, d .words, d .score-words, d .first, d .second), omega (arith, b, d .words, d .size, d .short))
+    let b = both-length (entry .args .file .now) (at-p .given .0 .0) d (replicate {A = ℕ} 4368 0) _ (length-replicate {A = ℕ} 4368 0)
+    (at-fill .ensures) in (
+      omega (arith, d .first, d .second, d .size, d .short),
+      omega (arith, b, d .words, d .score-words, d .first, d .second),
+      omega
+          (arith, b, d .words, d .size, d .short),
+    )
 
 same-length : tie.Need-same-length
 same-length c = search needs
@@ -109,10 +125,14 @@ same-length-4 c = search needs
 
 returns-2 : tie.Need-returns-2
 returns-2 c =
-    let entry = c .before .before .before .before .before .before .before .before .before .before .before .before .before .before .before .before .before .before .before .before .before .before .before .before .before .before .before .before .before in
-    let at-find-sections = c .before .before .before .before .before .before .before .before .before .before .before .before .before .before .before .before .before .before .before .before .before .before .before .find-sections in
-    let at-p = c .before .before .before .before .before .before .before .before .before .before .before .before .before .before .before .before .before .before .before .before .before .p in
-    let at-fill = c .before .before .before .before .before .before .before .before .before .before .before .before .before .before .before .before .before .fill in
+    let entry =
+    c .before .before .before .before .before .before .before .before .before .before .before .before .before .before .before .before .before .before .before .before .before .before .before .before .before .before .before .before .before in
+    let at-find-sections =
+    c .before .before .before .before .before .before .before .before .before .before .before .before .before .before .before .before .before .before .before .before .before .before .before .find-sections in
+    let at-p =
+    c .before .before .before .before .before .before .before .before .before .before .before .before .before .before .before .before .before .before .before .before .before .p in
+    let at-fill =
+    c .before .before .before .before .before .before .before .before .before .before .before .before .before .before .before .before .before .fill in
     let at-hold = c .before .before .before .before .before .before .before .before .hold in
     let a = entry .args in
     let e = sym (at-find-sections .ensures) ∙ at-p .given .1 in

@@ -58,7 +58,8 @@ cast-spans c =
     let a = entry .args in
     let q : at-loop .i ≡ at-loop .i - 1 + 1 = omega arith in
     let en = at-loop .inv .2 ∙ ap (λ (n : ℕ). sets (a .spans .now) n (spansOf (a .symbols .now) (drop n (a .words .now)))) q in
-    let e = write-end (a .symbols .now) (a .words .now) (a .spans .now) (at-loop .i - 1) (c .skip .result) (omega arith) (omega arith) _ _ _ (c .before .before .before .count .ensures) (sub-zero _) en (c .skip .ensures) in
+    let e = write-end (a .symbols .now) (a .words .now) (a .spans .now) (at-loop .i - 1) (c .skip .result) (omega arith) (omega arith) _ _ _
+    (c .before .before .before .count .ensures) (sub-zero _) en (c .skip .ensures) in
     omega (arith, write-fits (a .symbols .now) (a .words .now) (a .spans .now) (at-loop .i - 1) (c .skip .result) (omega arith) (omega arith) e)
 
 mul-spans : tie.Need-mul-spans Inv-loop μ-loop
@@ -77,7 +78,8 @@ loop-again c =
     let a = entry .args in
     let q : at-loop .i ≡ at-loop .i - 1 + 1 = omega arith in
     let en = at-loop .inv .2 ∙ ap (λ (n : ℕ). sets (a .spans .now) n (spansOf (a .symbols .now) (drop n (a .words .now)))) q in
-    let e = write-end (a .symbols .now) (a .words .now) (a .spans .now) (at-loop .i - 1) (c .skip .result) (omega arith) (omega arith) _ _ _ (c .before .before .before .count .ensures) (sub-zero _) en (c .skip .ensures) in (
+    let e = write-end (a .symbols .now) (a .words .now) (a .spans .now) (at-loop .i - 1) (c .skip .result) (omega arith) (omega arith) _ _ _
+    (c .before .before .before .count .ensures) (sub-zero _) en (c .skip .ensures) in (
       omega arith,
       simp length-set (at-loop .inv .1),
       write-next (a .symbols .now) (a .words .now) (a .spans .now) (at-loop .i - 1) (c .skip .result) (omega arith) (omega arith) _ en e,
@@ -90,7 +92,8 @@ returns : tie.Need-returns Inv-loop μ-loop
 returns c =
     let entry = c .before .before .before .before .before in
     let z : c .before .loop .i ≡ 0 = omega arith in
-    c .before .loop .inv .2 ∙ ap (λ (n : ℕ). sets (entry .args .spans .now) n (spansOf (entry .args .symbols .now) (drop n (entry .args .words .now)))) z
+    c .before .loop .inv .2 ∙ ap (λ (n : ℕ). sets (entry .args .spans .now) n
+    (spansOf (entry .args .symbols .now) (drop n (entry .args .words .now)))) z
 
 pub put-spans-spec : {M : Type 1} → statement M
 put-spans-spec =

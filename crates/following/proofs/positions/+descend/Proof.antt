@@ -68,7 +68,9 @@ descend-returns-2 : (t : ℕ) → descend-lts.Need-returns-2 (
   child-reads.Asked,
   child-reads.Learnt,
 ) (descend-at t) descend.Post
-descend-returns-2 t c = c .child .ensures ∙ sym (descend-child _ _ _ (c .before .before .before .before .before .if1 .left) (omega arith) (sym (c .before .before .before .before .descend .ensures) ∙ ap nodeOf (c .before .before .x .given .1)))
+descend-returns-2 t c = c .child .ensures
+    ∙ sym (descend-child _ _ _ (c .before .before .before .before .before .if1 .left) (omega arith)
+    (sym (c .before .before .before .before .descend .ensures) ∙ ap nodeOf (c .before .before .x .given .1)))
 
 descend-returns-3 : (t : ℕ) → descend-lts.Need-returns-3 (
   descend-below t,
@@ -76,7 +78,8 @@ descend-returns-3 : (t : ℕ) → descend-lts.Need-returns-3 (
   child-reads.Asked,
   child-reads.Learnt,
 ) (descend-at t) descend.Post
-descend-returns-3 t c = sym (descend-none _ _ _ (c .before .before .before .if1 .left) (omega arith) (sym (c .before .before .descend .ensures) ∙ ap nodeOf (c .enum-told .given .1)))
+descend-returns-3 t c = sym (descend-none _ _ _ (c .before .before .before .if1 .left) (omega arith)
+    (sym (c .before .before .descend .ensures) ∙ ap nodeOf (c .enum-told .given .1)))
 
 pub +descend-spec : {M : Type 1} → statement M
 +descend-spec = close μ-descend λ t. descend-lts.spec (

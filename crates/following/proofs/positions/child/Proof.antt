@@ -58,10 +58,12 @@ add-if5 : tie.Need-add-if5 Inv-loop μ-loop
 add-if5 c = omega (arith, c .before .shared-slice-known2 .given (c .before .before .before .loop .here))
 
 returns-5 : tie.Need-returns-5 Inv-loop μ-loop
-returns-5 c = sym (c .before .before .before .before .loop .inv ∙ sibling-past _ _ _ _ (c .before .before .before .if3 .left) (c .before .if4 .left) (c .if5 .taken))
+returns-5 c = sym (c .before .before .before .before .loop .inv
+    ∙ sibling-past _ _ _ _ (c .before .before .before .if3 .left) (c .before .if4 .left) (c .if5 .taken))
 
 returns-6 : tie.Need-returns-6 Inv-loop μ-loop
-returns-6 c = sym (c .before .before .before .before .before .loop .inv ∙ sibling-here _ _ _ _ (c .before .before .before .before .if3 .left) (c .before .before .if4 .left) (c .before .if5 .left) (c .if6 .taken))
+returns-6 c = sym (c .before .before .before .before .before .loop .inv
+    ∙ sibling-here _ _ _ _ (c .before .before .before .before .if3 .left) (c .before .before .if4 .left) (c .before .if5 .left) (c .if6 .taken))
 
 add-here-2 : tie.Need-add-here-2 Inv-loop μ-loop
 add-here-2 c = omega (arith, c .before .before .before .shared-slice-known2 .given (c .before .before .before .before .before .loop .here))
@@ -73,7 +75,8 @@ loop-less : tie.Need-loop-less Inv-loop μ-loop
 loop-less c = omega arith
 
 loop-again : tie.Need-loop-again Inv-loop μ-loop
-loop-again c = c .before .before .before .before .before .loop .inv ∙ sibling-next _ _ _ _ (c .before .before .before .before .if3 .left) (c .before .before .if4 .left) (c .before .if5 .left) (c .if6 .left)
+loop-again c = c .before .before .before .before .before .loop .inv
+    ∙ sibling-next _ _ _ _ (c .before .before .before .before .if3 .left) (c .before .before .if4 .left) (c .before .if5 .left) (c .if6 .left)
 
 pub child-spec : {M : Type 1} → statement M
 child-spec =

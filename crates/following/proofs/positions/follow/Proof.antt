@@ -29,25 +29,32 @@ returns-2 : tie.Need-returns-2
 returns-2 c =
     let at-is-good = c .before .before .before .before .before .before .before .is-good in
     let at-if1 = c .before .before .before .before .before .before .if1 in
-    sym (ap reached (target-out _ _ _ _ (sym (at-is-good .ensures) ∙ of-not-false _ (at-if1 .left)) (sym (c .before .before .before .before .descend .ensures) ∙ ap nodeOf (c .before .before .x .given .1)) (c .if2 .taken)))
+    sym (ap reached (target-out _ _ _ _ (sym (at-is-good .ensures) ∙ of-not-false _ (at-if1 .left))
+    (sym (c .before .before .before .before .descend .ensures) ∙ ap nodeOf (c .before .before .x .given .1)) (c .if2 .taken)))
 
 returns-3 : tie.Need-returns-3
 returns-3 c =
     let at-is-good = c .before .before .before .before .before .before .before .before .is-good in
     let at-if1 = c .before .before .before .before .before .before .before .if1 in
-    sym (ap reached (target-far _ _ _ _ (sym (at-is-good .ensures) ∙ of-not-false _ (at-if1 .left)) (sym (c .before .before .before .before .before .descend .ensures) ∙ ap nodeOf (c .before .before .before .x .given .1)) (c .before .if2 .left) (c .if3 .taken)))
+    sym (ap reached (target-far _ _ _ _ (sym (at-is-good .ensures) ∙ of-not-false _ (at-if1 .left))
+    (sym (c .before .before .before .before .before .descend .ensures) ∙ ap nodeOf (c .before .before .before .x .given .1))
+    (c .before .if2 .left) (c .if3 .taken)))
 
 cast-t12 : tie.Need-cast-t12
 cast-t12 c = search needs
 
 returns-4 : tie.Need-returns-4
-returns-4 c = sym (ap reached (target-none _ _ _ _ (sym (c .before .before .before .before .before .is-good .ensures) ∙ of-not-false _ (c .before .before .before .before .if1 .left)) (sym (c .before .before .descend .ensures) ∙ ap nodeOf (c .enum-told .given .1))))
+returns-4 c = sym (ap reached (target-none _ _ _ _
+    (sym (c .before .before .before .before .before .is-good .ensures) ∙ of-not-false _ (c .before .before .before .before .if1 .left))
+    (sym (c .before .before .descend .ensures) ∙ ap nodeOf (c .enum-told .given .1))))
 
 returns-5 : tie.Need-returns-5
 returns-5 c =
     let at-is-good = c .before .before .before .before .before .before .before .before .is-good in
     let at-if1 = c .before .before .before .before .before .before .before .if1 in
-    sym (ap reached (target-at _ _ _ _ (sym (at-is-good .ensures) ∙ of-not-false _ (at-if1 .left)) (sym (c .before .before .before .before .before .descend .ensures) ∙ ap nodeOf (c .before .before .before .x .given .1)) (c .before .if2 .left) (c .if3 .left)))
+    sym (ap reached (target-at _ _ _ _ (sym (at-is-good .ensures) ∙ of-not-false _ (at-if1 .left))
+    (sym (c .before .before .before .before .before .descend .ensures) ∙ ap nodeOf (c .before .before .before .x .given .1))
+    (c .before .if2 .left) (c .if3 .left)))
 
 pub follow-spec : {M : Type 1} → statement M
 follow-spec =

@@ -38,7 +38,11 @@ cast-result-2 c =
 mul-result-2 : tie.Need-mul-result-2
 mul-result-2 c =
     let entry = c .before .before .before in
-    omega (arith, word-mul (entry .args .g .at .0) (getD (entry .args .tab .now) (256 + (16 * entry .args .g .shape .0 + entry .args .r)) 0) (omega arith) (omega (arith, c .shared-slice-known .given (256 + (16 * entry .args .g .shape .0 + entry .args .r)))))
+    omega (
+      arith,
+      word-mul (entry .args .g .at .0) (getD (entry .args .tab .now) (256 + (16 * entry .args .g .shape .0 + entry .args .r)) 0)
+          (omega arith) (omega (arith, c .shared-slice-known .given (256 + (16 * entry .args .g .shape .0 + entry .args .r)))),
+    )
 
 mul-result-3 : tie.Need-mul-result-3
 mul-result-3 c = search needs
@@ -54,7 +58,13 @@ cast-result-3 c =
 add-result-2 : tie.Need-add-result-2
 add-result-2 c =
     let entry = c .before .before .before .before in
-    omega (arith, c .shared-slice-known2 .given (16 * entry .args .g .shape .0 + entry .args .r), word-mul (entry .args .g .at .0) (getD (entry .args .tab .now) (256 + (16 * entry .args .g .shape .0 + entry .args .r)) 0) (omega arith) (omega (arith, c .before .shared-slice-known .given (256 + (16 * entry .args .g .shape .0 + entry .args .r)))))
+    omega (
+      arith,
+      c .shared-slice-known2 .given (16 * entry .args .g .shape .0 + entry .args .r),
+      word-mul (entry .args .g .at .0)
+          (getD (entry .args .tab .now) (256 + (16 * entry .args .g .shape .0 + entry .args .r)) 0) (omega arith)
+          (omega (arith, c .before .shared-slice-known .given (256 + (16 * entry .args .g .shape .0 + entry .args .r)))),
+    )
 
 returns : tie.Need-returns
 returns c = refl

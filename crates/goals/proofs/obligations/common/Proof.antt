@@ -68,7 +68,8 @@ returns c = sym (c .before .outer .inv ∙ first-end _ _ _ (c .if1 .taken))
 returns-2 : tie.Need-returns-2 Inv-loop μ-loop Inv-outer μ-outer
 returns-2 c =
     let at-outer = c .before .before .before .before .before .before .outer in
-    sym (at-outer .inv ∙ first-here _ _ _ (c .before .before .before .before .before .if1 .left) (c .before .before .before .loop .inv ∙ has-here _ _ _ (c .before .before .loop-test .taken) (c .if2 .taken)))
+    sym (at-outer .inv ∙ first-here _ _ _ (c .before .before .before .before .before .if1 .left)
+    (c .before .before .before .loop .inv ∙ has-here _ _ _ (c .before .before .loop-test .taken) (c .if2 .taken)))
 
 pub common-spec : {M : Type 1} → statement M
 common-spec =

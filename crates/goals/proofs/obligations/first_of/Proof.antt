@@ -53,8 +53,10 @@ loop-again c =
     let a = entry .args in
     let l = c .before .before .before .before .before .loop in
     ⊎-elim
-    (λ w. l .inv ∙ rw (w .2) (best-next (a .cs .now) (l .i) (l .found) (at-loop-test .taken) (omega (arith, w .0 .taken, at-padded .ensures, c .before .padded2 .ensures))))
-    (λ w. l .inv ∙ rw (w .1) (best-keep (a .cs .now) (l .i) (l .found) (at-loop-test .taken) (omega (arith, w .0 .left, at-padded .ensures, c .before .padded2 .ensures))))
+    (λ w. l .inv ∙ rw (w .2) (best-next (a .cs .now) (l .i) (l .found) (at-loop-test .taken)
+    (omega (arith, w .0 .taken, at-padded .ensures, c .before .padded2 .ensures))))
+    (λ w. l .inv ∙ rw (w .1) (best-keep (a .cs .now) (l .i) (l .found) (at-loop-test .taken)
+    (omega (arith, w .0 .left, at-padded .ensures, c .before .padded2 .ensures))))
     (c .if1 .came)
 
 returns : tie.Need-returns Inv-loop μ-loop

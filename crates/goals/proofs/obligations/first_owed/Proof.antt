@@ -30,7 +30,13 @@ part-first-of-end c =
     let entry = c .before .before .before .before .before in
     let at-owed = c .before .before .owed in
     let a = entry .args in
-    omega (arith, at-owed .ensures .0, owed-short (a .tab .now) (a .g .shape .0) (a .g .at .0) (sizeOf (a .tab .now) (a .g .shape .0)) 0 (a .g .mask), entry .pre .0 .sizes (a .g .shape .0) (entry .pre .1), at-owed .kept .1 .1 .0)
+    omega (
+      arith,
+      at-owed .ensures .0,
+      owed-short (a .tab .now) (a .g .shape .0) (a .g .at .0) (sizeOf (a .tab .now) (a .g .shape .0)) 0 (a .g .mask),
+      entry .pre .0 .sizes (a .g .shape .0) (entry .pre .1),
+      at-owed .kept .1 .1 .0,
+    )
 
 first-of-requires : tie.Need-first-of-requires
 first-of-requires c κs = search needs
@@ -43,7 +49,13 @@ returns c =
     let zs = replicate {A = ℕ} 16 0 in
     let xs = owedCodes (a .tab .now) (a .g .shape .0) (a .g .at .0) (a .g .mask) in
     c .first-of .ensures ∙ ap (firstCode (a .best))
-    (ap (λ l. take (at-owed .result - 0) (drop 0 l)) (at-owed .ensures .1) ∙ front zs xs (at-owed .result) (omega (arith, owed-short (a .tab .now) (a .g .shape .0) (a .g .at .0) (sizeOf (a .tab .now) (a .g .shape .0)) 0 (a .g .mask), entry .pre .0 .sizes (a .g .shape .0) (entry .pre .1))) (at-owed .ensures .0))
+    (ap (λ l. take (at-owed .result - 0) (drop 0 l)) (at-owed .ensures .1)
+    ∙ front zs xs (at-owed .result)
+    (omega (
+      arith,
+      owed-short (a .tab .now) (a .g .shape .0) (a .g .at .0) (sizeOf (a .tab .now) (a .g .shape .0)) 0 (a .g .mask),
+      entry .pre .0 .sizes (a .g .shape .0) (entry .pre .1),
+    )) (at-owed .ensures .0))
 
 pub first-owed-spec : {M : Type 1} → statement M
 first-owed-spec =

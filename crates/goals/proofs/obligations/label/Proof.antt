@@ -17,7 +17,8 @@ use Rattle.goals.proofs.words.goal_at.Reads as goal-at-reads
 
 abbrev Inv-loop : tie.InvT-loop
 Inv-loop tab ws at n best₀ here₀ left₀ best here left =
-    (here + 3 * left ≡ at + 3 * n) × Low (goalsFrom ws here left) × (labelCode tab (goalsFrom ws at n) ≡ firstCode best (rootCodes tab (goalsFrom ws here left)))
+    (here + 3 * left ≡ at + 3 * n) × Low (goalsFrom ws here left)
+    × (labelCode tab (goalsFrom ws at n) ≡ firstCode best (rootCodes tab (goalsFrom ws here left)))
 
 abbrev μ-loop : tie.MeasureT-loop
 μ-loop tab ws at n best₀ here₀ left₀ best here left = left
@@ -32,8 +33,11 @@ first-owed-requires : tie.Need-first-owed-requires Inv-loop μ-loop
 first-owed-requires c κs =
     let entry = c .before .before .before .before .before .before .before .before in
     let at-loop = c .before .before .before .before .before .loop in
-    rw (c .before .before .before .goal-at .ensures)
-    (entry .pre .tabled, low-next (entry .args .ws .now) (at-loop .here) (at-loop .left) (c .before .before .before .before .loop-test .taken) (at-loop .inv .1) .0)
+    rw (c .before .before .before .goal-at .ensures) (
+      entry .pre .tabled,
+      low-next (entry .args .ws .now) (at-loop .here) (at-loop .left) (c .before .before .before .before .loop-test .taken)
+          (at-loop .inv .1) .0,
+    )
 
 add-here : tie.Need-add-here Inv-loop μ-loop
 add-here c = search needs
@@ -53,8 +57,18 @@ loop-again c =
     let low = low-next (a .ws .now) (l .here) (l .left) (at-loop-test .taken) (l .inv .1) .1 in
     let at = ap (λ (x : Goal). x .at .0) (at-goal-at .ensures) in
     ⊎-elim
-    (λ w. (omega arith, low, l .inv .2 ∙ label-on (a .tab .now) (a .ws .now) (l .here) (l .left) (l .best) (at-loop-test .taken) (sym at ∙ w .0 .taken) ∙ rw (w .2, w .1 .ensures, at-goal-at .ensures, sym at ∙ w .0 .taken) refl))
-    (λ w. (omega arith, low, l .inv .2 ∙ rw (w .1) (label-off (a .tab .now) (a .ws .now) (l .here) (l .left) (l .best) (at-loop-test .taken) (λ z. w .0 .left (at ∙ z)))))
+    (λ w. (
+      omega arith,
+      low,
+      l .inv .2 ∙ label-on (a .tab .now) (a .ws .now) (l .here) (l .left) (l .best) (at-loop-test .taken)
+          (sym at ∙ w .0 .taken) ∙ rw (w .2, w .1 .ensures, at-goal-at .ensures, sym at ∙ w .0 .taken) refl,
+    ))
+    (λ w. (
+      omega arith,
+      low,
+      l .inv .2
+          ∙ rw (w .1) (label-off (a .tab .now) (a .ws .now) (l .here) (l .left) (l .best) (at-loop-test .taken) (λ z. w .0 .left (at ∙ z))),
+    ))
     (c .if1 .came)
 
 returns : tie.Need-returns Inv-loop μ-loop

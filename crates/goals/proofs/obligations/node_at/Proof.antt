@@ -15,7 +15,8 @@ use Rattle.goals.proofs.obligations.code_at.Reads as code-at-reads
 
 abbrev Inv-loop : tie.InvT-loop
 Inv-loop tab g here left₀ mask₀ r₀ left mask r =
-    (r + left ≡ sizeOf tab (g .shape .0)) × (nodeAt tab (g .shape .0) (g .at .0) (g .mask) (here .0) ≡ nodeFrom tab (g .shape .0) (g .at .0) (here .0) left r mask)
+    (r + left ≡ sizeOf tab (g .shape .0))
+    × (nodeAt tab (g .shape .0) (g .at .0) (g .mask) (here .0) ≡ nodeFrom tab (g .shape .0) (g .at .0) (here .0) left r mask)
 
 abbrev μ-loop : tie.MeasureT-loop
 μ-loop tab g here left₀ mask₀ r₀ left mask r = left
@@ -51,7 +52,9 @@ cast-if2 c = search needs
 
 returns : tie.Need-returns Inv-loop μ-loop
 returns c =
-    sym (c .before .before .before .before .before .loop .inv .1 ∙ node-here _ _ _ _ _ _ _ (c .before .before .before .before .loop-test .taken) (c .before .before .before .if1 .taken) (sym (c .before .before .code-at .ensures) ∙ c .if2 .taken))
+    sym (c .before .before .before .before .before .loop .inv .1
+    ∙ node-here _ _ _ _ _ _ _ (c .before .before .before .before .loop-test .taken) (c .before .before .before .if1 .taken)
+    (sym (c .before .before .code-at .ensures) ∙ c .if2 .taken))
 
 add-r : tie.Need-add-r Inv-loop μ-loop
 add-r c =
@@ -70,8 +73,16 @@ loop-again c =
     let a = entry .args in
     let l = c .before .before .loop in
     ⊎-elim
-    (λ w. (omega arith, l .inv .1 ∙ node-other (a .tab .now) (a .g .shape .0) (a .g .at .0) (a .here .0) (l .left) (l .r) (l .mask) (c .before .loop-test .taken) (w .0 .taken) (λ e. w .3 .left (w .1 .ensures ∙ e))))
-    (λ w. (omega arith, l .inv .1 ∙ node-off (a .tab .now) (a .g .shape .0) (a .g .at .0) (a .here .0) (l .left) (l .r) (l .mask) (c .before .loop-test .taken) (w .left)))
+    (λ w. (
+      omega arith,
+      l .inv .1 ∙ node-other (a .tab .now) (a .g .shape .0) (a .g .at .0) (a .here .0) (l .left) (l .r) (l .mask)
+          (c .before .loop-test .taken) (w .0 .taken) (λ e. w .3 .left (w .1 .ensures ∙ e)),
+    ))
+    (λ w. (
+      omega arith,
+      l .inv .1 ∙ node-off (a .tab .now) (a .g .shape .0) (a .g .at .0) (a .here .0) (l .left) (l .r) (l .mask)
+          (c .before .loop-test .taken) (w .left),
+    ))
     (c .if1 .came)
 
 returns-2 : tie.Need-returns-2 Inv-loop μ-loop

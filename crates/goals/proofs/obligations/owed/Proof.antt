@@ -19,7 +19,9 @@ use Rattle.goals.proofs.obligations.code_at.Reads as code-at-reads
 
 abbrev Inv-loop : tie.InvT-loop
 Inv-loop tab g out₀ left₀ mask₀ r₀ k₀ out left mask r k =
-    (length out ≡ length out₀) × (r + left ≡ sizeOf tab (g .shape .0)) × (k ≤ r) × (k + length (owedFrom tab (g .shape .0) (g .at .0) left r mask) ≡ length (owedBy tab (asWords g))) × (sets out₀ 0 (owedBy tab (asWords g)) ≡ sets out k (owedFrom tab (g .shape .0) (g .at .0) left r mask))
+    (length out ≡ length out₀) × (r + left ≡ sizeOf tab (g .shape .0)) × (k ≤ r)
+    × (k + length (owedFrom tab (g .shape .0) (g .at .0) left r mask) ≡ length (owedBy tab (asWords g)))
+    × (sets out₀ 0 (owedBy tab (asWords g)) ≡ sets out k (owedFrom tab (g .shape .0) (g .at .0) left r mask))
 
 abbrev μ-loop : tie.MeasureT-loop
 μ-loop tab g out₀ left₀ mask₀ r₀ k₀ out left mask r k = left
@@ -87,7 +89,9 @@ loop-again c =
       omega arith,
       omega (arith, w .3),
       omega (arith, w .3, ap length e),
-      rw (w .2, w .3, w .1 .ensures) (l .inv .4 ∙ ap (sets (l .out) (l .k)) e ∙ run-on (l .out) (l .k) (codeAt (a .tab .now) (a .g .shape .0) (a .g .at .0) (l .r)) (owedFrom (a .tab .now) (a .g .shape .0) (a .g .at .0) (l .left - 1) (l .r + 1) (l .mask / 2))),
+      rw (w .2, w .3, w .1 .ensures) (l .inv .4 ∙ ap (sets (l .out) (l .k)) e
+          ∙ run-on (l .out) (l .k) (codeAt (a .tab .now) (a .g .shape .0) (a .g .at .0) (l .r))
+          (owedFrom (a .tab .now) (a .g .shape .0) (a .g .at .0) (l .left - 1) (l .r + 1) (l .mask / 2))),
     ))
     (λ w. let e = owed-off (a .tab .now) (a .g .shape .0) (a .g .at .0) (l .left) (l .r) (l .mask) (c .before .loop-test .taken) (w .0 .left) in (
       ap length (w .1) ∙ l .inv .0,

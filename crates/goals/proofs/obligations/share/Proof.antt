@@ -37,7 +37,13 @@ part-common-end c =
     let entry = c .before .before .before .before .before .before .before .before in
     let at-owed = c .before .before .before .before .before .owed in
     let a = entry .args in
-    omega (arith, at-owed .ensures .0, owed-short (a .tab .now) (a .g .shape .0) (a .g .at .0) (sizeOf (a .tab .now) (a .g .shape .0)) 0 (a .g .mask), entry .pre .0 .sizes (a .g .shape .0) (entry .pre .1), at-owed .kept .1 .1 .0)
+    omega (
+      arith,
+      at-owed .ensures .0,
+      owed-short (a .tab .now) (a .g .shape .0) (a .g .at .0) (sizeOf (a .tab .now) (a .g .shape .0)) 0 (a .g .mask),
+      entry .pre .0 .sizes (a .g .shape .0) (entry .pre .1),
+      at-owed .kept .1 .1 .0,
+    )
 
 sub-common-2 : tie.Need-sub-common-2
 sub-common-2 c = search needs
@@ -50,7 +56,14 @@ part-common-end-2 c =
     let entry = c .before .before .before .before .before .before .before .before .before .before in
     let at-owed2 = c .before .before .before .before .owed2 in
     let a = entry .args in
-    omega (arith, at-owed2 .ensures .0, owed-short (a .tab .now) (a .h .shape .0) (a .h .at .0) (sizeOf (a .tab .now) (a .h .shape .0)) 0 (a .h .mask), entry .pre .0 .sizes (a .h .shape .0) (entry .pre .2), at-owed2 .kept .1 .1 .0)
+    omega (
+      arith,
+      at-owed2 .ensures .0,
+      owed-short (a .tab .now) (a .h .shape .0) (a .h .at .0) (sizeOf (a .tab .now) (a .h .shape .0)) 0
+          (a .h .mask),
+      entry .pre .0 .sizes (a .h .shape .0) (entry .pre .2),
+      at-owed2 .kept .1 .1 .0,
+    )
 
 common-requires : tie.Need-common-requires
 common-requires c κs = search needs
@@ -65,8 +78,20 @@ returns c =
     let xs = owedCodes (a .tab .now) (a .g .shape .0) (a .g .at .0) (a .g .mask) in
     let ys = owedCodes (a .tab .now) (a .h .shape .0) (a .h .at .0) (a .h .mask) in
     c .common .ensures ∙ ap₂ firstShared
-    (ap (λ l. take (at-owed .result - 0) (drop 0 l)) (at-owed .ensures .1) ∙ front zs xs (at-owed .result) (omega (arith, owed-short (a .tab .now) (a .g .shape .0) (a .g .at .0) (sizeOf (a .tab .now) (a .g .shape .0)) 0 (a .g .mask), entry .pre .0 .sizes (a .g .shape .0) (entry .pre .1))) (at-owed .ensures .0))
-    (ap (λ l. take (at-owed2 .result - 0) (drop 0 l)) (at-owed2 .ensures .1) ∙ front zs ys (at-owed2 .result) (omega (arith, owed-short (a .tab .now) (a .h .shape .0) (a .h .at .0) (sizeOf (a .tab .now) (a .h .shape .0)) 0 (a .h .mask), entry .pre .0 .sizes (a .h .shape .0) (entry .pre .2))) (at-owed2 .ensures .0))
+    (ap (λ l. take (at-owed .result - 0) (drop 0 l)) (at-owed .ensures .1)
+    ∙ front zs xs (at-owed .result)
+    (omega (
+      arith,
+      owed-short (a .tab .now) (a .g .shape .0) (a .g .at .0) (sizeOf (a .tab .now) (a .g .shape .0)) 0 (a .g .mask),
+      entry .pre .0 .sizes (a .g .shape .0) (entry .pre .1),
+    )) (at-owed .ensures .0))
+    (ap (λ l. take (at-owed2 .result - 0) (drop 0 l)) (at-owed2 .ensures .1)
+    ∙ front zs ys (at-owed2 .result)
+    (omega (
+      arith,
+      owed-short (a .tab .now) (a .h .shape .0) (a .h .at .0) (sizeOf (a .tab .now) (a .h .shape .0)) 0 (a .h .mask),
+      entry .pre .0 .sizes (a .h .shape .0) (entry .pre .2),
+    )) (at-owed2 .ensures .0))
 
 pub share-spec : {M : Type 1} → statement M
 share-spec =

@@ -15,12 +15,14 @@ padded-requires-2 c κs = search needs
 returns : tie.Need-returns
 returns c =
     let entry = c .before .before .before in
-    sym (pads-less (entry .args .self .0) (entry .args .other .0) (omega (arith, c .before .before .padded .ensures, c .before .padded2 .ensures, c .if1 .taken)))
+    sym (pads-less (entry .args .self .0) (entry .args .other .0)
+    (omega (arith, c .before .before .padded .ensures, c .before .padded2 .ensures, c .if1 .taken)))
 
 returns-2 : tie.Need-returns-2
 returns-2 c =
     let entry = c .before .before .before .before in
-    sym (pads-more (entry .args .self .0) (entry .args .other .0) (omega (arith, c .before .before .before .padded .ensures, c .before .before .padded2 .ensures, c .if2 .taken)))
+    sym (pads-more (entry .args .self .0) (entry .args .other .0)
+    (omega (arith, c .before .before .before .padded .ensures, c .before .before .padded2 .ensures, c .if2 .taken)))
 
 length-requires : tie.Need-length-requires
 length-requires c κs = search needs
@@ -31,7 +33,15 @@ length-requires-2 c κs = search needs
 returns-3 : tie.Need-returns-3
 returns-3 c =
     let entry = c .before .before .before .before .before .before in
-    ap₂ ltb (c .before .length .ensures) (c .length2 .ensures) ∙ sym (pads-same (entry .args .self .0) (entry .args .other .0) (omega (arith, c .before .before .before .before .before .padded .ensures, c .before .before .before .before .padded2 .ensures, c .before .before .before .if1 .left, c .before .before .if2 .left)))
+    ap₂ ltb (c .before .length .ensures) (c .length2 .ensures)
+    ∙ sym (pads-same (entry .args .self .0) (entry .args .other .0)
+    (omega (
+      arith,
+      c .before .before .before .before .before .padded .ensures,
+      c .before .before .before .before .padded2 .ensures,
+      c .before .before .before .if1 .left,
+      c .before .before .if2 .left,
+    )))
 
 pub before-spec : {M : Type 1} → statement M
 before-spec =

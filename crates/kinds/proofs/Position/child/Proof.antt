@@ -23,13 +23,15 @@ returns c =
 returns-2 : tie.Need-returns-2
 returns-2 c =
     let entry = c .before .before .before in
-    sym (child-none (entry .args .self) (entry .args .i) (sym (c .before .before .is-good .ensures) ∙ not-false _ (c .before .if1 .left)) (omega arith))
+    sym (child-none (entry .args .self) (entry .args .i) (sym (c .before .before .is-good .ensures) ∙ not-false _ (c .before .if1 .left))
+    (omega arith))
 
 -- src/lib.rt:55:13
 returns-3 : tie.Need-returns-3
 returns-3 c =
     let entry = c .before .before .before .before in
-    sym (child-many (entry .args .self) (entry .args .i) (sym (c .before .before .before .is-good .ensures) ∙ not-false _ (c .before .before .if1 .left)) (c .if3 .taken))
+    sym (child-many (entry .args .self) (entry .args .i)
+    (sym (c .before .before .before .is-good .ensures) ∙ not-false _ (c .before .before .if1 .left)) (c .if3 .taken))
 
 -- src/lib.rt:57:24
 cast-code : tie.Need-cast-code
@@ -52,7 +54,9 @@ returns-4 : tie.Need-returns-4
 returns-4 c =
     let entry = c .before .before .before .before .before .before .before in
     let at-is-good = c .before .before .before .before .before .before .is-good in
-    sym (child-far (entry .args .self) (entry .args .i) (sym (at-is-good .ensures) ∙ not-false _ (c .before .before .before .before .before .if1 .left)) (omega arith) (c .before .before .before .if3 .left) (c .if4 .taken))
+    sym (child-far (entry .args .self) (entry .args .i)
+    (sym (at-is-good .ensures) ∙ not-false _ (c .before .before .before .before .before .if1 .left)) (omega arith)
+    (c .before .before .before .if3 .left) (c .if4 .taken))
 
 -- src/lib.rt:62:28
 cast-t11 : tie.Need-cast-t11
@@ -63,7 +67,9 @@ returns-5 : tie.Need-returns-5
 returns-5 c =
     let entry = c .before .before .before .before .before .before .before in
     let at-is-good = c .before .before .before .before .before .before .is-good in
-    sym (child-at (entry .args .self) (entry .args .i) (sym (at-is-good .ensures) ∙ not-false _ (c .before .before .before .before .before .if1 .left)) (omega arith) (c .before .before .before .if3 .left) (c .if4 .left))
+    sym (child-at (entry .args .self) (entry .args .i)
+    (sym (at-is-good .ensures) ∙ not-false _ (c .before .before .before .before .before .if1 .left)) (omega arith)
+    (c .before .before .before .if3 .left) (c .if4 .left))
 
 pub child-spec : {M : Type 1} → statement M
 child-spec =

@@ -21,7 +21,8 @@ shapes-good-requires c κs = search needs
 returns : tie.Need-returns
 returns c =
     let entry = c .before .before .before .before .before .before .before .before in
-    sym (built-short (entry .args .symbols .now) (entry .args .words .now) (entry .args .starts .now) (entry .args .plan .now) (entry .args .scratch .now) (sym (c .before .before .shapes-good .ensures) ∙ c .before .if1 .taken) (c .if2 .taken))
+    sym (built-short (entry .args .symbols .now) (entry .args .words .now) (entry .args .starts .now) (entry .args .plan .now)
+    (entry .args .scratch .now) (sym (c .before .before .shapes-good .ensures) ∙ c .before .if1 .taken) (c .if2 .taken))
 
 slice-aggregate-fill-tables : tie.Need-slice-aggregate-fill-tables
 slice-aggregate-fill-tables c = search needs
@@ -82,7 +83,8 @@ returns-2 c =
 returns-3 : tie.Need-returns-3
 returns-3 c =
     let entry = c .before .before .before .before .before .before .before in
-    sym (built-bad (entry .args .symbols .now) (entry .args .words .now) (entry .args .starts .now) (entry .args .plan .now) (entry .args .scratch .now) (sym (c .before .shapes-good .ensures) ∙ c .if1 .left))
+    sym (built-bad (entry .args .symbols .now) (entry .args .words .now) (entry .args .starts .now) (entry .args .plan .now)
+    (entry .args .scratch .now) (sym (c .before .shapes-good .ensures) ∙ c .if1 .left))
 
 pub build-spec : {M : Type 1} → statement M
 build-spec =

@@ -21,10 +21,12 @@ enum-told : tie.Need-enum-told
 enum-told c = search needs
 
 returns-2 : tie.Need-returns-2
-returns-2 c = sym (law.fine-some _ _ _ _ _ _ (c .before .before .before .before .before .if1 .left) (after.reached-at _ _ (sym (c .before .before .before .before .follow .ensures) ∙ c .before .before .x .given .1)))
+returns-2 c = sym (law.fine-some _ _ _ _ _ _ (c .before .before .before .before .before .if1 .left)
+    (after.reached-at _ _ (sym (c .before .before .before .before .follow .ensures) ∙ c .before .before .x .given .1)))
 
 returns-3 : tie.Need-returns-3
-returns-3 c = sym (law.fine-none _ _ _ _ _ (c .before .before .before .if1 .left) (after.reached-nowhere _ (sym (c .before .before .follow .ensures) ∙ c .enum-told .given .1)))
+returns-3 c = sym (law.fine-none _ _ _ _ _ (c .before .before .before .if1 .left)
+    (after.reached-nowhere _ (sym (c .before .before .follow .ensures) ∙ c .enum-told .given .1)))
 
 pub fine-pair-spec : {M : Type 1} → statement M
 fine-pair-spec =

@@ -13,7 +13,10 @@ use Rattle.queue.proofs.aiming.fine_pairs.Statement.{statement}
 use Rattle.queue.proofs.aiming.fine_pairs.Tie as tie
 
 abbrev Inv-loop : tie.InvT-loop
-Inv-loop plan nodes spans from at count limit room here₀ left₀ here left = (here + 2 * left ≤ length plan) × (all (fine limit room (target nodes spans (from .0))) (pairList plan at count) ≡ all (fine limit room (target nodes spans (from .0))) (pairList plan here left))
+Inv-loop plan nodes spans from at count limit room here₀ left₀ here left =
+    (here + 2 * left ≤ length plan)
+    × (all (fine limit room (target nodes spans (from .0))) (pairList plan at count) ≡ all (fine limit room (target nodes spans (from .0)))
+    (pairList plan here left))
 
 abbrev μ-loop : tie.MeasureT-loop
 μ-loop plan nodes spans from at count limit room here₀ left₀ here left = left
@@ -40,7 +43,8 @@ fine-pair-requires : tie.Need-fine-pair-requires Inv-loop μ-loop
 fine-pair-requires c κs = search needs
 
 returns : tie.Need-returns Inv-loop μ-loop
-returns c = sym (c .before .before .before .before .before .loop .inv .1 ∙ law.all-bad _ _ _ _ (c .before .before .before .before .loop-test .taken) (sym (c .before .fine-pair .ensures) ∙ not-true _ (c .if1 .taken)))
+returns c = sym (c .before .before .before .before .before .loop .inv .1
+    ∙ law.all-bad _ _ _ _ (c .before .before .before .before .loop-test .taken) (sym (c .before .fine-pair .ensures) ∙ not-true _ (c .if1 .taken)))
 
 add-here : tie.Need-add-here Inv-loop μ-loop
 add-here c = search needs
@@ -52,7 +56,11 @@ loop-less : tie.Need-loop-less Inv-loop μ-loop
 loop-less c = search needs
 
 loop-again : tie.Need-loop-again Inv-loop μ-loop
-loop-again c = (omega arith, c .before .before .before .before .before .loop .inv .1 ∙ law.all-next _ _ _ _ (c .before .before .before .before .loop-test .taken) (sym (c .before .fine-pair .ensures) ∙ not-false _ (c .if1 .left)))
+loop-again c = (
+  omega arith,
+  c .before .before .before .before .before .loop .inv .1
+      ∙ law.all-next _ _ _ _ (c .before .before .before .before .loop-test .taken) (sym (c .before .fine-pair .ensures) ∙ not-false _ (c .if1 .left)),
+)
 
 returns-2 : tie.Need-returns-2 Inv-loop μ-loop
 returns-2 c = sym (c .before .loop .inv .1 ∙ law.all-end _ _ _ _ (c .loop-test .left))

@@ -13,7 +13,10 @@ use Rattle.queue.proofs.queueing.append_pairs.Statement.{statement}
 use Rattle.queue.proofs.queueing.append_pairs.Tie as tie
 
 abbrev Inv-loop : tie.InvT-loop
-Inv-loop plan nodes spans items₀ from at count end here₀ there₀ left₀ items here there left = (here + 2 * left ≤ length plan) × (there + 2 * left ≤ length items) × (length items ≡ length items₀) × (sets items₀ end (pairWords (landed (target nodes spans (from .0)) (pairList plan at count))) ≡ sets items there (pairWords (landed (target nodes spans (from .0)) (pairList plan here left))))
+Inv-loop plan nodes spans items₀ from at count end here₀ there₀ left₀ items here there left =
+    (here + 2 * left ≤ length plan) × (there + 2 * left ≤ length items) × (length items ≡ length items₀)
+    × (sets items₀ end (pairWords (landed (target nodes spans (from .0)) (pairList plan at count))) ≡ sets items there
+    (pairWords (landed (target nodes spans (from .0)) (pairList plan here left))))
 
 abbrev μ-loop : tie.MeasureT-loop
 μ-loop plan nodes spans items₀ from at count end here₀ there₀ left₀ items here there left = left
@@ -70,8 +73,13 @@ loop-less c = search needs
 
 loop-again : tie.Need-loop-again Inv-loop μ-loop
 loop-again c =
-    let at-loop = c .before .before .before .before .loop in
-    (omega arith, simp length-set (omega arith), simp length-set (at-loop .inv .2), at-loop .inv .3 ∙ law.items-next _ _ _ _ _ _ _ (c .before .before .before .loop-test .taken) (c .aim .ensures))
+    let at-loop = c .before .before .before .before .loop in (
+      omega arith,
+      simp length-set (omega arith),
+      simp length-set (at-loop .inv .2),
+      at-loop .inv .3
+          ∙ law.items-next _ _ _ _ _ _ _ (c .before .before .before .loop-test .taken) (c .aim .ensures),
+    )
 
 same-length : tie.Need-same-length Inv-loop μ-loop
 same-length c = c .before .loop .inv .2

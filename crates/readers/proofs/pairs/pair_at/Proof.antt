@@ -52,7 +52,9 @@ shared-slice-read-t11 c = search needs
 returns-2 : tie.Need-returns-2
 returns-2 c =
     let entry = c .before .before .before .before .before .before in
-    sym (law.pair-number (entry .args .plan .now) (entry .args .at + 1) (entry .args .limit) (getD (entry .args .plan .now) (entry .args .at) 0) (entry .args .i) _ _ (c .before .before .before .if1 .left) refl (ap (λ (k : ℕ). getD (entry .args .plan .now) k 0) (law.second (entry .args .at) (entry .args .i))) (c .if2 .taken))
+    sym (law.pair-number (entry .args .plan .now) (entry .args .at + 1) (entry .args .limit) (getD (entry .args .plan .now) (entry .args .at) 0)
+    (entry .args .i) _ _ (c .before .before .before .if1 .left) refl
+    (ap (λ (k : ℕ). getD (entry .args .plan .now) k 0) (law.second (entry .args .at) (entry .args .i))) (c .if2 .taken))
 
 is-good-requires : tie.Need-is-good-requires
 is-good-requires c κs = search needs
@@ -60,12 +62,18 @@ is-good-requires c κs = search needs
 returns-3 : tie.Need-returns-3
 returns-3 c =
     let entry = c .before .before .before .before .before .before .before .before in
-    sym (law.pair-code (entry .args .plan .now) (entry .args .at + 1) (entry .args .limit) (getD (entry .args .plan .now) (entry .args .at) 0) (entry .args .i) _ _ (c .before .before .before .before .before .if1 .left) refl (ap (λ (k : ℕ). getD (entry .args .plan .now) k 0) (law.second (entry .args .at) (entry .args .i))) (c .before .before .if2 .left) (sym (c .before .is-good .ensures) ∙ not-true _ (c .if3 .taken)))
+    sym (law.pair-code (entry .args .plan .now) (entry .args .at + 1) (entry .args .limit) (getD (entry .args .plan .now) (entry .args .at) 0)
+    (entry .args .i) _ _ (c .before .before .before .before .before .if1 .left) refl
+    (ap (λ (k : ℕ). getD (entry .args .plan .now) k 0) (law.second (entry .args .at) (entry .args .i))) (c .before .before .if2 .left)
+    (sym (c .before .is-good .ensures) ∙ not-true _ (c .if3 .taken)))
 
 returns-4 : tie.Need-returns-4
 returns-4 c =
     let entry = c .before .before .before .before .before .before .before .before in
-    sym (law.pair-some (entry .args .plan .now) (entry .args .at + 1) (entry .args .limit) (getD (entry .args .plan .now) (entry .args .at) 0) (entry .args .i) _ _ (c .before .before .before .before .before .if1 .left) refl (ap (λ (k : ℕ). getD (entry .args .plan .now) k 0) (law.second (entry .args .at) (entry .args .i))) (c .before .before .if2 .left) (sym (c .before .is-good .ensures) ∙ not-false _ (c .if3 .left)))
+    sym (law.pair-some (entry .args .plan .now) (entry .args .at + 1) (entry .args .limit) (getD (entry .args .plan .now) (entry .args .at) 0)
+    (entry .args .i) _ _ (c .before .before .before .before .before .if1 .left) refl
+    (ap (λ (k : ℕ). getD (entry .args .plan .now) k 0) (law.second (entry .args .at) (entry .args .i))) (c .before .before .if2 .left)
+    (sym (c .before .is-good .ensures) ∙ not-false _ (c .if3 .left)))
 
 pub pair-at-spec : {M : Type 1} → statement M
 pair-at-spec =

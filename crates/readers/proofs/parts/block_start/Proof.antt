@@ -38,7 +38,8 @@ add-place-3 c =
     omega (arith, law.product (entry .args .state .0) (entry .args .symbols) (omega arith))
 
 returns-3 : tie.Need-returns-3
-returns-3 c = sym (law.start-out _ _ _ _ _ (c .before .before .before .before .before .if1 .left) (c .before .before .before .if2 .left) (c .if3 .taken))
+returns-3 c = sym (law.start-out _ _ _ _ _ (c .before .before .before .before .before .if1 .left) (c .before .before .before .if2 .left)
+    (c .if3 .taken))
 
 mul-b : tie.Need-mul-b
 mul-b c = search needs
@@ -59,13 +60,15 @@ returns-4 : tie.Need-returns-4
 returns-4 c =
     let at-if1 = c .before .before .before .before .before .before .before .before .if1 in
     let at-if2 = c .before .before .before .before .before .before .if2 in
-    sym (law.start-cut _ _ _ _ _ (at-if1 .left) (at-if2 .left) (c .before .before .before .if3 .left) (sym (c .before .block-fits .ensures) ∙ not-true _ (c .if4 .taken)))
+    sym (law.start-cut _ _ _ _ _ (at-if1 .left) (at-if2 .left) (c .before .before .before .if3 .left)
+    (sym (c .before .block-fits .ensures) ∙ not-true _ (c .if4 .taken)))
 
 returns-5 : tie.Need-returns-5
 returns-5 c =
     let at-if1 = c .before .before .before .before .before .before .before .before .if1 in
     let at-if2 = c .before .before .before .before .before .before .if2 in
-    sym (law.start-at _ _ _ _ _ (at-if1 .left) (at-if2 .left) (c .before .before .before .if3 .left) (sym (c .before .block-fits .ensures) ∙ not-false _ (c .if4 .left)))
+    sym (law.start-at _ _ _ _ _ (at-if1 .left) (at-if2 .left) (c .before .before .before .if3 .left)
+    (sym (c .before .block-fits .ensures) ∙ not-false _ (c .if4 .left)))
 
 pub block-start-spec : {M : Type 1} → statement M
 block-start-spec =

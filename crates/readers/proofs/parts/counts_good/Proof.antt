@@ -26,7 +26,12 @@ shared-slice-read-if3 c = search needs
 
 -- src/parts.rt:25:9
 returns-3 : tie.Need-returns-3
-returns-3 c = sym (simp (le-leb _ _ (c .before .before .before .before .if1 .left), law.not-zero _ (c .before .before .if2 .left), lt-leb _ _ (c .if3 .taken)))
+returns-3 c = sym (simp (
+  le-leb _ _ (c .before .before .before .before .if1 .left),
+  law.not-zero _ (c .before .before .if2 .left),
+  lt-leb _ _
+      (c .if3 .taken),
+))
 
 -- src/parts.rt:27:8
 shared-slice-read-if4 : tie.Need-shared-slice-read-if4
@@ -36,7 +41,12 @@ shared-slice-read-if4 c = search needs
 returns-4 : tie.Need-returns-4
 returns-4 c =
     let at-if1 = c .before .before .before .before .before .before .if1 in
-    sym (simp (le-leb _ _ (at-if1 .left), law.not-zero _ (c .before .before .before .before .if2 .left), le-leb _ _ (c .before .before .if3 .left), law.is-zero _ (c .if4 .taken)))
+    sym (simp (
+      le-leb _ _ (at-if1 .left),
+      law.not-zero _ (c .before .before .before .before .if2 .left),
+      le-leb _ _ (c .before .before .if3 .left),
+      law.is-zero _ (c .if4 .taken),
+    ))
 
 -- src/parts.rt:30:23
 shared-slice-read-if5 : tie.Need-shared-slice-read-if5
@@ -51,7 +61,14 @@ returns-5 : tie.Need-returns-5
 returns-5 c =
     let at-if1 = c .before .before .before .before .before .before .before .before .if1 in
     let at-if2 = c .before .before .before .before .before .before .if2 in
-    sym (simp (le-leb _ _ (at-if1 .left), law.not-zero _ (at-if2 .left), le-leb _ _ (c .before .before .before .before .if3 .left), law.not-zero _ (c .before .before .if4 .left), lt-leb _ _ (c .if5 .taken)))
+    sym (simp (
+      le-leb _ _ (at-if1 .left),
+      law.not-zero _ (at-if2 .left),
+      le-leb _ _ (c .before .before .before .before .if3 .left),
+      law.not-zero _
+          (c .before .before .if4 .left),
+      lt-leb _ _ (c .if5 .taken),
+    ))
 
 -- src/parts.rt:33:8
 shared-slice-read-if6 : tie.Need-shared-slice-read-if6
@@ -63,7 +80,15 @@ returns-6 c =
     let at-if1 = c .before .before .before .before .before .before .before .before .before .before .if1 in
     let at-if2 = c .before .before .before .before .before .before .before .before .if2 in
     let at-if3 = c .before .before .before .before .before .before .if3 in
-    sym (simp (le-leb _ _ (at-if1 .left), law.not-zero _ (at-if2 .left), le-leb _ _ (at-if3 .left), law.not-zero _ (c .before .before .before .before .if4 .left), le-leb _ _ (c .before .before .if5 .left), law.is-zero _ (c .if6 .taken)))
+    sym (simp (
+      le-leb _ _ (at-if1 .left),
+      law.not-zero _ (at-if2 .left),
+      le-leb _ _ (at-if3 .left),
+      law.not-zero _
+          (c .before .before .before .before .if4 .left),
+      le-leb _ _ (c .before .before .if5 .left),
+      law.is-zero _ (c .if6 .taken),
+    ))
 
 -- src/parts.rt:36:5
 shared-slice-read-result : tie.Need-shared-slice-read-result
@@ -80,7 +105,8 @@ returns-7 c =
     let at-if1 = c .before .before .before .before .before .before .before .before .before .before .before .if1 in
     let at-if2 = c .before .before .before .before .before .before .before .before .before .if2 in
     let at-if3 = c .before .before .before .before .before .before .before .if3 in
-    sym (law.counts-last (entry .args .plan .now) (at-if1 .left) (at-if2 .left) (at-if3 .left) (c .before .before .before .before .before .if4 .left) (c .before .before .before .if5 .left) (c .before .if6 .left))
+    sym (law.counts-last (entry .args .plan .now) (at-if1 .left) (at-if2 .left) (at-if3 .left) (c .before .before .before .before .before .if4 .left)
+    (c .before .before .before .if5 .left) (c .before .if6 .left))
 
 pub counts-good-spec : {M : Type 1} → statement M
 counts-good-spec =

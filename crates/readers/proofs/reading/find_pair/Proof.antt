@@ -21,7 +21,8 @@ view-good-requires c κs = search needs
 
 -- src/reading.rt:108:9
 returns : tie.Need-returns
-returns c = sym (law.pair-view _ _ _ (c .before .before .before .args .nexts) _ _ _ (sym (c .before .view-good .ensures) ∙ not-true _ (c .if1 .taken)))
+returns c = sym (law.pair-view _ _ _ (c .before .before .before .args .nexts) _ _ _
+    (sym (c .before .view-good .ensures) ∙ not-true _ (c .if1 .taken)))
 
 -- src/reading.rt:110:11
 block-start-requires : tie.Need-block-start-requires
@@ -83,8 +84,11 @@ returns-2 c =
     let at-if1 = c .before .before .before .before .before .before .before .if1 in
     let at-block-start = c .before .before .before .before .before .before .block-start in
     let at-b = c .before .before .before .before .b in
-    let side = ap (λ t. cond t (pairAt (entry .args .states) (nextsAt (entry .args .words .now) (at-b .given .0 .0)) (entry .args .i)) (pairAt (getD (entry .args .words .now) 2 0) (outsAt (entry .args .words .now) (at-b .given .0 .0)) (entry .args .i))) (c .before .before .if2 .taken) in
-    c .pair-at .ensures ∙ sym (law.pair-in _ _ _ (sym (at-view-good .ensures) ∙ not-false _ (at-if1 .left)) _ _ _ (sym (at-block-start .ensures) ∙ ap begins (at-b .given .1)) (entry .args .nexts) _ ∙ side)
+    let side = ap (λ t. cond t (pairAt (entry .args .states) (nextsAt (entry .args .words .now) (at-b .given .0 .0)) (entry .args .i))
+    (pairAt (getD (entry .args .words .now) 2 0) (outsAt (entry .args .words .now) (at-b .given .0 .0)) (entry .args .i)))
+    (c .before .before .if2 .taken) in
+    c .pair-at .ensures ∙ sym (law.pair-in _ _ _ (sym (at-view-good .ensures) ∙ not-false _ (at-if1 .left)) _ _ _
+    (sym (at-block-start .ensures) ∙ ap begins (at-b .given .1)) (entry .args .nexts) _ ∙ side)
 
 -- src/reading.rt:117:31
 shared-slice-read-pair-at : tie.Need-shared-slice-read-pair-at
@@ -92,7 +96,12 @@ shared-slice-read-pair-at c =
     let entry = c .before .before .before .before .before .before .before .before .before in
     let at-view-good = c .before .before .before .before .before .before .before .view-good in
     let at-if1 = c .before .before .before .before .before .before .if1 in
-    omega (arith, law.counts-of (entry .args .words .now) (law.view-is (entry .args .words .now) (entry .args .states) (entry .args .symbols) (sym (at-view-good .ensures) ∙ not-false _ (at-if1 .left))) .0)
+    omega (
+      arith,
+      law.counts-of (entry .args .words .now)
+          (law.view-is (entry .args .words .now) (entry .args .states) (entry .args .symbols)
+          (sym (at-view-good .ensures) ∙ not-false _ (at-if1 .left))) .0,
+    )
 
 -- src/reading.rt:117:13
 pair-at-requires-2 : tie.Need-pair-at-requires-2
@@ -104,7 +113,8 @@ pair-at-requires-2 c κs =
 returns-3 : tie.Need-returns-3
 returns-3 c =
     let entry = c .before .before .before .before .before .before in
-    sym (law.pair-start _ _ _ (sym (c .before .before .before .before .view-good .ensures) ∙ not-false _ (c .before .before .before .if1 .left)) _ _ (entry .args .nexts) _ (sym (c .before .before .block-start .ensures) ∙ ap begins (c .enum-told .given .1)))
+    sym (law.pair-start _ _ _ (sym (c .before .before .before .before .view-good .ensures) ∙ not-false _ (c .before .before .before .if1 .left)) _ _
+    (entry .args .nexts) _ (sym (c .before .before .block-start .ensures) ∙ ap begins (c .enum-told .given .1)))
 
 -- src/reading.rt:95:1
 returns-4 : tie.Need-returns-4
@@ -114,8 +124,11 @@ returns-4 c =
     let at-if1 = c .before .before .before .before .before .before .before .if1 in
     let at-block-start = c .before .before .before .before .before .before .block-start in
     let at-b = c .before .before .before .before .b in
-    let side = ap (λ t. cond t (pairAt (entry .args .states) (nextsAt (entry .args .words .now) (at-b .given .0 .0)) (entry .args .i)) (pairAt (getD (entry .args .words .now) 2 0) (outsAt (entry .args .words .now) (at-b .given .0 .0)) (entry .args .i))) (c .before .before .if2 .left) in
-    c .pair-at2 .ensures ∙ sym (law.pair-in _ _ _ (sym (at-view-good .ensures) ∙ not-false _ (at-if1 .left)) _ _ _ (sym (at-block-start .ensures) ∙ ap begins (at-b .given .1)) (entry .args .nexts) _ ∙ side)
+    let side = ap (λ t. cond t (pairAt (entry .args .states) (nextsAt (entry .args .words .now) (at-b .given .0 .0)) (entry .args .i))
+    (pairAt (getD (entry .args .words .now) 2 0) (outsAt (entry .args .words .now) (at-b .given .0 .0)) (entry .args .i)))
+    (c .before .before .if2 .left) in
+    c .pair-at2 .ensures ∙ sym (law.pair-in _ _ _ (sym (at-view-good .ensures) ∙ not-false _ (at-if1 .left)) _ _ _
+    (sym (at-block-start .ensures) ∙ ap begins (at-b .given .1)) (entry .args .nexts) _ ∙ side)
 
 pub find-pair-spec : {M : Type 1} → statement M
 find-pair-spec =

@@ -28,17 +28,23 @@ returns-2 c =
     let at-view-good = c .before .before .before .before .before .before .before .view-good in
     let at-if1 = c .before .before .before .before .before .before .if1 in
     let at-p = c .before .before .before .p in
-    sym (law.label-bad _ _ _ (sym (at-view-good .ensures) ∙ not-false _ (at-if1 .left)) _ (at-p .given .0 .0 .0) (sym (c .before .before .before .before .before .state-label .ensures) ∙ at-p .given .1) (sym (c .before .is-good .ensures) ∙ not-true _ (c .if2 .taken)))
+    sym (law.label-bad _ _ _ (sym (at-view-good .ensures) ∙ not-false _ (at-if1 .left)) _ (at-p .given .0 .0 .0)
+    (sym (c .before .before .before .before .before .state-label .ensures) ∙ at-p .given .1)
+    (sym (c .before .is-good .ensures) ∙ not-true _ (c .if2 .taken)))
 
 returns-3 : tie.Need-returns-3
-returns-3 c = sym (law.label-none _ _ _ (sym (c .before .before .before .before .before .view-good .ensures) ∙ not-false _ (c .before .before .before .before .if1 .left)) _ (sym (c .before .before .before .state-label .ensures) ∙ c .before .why .given .1))
+returns-3 c = sym (law.label-none _ _ _ (sym (c .before .before .before .before .before .view-good .ensures)
+    ∙ not-false _ (c .before .before .before .before .if1 .left)) _
+    (sym (c .before .before .before .state-label .ensures) ∙ c .before .why .given .1))
 
 returns-4 : tie.Need-returns-4
 returns-4 c =
     let at-view-good = c .before .before .before .before .before .before .before .view-good in
     let at-if1 = c .before .before .before .before .before .before .if1 in
     let at-p = c .before .before .before .p in
-    sym (law.label-good _ _ _ (sym (at-view-good .ensures) ∙ not-false _ (at-if1 .left)) _ (at-p .given .0 .0 .0) (sym (c .before .before .before .before .before .state-label .ensures) ∙ at-p .given .1) (sym (c .before .is-good .ensures) ∙ not-false _ (c .if2 .left)))
+    sym (law.label-good _ _ _ (sym (at-view-good .ensures) ∙ not-false _ (at-if1 .left)) _ (at-p .given .0 .0 .0)
+    (sym (c .before .before .before .before .before .state-label .ensures) ∙ at-p .given .1)
+    (sym (c .before .is-good .ensures) ∙ not-false _ (c .if2 .left)))
 
 pub label-of-spec : {M : Type 1} → statement M
 label-of-spec =

@@ -58,14 +58,19 @@ same-length c = search needs
 -- src/lines.rt:45:1
 returns-2 : tie.Need-returns-2
 returns-2 c =
-    let entry = c .before .before .before .before .before .before .before .before .before .before .before .before .before .before .before .before .before .before .before .before .before .before .before .before .before .before .before in
-    let at-if1 = c .before .before .before .before .before .before .before .before .before .before .before .before .before .before .before .before .before .before .before .before .before .before .before .before .before .if1 in
-    let at-put-field = c .before .before .before .before .before .before .before .before .before .before .before .before .before .before .before .before .before .before .before .before .before .before .put-field in
-    let at-put-field2 = c .before .before .before .before .before .before .before .before .before .before .before .before .before .before .before .before .before .put-field2 in
+    let entry =
+    c .before .before .before .before .before .before .before .before .before .before .before .before .before .before .before .before .before .before .before .before .before .before .before .before .before .before .before in
+    let at-if1 =
+    c .before .before .before .before .before .before .before .before .before .before .before .before .before .before .before .before .before .before .before .before .before .before .before .before .before .if1 in
+    let at-put-field =
+    c .before .before .before .before .before .before .before .before .before .before .before .before .before .before .before .before .before .before .before .before .before .before .put-field in
+    let at-put-field2 =
+    c .before .before .before .before .before .before .before .before .before .before .before .before .before .before .before .before .before .put-field2 in
     let at-put-field3 = c .before .before .before .before .before .before .before .before .before .before .before .before .put-field3 in
     let at-put-field4 = c .before .before .before .before .before .before .before .put-field4 in
     let a = entry .args in
-    first-is (a .nodes) (a .states) (a .matches) (a .clashes) (a .out .now) (at-if1 .left) (at-put-field .ensures) (at-put-field2 .ensures) (at-put-field3 .ensures) (at-put-field4 .ensures) (c .before .before .put-text .ensures)
+    first-is (a .nodes) (a .states) (a .matches) (a .clashes) (a .out .now) (at-if1 .left) (at-put-field .ensures) (at-put-field2 .ensures)
+    (at-put-field3 .ensures) (at-put-field4 .ensures) (c .before .before .put-text .ensures)
 
 pub put-first-spec : {M : Type 1} → statement M
 put-first-spec =

@@ -55,8 +55,10 @@ put-match-requires : tie.Need-put-match-requires
 put-match-requires c κs =
     let entry = c .before .before .before .before .before .before .before .before .before .before .before .before .before in
     let at-if1 = c .before .before .before .before .before .before .before .before .before .before .if1 in
-    let at-put-path = c .before .before .before .before .before .before .before .put-path in
-    (part-few (entry .args .spans .now) (entry .args .node .0) _ _ (at-put-path .ensures .0) _ (c .before .before .before .before .n .given .1), at-if1 .left)
+    let at-put-path = c .before .before .before .before .before .before .before .put-path in (
+      part-few (entry .args .spans .now) (entry .args .node .0) _ _ (at-put-path .ensures .0) _ (c .before .before .before .before .n .given .1),
+      at-if1 .left,
+    )
 
 -- src/lines.rt:23:1
 returns-2 : tie.Need-returns-2
@@ -77,7 +79,8 @@ returns-3 c =
     let at-put-path = c .before .before .before .before .before .before .before .before .before .before .put-path in
     let at-n = c .before .before .before .before .before .before .before .n in
     c .before .before .put-match .ensures
-    ∙ line-of (entry .args .spans .now) (entry .args .node .0) _ _ (at-put-path .ensures .0) (entry .args .shape .0) (entry .args .out .now) _ (at-n .given .1)
+    ∙ line-of (entry .args .spans .now) (entry .args .node .0) _ _ (at-put-path .ensures .0) (entry .args .shape .0) (entry .args .out .now) _
+    (at-n .given .1)
 
 pub put-line-spec : {M : Type 1} → statement M
 put-line-spec =

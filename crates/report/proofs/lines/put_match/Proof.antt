@@ -42,8 +42,10 @@ put-text-requires c κs = search needs
 -- src/lines.rt:44:9
 put-dotted-requires : tie.Need-put-dotted-requires
 put-dotted-requires c κs =
-    let entry = c .before .before .before .before .before .before .before .before .before .before .before .before .before .before .before .before .before .before .before in
-    let at-put-digits = c .before .before .before .before .before .before .before .before .before .before .before .before .before .before .put-digits in
+    let entry =
+    c .before .before .before .before .before .before .before .before .before .before .before .before .before .before .before .before .before .before .before in
+    let at-put-digits =
+    c .before .before .before .before .before .before .before .before .before .before .before .before .before .before .put-digits in
     let at-put-field = c .before .before .before .before .before .before .before .before .put-field in
     let at-put-text = c .before .before .before .put-text in
     let kept = at-put-text .kept .1 .0 ∙ at-put-field .kept .1 .1 .0 ∙ at-put-digits .kept .1 .1 .0 in
@@ -56,13 +58,24 @@ slice-aggregate-put-text-2 c = search needs
 -- src/lines.rt:45:9
 put-text-requires-2 : tie.Need-put-text-requires-2
 put-text-requires-2 c κs =
-    let entry = c .before .before .before .before .before .before .before .before .before .before .before .before .before .before .before .before .before .before .before .before .before .before .before .before in
-    let at-put-digits = c .before .before .before .before .before .before .before .before .before .before .before .before .before .before .before .before .before .before .before .put-digits in
+    let entry =
+    c .before .before .before .before .before .before .before .before .before .before .before .before .before .before .before .before .before .before .before .before .before .before .before .before in
+    let at-put-digits =
+    c .before .before .before .before .before .before .before .before .before .before .before .before .before .before .before .before .before .before .before .put-digits in
     let at-put-field = c .before .before .before .before .before .before .before .before .before .before .before .before .before .put-field in
     let at-put-text = c .before .before .before .before .before .before .before .before .put-text in
     let at-put-dotted = c .before .before .before .before .put-dotted in
     let kept = at-put-dotted .kept .1 .0 ∙ at-put-text .kept .1 .0 ∙ at-put-field .kept .1 .1 .0 ∙ at-put-digits .kept .1 .1 .0 in
-    omega (arith, kept, at-put-dotted .ensures .1 .1, at-put-text .ensures .0, at-put-field .ensures .1 .1, at-put-digits .ensures .1 .1, entry .pre .0, entry .pre .1)
+    omega (
+      arith,
+      kept,
+      at-put-dotted .ensures .1 .1,
+      at-put-text .ensures .0,
+      at-put-field .ensures .1 .1,
+      at-put-digits .ensures .1 .1,
+      entry .pre .0,
+      entry .pre .1,
+    )
 
 -- src/lines.rt:37:1
 same-length : tie.Need-same-length
@@ -71,9 +84,12 @@ same-length c = search needs
 -- src/lines.rt:37:1
 returns : tie.Need-returns
 returns c =
-    let entry = c .before .before .before .before .before .before .before .before .before .before .before .before .before .before .before .before .before .before .before .before .before .before .before .before .before .before .before in
-    let at-put-digits = c .before .before .before .before .before .before .before .before .before .before .before .before .before .before .before .before .before .before .before .before .before .before .put-digits in
-    let at-put-field = c .before .before .before .before .before .before .before .before .before .before .before .before .before .before .before .before .put-field in
+    let entry =
+    c .before .before .before .before .before .before .before .before .before .before .before .before .before .before .before .before .before .before .before .before .before .before .before .before .before .before .before in
+    let at-put-digits =
+    c .before .before .before .before .before .before .before .before .before .before .before .before .before .before .before .before .before .before .before .before .before .before .put-digits in
+    let at-put-field =
+    c .before .before .before .before .before .before .before .before .before .before .before .before .before .before .before .before .put-field in
     let at-put-text = c .before .before .before .before .before .before .before .before .before .before .before .put-text in
     let at-put-dotted = c .before .before .before .before .before .before .before .put-dotted in
     match-is (entry .args .node .0) (entry .args .shape .0) (entry .args .path .now) _ (entry .args .out .now) (entry .pre .1)

@@ -51,12 +51,15 @@ same-length c = search needs
 -- src/lines.rt:32:1
 returns-2 : tie.Need-returns-2
 returns-2 c =
-    let entry = c .before .before .before .before .before .before .before .before .before .before .before .before .before .before .before .before .before .before in
-    let at-if1 = c .before .before .before .before .before .before .before .before .before .before .before .before .before .before .before .before .if1 in
+    let entry =
+    c .before .before .before .before .before .before .before .before .before .before .before .before .before .before .before .before .before .before in
+    let at-if1 =
+    c .before .before .before .before .before .before .before .before .before .before .before .before .before .before .before .before .if1 in
     let at-number = c .before .before .before .before .before .before .before .before .before .before .before .before .before .before .number in
     let at-put-field = c .before .before .before .before .before .before .before .before .before .before .before .before .put-field in
     let at-put-field2 = c .before .before .before .before .before .before .before .put-field2 in
-    refusal-is (entry .args .reason) (entry .args .place) (entry .args .out .now) (at-if1 .left) (at-number .ensures) (at-put-field .ensures) (at-put-field2 .ensures) (c .before .before .put-text .ensures)
+    refusal-is (entry .args .reason) (entry .args .place) (entry .args .out .now) (at-if1 .left) (at-number .ensures) (at-put-field .ensures)
+    (at-put-field2 .ensures) (c .before .before .put-text .ensures)
 
 pub put-refusal-spec : {M : Type 1} → statement M
 put-refusal-spec =

@@ -129,7 +129,8 @@ put-digits-returns-3 : (t : ℕ) → put-digits-lts.Need-returns-3 (
 ) (put-digits-at t) put-digits.Post
 put-digits-returns-3 t c =
     let entry = c .before .before .before .before .before .before .before in
-    digits-more (entry .args .n) (entry .args .left) (entry .args .out .now) (entry .args .at) _ _ (c .before .before .before .before .before .if1 .left) (c .before .before .before .before .if2 .left) (c .before .before .put-digits .ensures)
+    digits-more (entry .args .n) (entry .args .left) (entry .args .out .now) (entry .args .at) _ _
+    (c .before .before .before .before .before .if1 .left) (c .before .before .before .before .if2 .left) (c .before .before .put-digits .ensures)
 
 pub +put-digits-spec : {M : Type 1} → statement M
 +put-digits-spec = close μ-put-digits λ t. put-digits-lts.spec (

@@ -88,7 +88,8 @@ returns-5 : tie.Need-returns-5 Inv-loop μ-loop
 returns-5 c =
     let at-loop = c .before .before .before .before .before .before .loop in
     let more : at-loop .k < 4 = omega (arith, c .before .before .before .before .before .loop-test .taken) in
-    sym (at-loop .inv .1 ∙ child-here _ _ _ _ _ more (c .before .before .before .before .if2 .left) (c .before .before .if3 .left) (c .before .if4 .left) (c .if5 .taken))
+    sym (at-loop .inv .1 ∙ child-here _ _ _ _ _ more (c .before .before .before .before .if2 .left) (c .before .before .if3 .left)
+    (c .before .if4 .left) (c .if5 .taken))
 
 -- src/text.rt:38:9
 add-k : tie.Need-add-k Inv-loop μ-loop
@@ -103,7 +104,8 @@ loop-again : tie.Need-loop-again Inv-loop μ-loop
 loop-again c =
     let at-loop = c .before .before .before .before .before .before .loop in
     let more : at-loop .k < 4 = omega (arith, c .before .before .before .before .before .loop-test .taken) in
-    let next = child-next _ _ _ _ _ more (c .before .before .before .before .if2 .left) (c .before .before .if3 .left) (c .before .if4 .left) (c .if5 .left) in
+    let next = child-next _ _ _ _ _ more (c .before .before .before .before .if2 .left) (c .before .before .if3 .left) (c .before .if4 .left)
+    (c .if5 .left) in
     (omega arith, at-loop .inv .1 ∙ next)
 
 -- src/text.rt:13:1

@@ -59,7 +59,14 @@ slice-write-out : tie.Need-slice-write-out Inv-loop μ-loop
 slice-write-out c =
     let entry = c .before .before .before .before .before .before .before .before .before .before in
     let at-put-digits = c .before .before .before .before .put-digits in
-    omega (arith, c .before .loop .inv .room, c .before .loop .inv .long, digits-few 20 (getD (entry .args .path .now) 0 0), at-put-digits .ensures .0, at-put-digits .kept .1 .1 .0)
+    omega (
+      arith,
+      c .before .loop .inv .room,
+      c .before .loop .inv .long,
+      digits-few 20 (getD (entry .args .path .now) 0 0),
+      at-put-digits .ensures .0,
+      at-put-digits .kept .1 .1 .0,
+    )
 
 -- src/text.rt:102:27
 mul-put-digits : tie.Need-mul-put-digits Inv-loop μ-loop
@@ -81,7 +88,14 @@ add-put-digits c =
     let entry = c .before .before .before .before .before .before .before .before .before .before .before .before in
     let at-put-digits = c .before .before .before .before .before .before .put-digits in
     let at-loop = c .before .before .before .loop in
-    omega (arith, at-loop .inv .room, at-loop .inv .long, digits-few 20 (getD (entry .args .path .now) 0 0), at-put-digits .ensures .0, at-put-digits .kept .1 .1 .0)
+    omega (
+      arith,
+      at-loop .inv .room,
+      at-loop .inv .long,
+      digits-few 20 (getD (entry .args .path .now) 0 0),
+      at-put-digits .ensures .0,
+      at-put-digits .kept .1 .1 .0,
+    )
 
 -- src/text.rt:102:9
 put-digits-requires-2 : tie.Need-put-digits-requires-2 Inv-loop μ-loop
@@ -89,7 +103,15 @@ put-digits-requires-2 c κs =
     let entry = c .before .before .before .before .before .before .before .before .before .before .before .before in
     let at-put-digits = c .before .before .before .before .before .before .put-digits in
     let at-loop = c .before .before .before .loop in
-    omega (arith, at-loop .inv .room, at-loop .inv .long, digits-few 20 (getD (entry .args .path .now) 0 0), at-put-digits .ensures .0, at-put-digits .kept .1 .1 .0, length-set {A = ℕ} (at-loop .out) (at-loop .here) 46)
+    omega (
+      arith,
+      at-loop .inv .room,
+      at-loop .inv .long,
+      digits-few 20 (getD (entry .args .path .now) 0 0),
+      at-put-digits .ensures .0,
+      at-put-digits .kept .1 .1 .0,
+      length-set {A = ℕ} (at-loop .out) (at-loop .here) 46,
+    )
 
 -- src/text.rt:103:9
 add-i : tie.Need-add-i Inv-loop μ-loop
@@ -104,7 +126,8 @@ loop-again : tie.Need-loop-again Inv-loop μ-loop
 loop-again c =
     let at-loop = c .before .before .before .before .before .before .loop in
     let at-put-digits2 = c .before .before .put-digits2 in
-    dots-next _ _ (at-loop .inv) (c .before .before .before .before .before .loop-test .taken) (at-put-digits2 .ensures .0) (at-put-digits2 .ensures .1 .0)
+    dots-next _ _ (at-loop .inv) (c .before .before .before .before .before .loop-test .taken) (at-put-digits2 .ensures .0)
+    (at-put-digits2 .ensures .1 .0)
 
 -- src/text.rt:90:1
 same-length-2 : tie.Need-same-length-2 Inv-loop μ-loop

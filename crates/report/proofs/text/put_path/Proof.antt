@@ -80,7 +80,8 @@ loop-again : tie.Need-loop-again Inv-loop μ-loop
 loop-again c =
     let at-loop = c .before .before .before .before .before .before .loop in
     let child-is = sym (c .before .before .before .find-child .ensures) ∙ ap stepOf (c .before .i .given .1) in
-    let rest = place-next _ _ _ _ _ _ (c .before .before .before .before .before .loop-test .taken) (c .before .before .before .before .if2 .left) child-is in
+    let rest = place-next _ _ _ _ _ _ (c .before .before .before .before .before .loop-test .taken) (c .before .before .before .before .if2 .left)
+    child-is in
     (omega arith, simp length-set (at-loop .inv .1), written-next (at-loop .inv .2) _ _ (omega arith) rest)
 
 -- src/text.rt:70:9

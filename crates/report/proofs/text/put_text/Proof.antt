@@ -45,8 +45,12 @@ loop-less c = search needs
 loop-again : tie.Need-loop-again Inv-loop μ-loop
 loop-again c =
     let entry = c .before .before .before in
-    let at-loop = c .before .before .loop in
-    (omega arith, simp length-set (at-loop .inv .1), at-loop .inv .2 ∙ text-next _ (entry .args .text .now) (entry .args .at) (at-loop .i) (c .before .loop-test .taken))
+    let at-loop = c .before .before .loop in (
+      omega arith,
+      simp length-set (at-loop .inv .1),
+      at-loop .inv .2
+          ∙ text-next _ (entry .args .text .now) (entry .args .at) (at-loop .i) (c .before .loop-test .taken),
+    )
 
 -- src/text.rt:86:5
 add-result : tie.Need-add-result Inv-loop μ-loop

@@ -18,11 +18,23 @@ returns-3 c = simp (eq-eqb _ _ (c .before .before .if1 .left), le-leb _ _ (c .be
 
 returns-4 : tie.Need-returns-4
 unfolding distancesOf
-returns-4 c = simp (eq-eqb _ _ (c .before .before .before .if1 .left), le-leb _ _ (c .before .before .if2 .left), le-leb _ _ (c .before .if3 .left), ne-eqb _ _ (c .if4 .taken))
+returns-4 c = simp (
+  eq-eqb _ _ (c .before .before .before .if1 .left),
+  le-leb _ _ (c .before .before .if2 .left),
+  le-leb _ _ (c .before .if3 .left),
+  ne-eqb _ _ (c .if4 .taken),
+)
 
 returns-5 : tie.Need-returns-5
 unfolding distancesOf
-returns-5 c = simp (eq-eqb _ _ (c .before .before .before .before .if1 .left), le-leb _ _ (c .before .before .before .if2 .left), le-leb _ _ (c .before .before .if3 .left), eq-eqb _ _ (c .before .if4 .left), ne-eqb _ _ (c .if5 .taken))
+returns-5 c = simp (
+  eq-eqb _ _ (c .before .before .before .before .if1 .left),
+  le-leb _ _ (c .before .before .before .if2 .left),
+  le-leb _ _
+      (c .before .before .if3 .left),
+  eq-eqb _ _ (c .before .if4 .left),
+  ne-eqb _ _ (c .if5 .taken),
+)
 
 sub-t9 : tie.Need-sub-t9
 sub-t9 c = search needs
@@ -32,7 +44,14 @@ sub-t12 c = search needs
 
 returns-6 : tie.Need-returns-6
 unfolding distancesOf
-returns-6 c = simp (eq-eqb _ _ (c .before .before .before .before .if1 .left), le-leb _ _ (c .before .before .before .if2 .left), le-leb _ _ (c .before .before .if3 .left), eq-eqb _ _ (c .before .if4 .left), eq-eqb _ _ (c .if5 .left))
+returns-6 c = simp (
+  eq-eqb _ _ (c .before .before .before .before .if1 .left),
+  le-leb _ _ (c .before .before .before .if2 .left),
+  le-leb _ _
+      (c .before .before .if3 .left),
+  eq-eqb _ _ (c .before .if4 .left),
+  eq-eqb _ _ (c .if5 .left),
+)
 
 pub distances-spec : {M : Type 1} → statement M
 distances-spec =

@@ -10,7 +10,8 @@ use Rattle.sections.proofs.finding.fill.Statement.{statement}
 use Rattle.sections.proofs.finding.fill.Tie as tie
 
 abbrev Inv-loop : tie.InvT-loop
-Inv-loop bytes words₀ i₀ k₀ words i k = (i ≤ length bytes) × (i ≡ 2 * k) × (length words ≡ length words₀) × (sets words₀ 0 (wordsOf bytes) ≡ sets words k (wordsOf (drop i bytes)))
+Inv-loop bytes words₀ i₀ k₀ words i k = (i ≤ length bytes) × (i ≡ 2 * k) × (length words ≡ length words₀)
+    × (sets words₀ 0 (wordsOf bytes) ≡ sets words k (wordsOf (drop i bytes)))
 
 abbrev μ-loop : tie.MeasureT-loop
 μ-loop bytes words₀ i₀ k₀ words i k = length bytes - i

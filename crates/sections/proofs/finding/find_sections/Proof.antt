@@ -25,7 +25,8 @@ part-test-symbols-start : tie.Need-part-test-symbols-start
 part-test-symbols-start c = search needs
 
 part-test-symbols-end : tie.Need-part-test-symbols-end
-part-test-symbols-end c = let d = trailer-in (c .before .before .before .before .before .args .file .now) _ (sym (c .before .before .before .trailer .ensures) ∙ c .before .p .given .1) in omega (arith, d .first, d .second, d .size)
+part-test-symbols-end c = let d = trailer-in (c .before .before .before .before .before .args .file .now) _
+    (sym (c .before .before .before .trailer .ensures) ∙ c .before .p .given .1) in omega (arith, d .first, d .second, d .size)
 
 test-symbols-requires : tie.Need-test-symbols-requires
 test-symbols-requires c κs = search needs
@@ -44,14 +45,18 @@ returns-2 c =
     let entry = c .before .before .before .before .before .before .before .before .before in
     let at-trailer = c .before .before .before .before .before .before .before .trailer in
     let at-p = c .before .before .before .before .before .p in
-    sym (sections-good _ _ (sym (at-trailer .ensures) ∙ at-p .given .1) (ap (λ (n : ℕ). symbolsOf (take n (entry .args .file .now))) (sym (sub-zero (at-p .given .0 .0 .shapes))) ∙ sym (c .before .before .test-symbols .ensures) ∙ c .enum-told .given .1))
+    sym (sections-good _ _ (sym (at-trailer .ensures) ∙ at-p .given .1)
+    (ap (λ (n : ℕ). symbolsOf (take n (entry .args .file .now))) (sym (sub-zero (at-p .given .0 .0 .shapes)))
+    ∙ sym (c .before .before .test-symbols .ensures) ∙ c .enum-told .given .1))
 
 returns-3 : tie.Need-returns-3
 returns-3 c =
     let entry = c .before .before .before .before .before .before .before .before .before .before in
     let at-trailer = c .before .before .before .before .before .before .before .before .trailer in
     let at-p = c .before .before .before .before .before .before .p in
-    sym (sections-symbols _ _ (sym (at-trailer .ensures) ∙ at-p .given .1) (ap (λ (n : ℕ). symbolsOf (take n (entry .args .file .now))) (sym (sub-zero (at-p .given .0 .0 .shapes))) ∙ sym (c .before .before .before .test-symbols .ensures) ∙ c .before .reason2 .given .1))
+    sym (sections-symbols _ _ (sym (at-trailer .ensures) ∙ at-p .given .1)
+    (ap (λ (n : ℕ). symbolsOf (take n (entry .args .file .now))) (sym (sub-zero (at-p .given .0 .0 .shapes)))
+    ∙ sym (c .before .before .before .test-symbols .ensures) ∙ c .before .reason2 .given .1))
 
 pub find-sections-spec : {M : Type 1} → statement M
 find-sections-spec =

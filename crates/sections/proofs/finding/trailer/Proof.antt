@@ -20,7 +20,8 @@ sub-t13 : tie.Need-sub-t13
 sub-t13 c = search needs
 
 returns-3 : tie.Need-returns-3
-returns-3 c = sym (trailer-first (c .before .before .before .before .before .args .file .now) (c .before .before .before .if1 .left) (c .before .before .if2 .left) (c .if3 .taken))
+returns-3 c = sym (trailer-first (c .before .before .before .before .before .args .file .now) (c .before .before .before .if1 .left)
+    (c .before .before .if2 .left) (c .if3 .taken))
 
 sub-if4 : tie.Need-sub-if4
 sub-if4 c = search needs
@@ -34,7 +35,8 @@ sub-t16 c = search needs
 returns-4 : tie.Need-returns-4
 returns-4 c =
     let entry = c .before .before .before .before .before .before .before in
-    sym (trailer-second (entry .args .file .now) (c .before .before .before .before .before .if1 .left) (c .before .before .before .before .if2 .left) (c .before .before .if3 .left) (c .if4 .taken))
+    sym (trailer-second (entry .args .file .now) (c .before .before .before .before .before .if1 .left) (c .before .before .before .before .if2 .left)
+    (c .before .before .if3 .left) (c .if4 .taken))
 
 word-requires : tie.Need-word-requires
 word-requires c κs = search needs
@@ -60,7 +62,9 @@ returns-5 c =
     let at-if1 = c .before .before .before .before .before .before .before .before .before .if1 in
     let at-if2 = c .before .before .before .before .before .before .before .before .if2 in
     let at-if3 = c .before .before .before .before .before .before .if3 in
-    c .distances .ensures ∙ sym (trailer-to (entry .args .file .now) (at-if1 .left) (at-if2 .left) (at-if3 .left) (c .before .before .before .before .if4 .left) (c .before .before .before .word .ensures) (c .before .before .word2 .ensures) (c .before .word3 .ensures))
+    c .distances .ensures ∙ sym (trailer-to (entry .args .file .now) (at-if1 .left) (at-if2 .left) (at-if3 .left)
+    (c .before .before .before .before .if4 .left) (c .before .before .before .word .ensures) (c .before .before .word2 .ensures)
+    (c .before .word3 .ensures))
 
 pub trailer-spec : {M : Type 1} → statement M
 trailer-spec =

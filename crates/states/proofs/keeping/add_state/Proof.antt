@@ -13,7 +13,8 @@ use Rattle.states.proofs.keeping.add_state.Lts as lts
 
 abbrev Inv-loop : tie.InvT-loop
 Inv-loop scratch₀ m ws n i₀ scratch i =
-    (i ≤ 3 * n) × (length scratch ≡ length scratch₀) × (sets scratch₀ (128 + 96 * m) (take (3 * n) ws) ≡ sets scratch (128 + 96 * m + i) (take (3 * n - i) (drop i ws)))
+    (i ≤ 3 * n) × (length scratch ≡ length scratch₀)
+    × (sets scratch₀ (128 + 96 * m) (take (3 * n) ws) ≡ sets scratch (128 + 96 * m + i) (take (3 * n - i) (drop i ws)))
 
 abbrev μ-loop : tie.MeasureT-loop
 μ-loop scratch₀ m ws n i₀ scratch i = 3 * n - i

@@ -54,7 +54,9 @@ returns : tie.Need-returns Inv-loop μ-loop
 returns c =
     let entry = c .before .before .before .before .before .before .before in
     let at-loop = c .before .before .before .before .loop in
-    sym (place-all (goalsFrom (entry .args .ws .now) 0 (entry .args .n)) (entry .args .scratch .now) (entry .args .m) ∙ at-loop .inv .1 ∙ place-here (goalsFrom (entry .args .ws .now) 0 (entry .args .n)) (entry .args .scratch .now) (entry .args .m) (at-loop .i) (c .before .before .before .loop-test .taken) (sym (c .before .same-state .ensures) ∙ c .if1 .taken))
+    sym (place-all (goalsFrom (entry .args .ws .now) 0 (entry .args .n)) (entry .args .scratch .now) (entry .args .m) ∙ at-loop .inv .1
+    ∙ place-here (goalsFrom (entry .args .ws .now) 0 (entry .args .n)) (entry .args .scratch .now) (entry .args .m) (at-loop .i)
+    (c .before .before .before .loop-test .taken) (sym (c .before .same-state .ensures) ∙ c .if1 .taken))
 
 add-i : tie.Need-add-i Inv-loop μ-loop
 add-i c =
@@ -77,7 +79,9 @@ loop-again c =
 returns-2 : tie.Need-returns-2 Inv-loop μ-loop
 returns-2 c =
     let entry = c .before .before .before .before in
-    sym (place-all (goalsFrom (entry .args .ws .now) 0 (entry .args .n)) (entry .args .scratch .now) (entry .args .m) ∙ c .before .loop .inv .1 ∙ place-end (goalsFrom (entry .args .ws .now) 0 (entry .args .n)) (entry .args .scratch .now) (entry .args .m) (c .before .loop .i) (c .loop-test .left))
+    sym (place-all (goalsFrom (entry .args .ws .now) 0 (entry .args .n)) (entry .args .scratch .now) (entry .args .m) ∙ c .before .loop .inv .1
+    ∙ place-end (goalsFrom (entry .args .ws .now) 0 (entry .args .n)) (entry .args .scratch .now) (entry .args .m) (c .before .loop .i)
+    (c .loop-test .left))
 
 pub find-state-spec : {M : Type 1} → statement M
 find-state-spec =

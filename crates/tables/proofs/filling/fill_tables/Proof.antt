@@ -13,7 +13,8 @@ use Rattle.tables.proofs.filling.fill_tables.Tie as tie
 
 abbrev Inv-loop : tie.InvT-loop
 Inv-loop symbols words starts tab₀ k₀ tab k =
-    (k ≤ 1280) × (length tab ≡ length tab₀) × (sets tab₀ 0 (entriesFrom symbols words starts 0 1280) ≡ sets tab k (entriesFrom symbols words starts k (1280 - k)))
+    (k ≤ 1280) × (length tab ≡ length tab₀)
+    × (sets tab₀ 0 (entriesFrom symbols words starts 0 1280) ≡ sets tab k (entriesFrom symbols words starts k (1280 - k)))
 
 abbrev μ-loop : tie.MeasureT-loop
 μ-loop symbols words starts tab₀ k₀ tab k = 1280 - k
@@ -57,7 +58,8 @@ returns c =
     let entry = c .before .before .before .before .before .before in
     let a = entry .args in
     let l = c .before .loop in
-    sym (l .inv .2 ∙ ap (sets (l .tab) (l .k)) (entries-end (a .symbols .now) (a .words .now) (a .starts .now) (l .k) (1280 - l .k) (omega (arith, c .loop-test .left))))
+    sym (l .inv .2 ∙ ap (sets (l .tab) (l .k))
+    (entries-end (a .symbols .now) (a .words .now) (a .starts .now) (l .k) (1280 - l .k) (omega (arith, c .loop-test .left))))
 
 pub fill-tables-spec : {M : Type 1} → statement M
 fill-tables-spec =

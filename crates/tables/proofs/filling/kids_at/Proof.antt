@@ -47,7 +47,8 @@ returns : tie.Need-returns Inv-loop μ-loop
 returns c =
     let entry = c .before .before .before .before .before .before in
     let at-loop = c .before .before .loop in (
-      sym (at-loop .inv .3 ∙ kids-there (entry .args .symbols .now) (entry .args .words .now) (entry .args .st) _ (at-loop .left) (at-loop .c) (at-loop .mask) (c .if1 .taken)),
+      sym (at-loop .inv .3 ∙ kids-there (entry .args .symbols .now) (entry .args .words .now) (entry .args .st) _ (at-loop .left) (at-loop .c)
+          (at-loop .mask) (c .if1 .taken)),
       at-loop .inv .2,
     )
 
@@ -92,14 +93,31 @@ loop-again c =
     let k : l .c < 32 = omega (arith, i .4, c .before .before .before .if1 .left) in
     let e = shl-exact 1 (l .c) 64 (lit< tt) (omega arith) ∙ one-mul _ in
     ⊎-elim
-    (λ w. (omega arith, omega (arith, s .1), omega (arith, w .1), rw (w .1, s .0, e) (i .3 ∙ kids-on (a .symbols .now) (a .words .now) (a .st) _ (l .left) (l .c) (l .mask) (at-loop-test .taken) (omega arith) (rw v at (w .0 .taken))), i .4))
-    (λ w. (omega arith, omega (arith, s .1), omega (arith, w .1, i .2), rw (w .1, s .0) (i .3 ∙ kids-off (a .symbols .now) (a .words .now) (a .st) _ (l .left) (l .c) (l .mask) (at-loop-test .taken) (omega arith) (rw v at (w .0 .left))), i .4))
+    (λ w. (
+      omega arith,
+      omega (arith, s .1),
+      omega (arith, w .1),
+      rw (w .1, s .0, e)
+          (i .3 ∙ kids-on (a .symbols .now) (a .words .now) (a .st) _ (l .left) (l .c) (l .mask) (at-loop-test .taken) (omega arith)
+          (rw v at (w .0 .taken))),
+      i .4,
+    ))
+    (λ w. (
+      omega arith,
+      omega (arith, s .1),
+      omega (arith, w .1, i .2),
+      rw (w .1, s .0)
+          (i .3 ∙ kids-off (a .symbols .now) (a .words .now) (a .st) _ (l .left) (l .c) (l .mask) (at-loop-test .taken) (omega arith)
+          (rw v at (w .0 .left))),
+      i .4,
+    ))
     (c .before .if2 .came)
 
 returns-2 : tie.Need-returns-2 Inv-loop μ-loop
 returns-2 c =
     let entry = c .before .before .before .before .before in (
-      sym (c .before .loop .inv .3 ∙ kids-end (entry .args .symbols .now) (entry .args .words .now) (entry .args .st) _ (c .before .loop .left) (c .before .loop .c) (c .before .loop .mask) (c .loop-test .left)),
+      sym (c .before .loop .inv .3 ∙ kids-end (entry .args .symbols .now) (entry .args .words .now) (entry .args .st) _ (c .before .loop .left)
+          (c .before .loop .c) (c .before .loop .mask) (c .loop-test .left)),
       c .before .loop .inv .2,
     )
 

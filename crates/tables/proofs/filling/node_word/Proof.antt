@@ -66,7 +66,8 @@ returns-5 : tie.Need-returns-5
 returns-5 c =
     let entry = c .before .before .before .before .before .before .before in
     c .kids-at .ensures .0
-    ∙ sym (word-4 (entry .args .symbols .now) (entry .args .words .now) (entry .args .st) (entry .args .x) (entry .args .r) (c .before .before .before .before .if1 .left) (c .before .before .before .if2 .left) (c .before .before .if3 .left) (c .before .if4 .left))
+    ∙ sym (word-4 (entry .args .symbols .now) (entry .args .words .now) (entry .args .st) (entry .args .x) (entry .args .r)
+    (c .before .before .before .before .if1 .left) (c .before .before .before .if2 .left) (c .before .before .if3 .left) (c .before .if4 .left))
 
 pub node-word-spec : {M : Type 1} → statement M
 node-word-spec =

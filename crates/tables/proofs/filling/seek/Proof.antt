@@ -23,7 +23,8 @@ returns : tie.Need-returns Inv-loop μ-loop
 returns c =
     let entry = c .before .before .before .before .before in
     let at-loop = c .before .before .loop in (
-      sym (at-loop .inv .3 ∙ seek-there (entry .args .symbols .now) (entry .args .words .now) (entry .args .st) (entry .args .r) (entry .args .one) (at-loop .left) (at-loop .c) (at-loop .here) (c .if1 .taken)),
+      sym (at-loop .inv .3 ∙ seek-there (entry .args .symbols .now) (entry .args .words .now) (entry .args .st) (entry .args .r) (entry .args .one)
+          (at-loop .left) (at-loop .c) (at-loop .here) (c .if1 .taken)),
       at-loop .inv .2,
     )
 
@@ -63,14 +64,29 @@ loop-again c =
     let at-loop-test = c .before .before .before .loop-test in
     let a = entry .args in let l = c .before .before .before .before .loop in let s = c .before .span-at .ensures in let i = l .inv in
     ⊎-elim
-    (λ w. (omega arith, omega (arith, w .1), omega (arith, w .2), rw (w .1, w .2) (i .3 ∙ seek-down (a .symbols .now) (a .words .now) (a .st) (a .r) (a .one) (l .left) (l .c) (l .here) (at-loop-test .taken) (omega arith) (omega (arith, s .0, w .0 .taken)))))
-    (λ w. (omega arith, omega (arith, w .1, s .1), omega (arith, w .2), rw (w .1, w .2, s .0) (i .3 ∙ seek-on (a .symbols .now) (a .words .now) (a .st) (a .r) (a .one) (l .left) (l .c) (l .here) (at-loop-test .taken) (omega arith) (omega (arith, s .0, w .0 .left)))))
+    (λ w. (
+      omega arith,
+      omega (arith, w .1),
+      omega (arith, w .2),
+      rw (w .1, w .2)
+          (i .3 ∙ seek-down (a .symbols .now) (a .words .now) (a .st) (a .r) (a .one) (l .left) (l .c) (l .here) (at-loop-test .taken) (omega arith)
+          (omega (arith, s .0, w .0 .taken))),
+    ))
+    (λ w. (
+      omega arith,
+      omega (arith, w .1, s .1),
+      omega (arith, w .2),
+      rw (w .1, w .2, s .0)
+          (i .3 ∙ seek-on (a .symbols .now) (a .words .now) (a .st) (a .r) (a .one) (l .left) (l .c) (l .here) (at-loop-test .taken) (omega arith)
+          (omega (arith, s .0, w .0 .left))),
+    ))
     (c .if2 .came)
 
 returns-2 : tie.Need-returns-2 Inv-loop μ-loop
 returns-2 c =
     let entry = c .before .before .before .before in (
-      sym (c .before .loop .inv .3 ∙ seek-end (entry .args .symbols .now) (entry .args .words .now) (entry .args .st) (entry .args .r) (entry .args .one) (c .before .loop .left) (c .before .loop .c) (c .before .loop .here) (c .loop-test .left)),
+      sym (c .before .loop .inv .3 ∙ seek-end (entry .args .symbols .now) (entry .args .words .now) (entry .args .st) (entry .args .r)
+          (entry .args .one) (c .before .loop .left) (c .before .loop .c) (c .before .loop .here) (c .loop-test .left)),
       c .before .loop .inv .2,
     )
 

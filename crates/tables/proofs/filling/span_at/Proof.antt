@@ -10,7 +10,8 @@ use Rattle.tables.proofs.filling.span_at.Tie as tie
 
 abbrev Inv-loop : tie.InvT-loop
 Inv-loop symbols words at need₀ here₀ left₀ need here left =
-    (here + left ≡ at + 16) × (at ≤ here) × (need + 255 * left ≤ 255 * 16 + 1) × (at + spanFrom symbols words 16 at 1 ≡ here + spanFrom symbols words left here need)
+    (here + left ≡ at + 16) × (at ≤ here) × (need + 255 * left ≤ 255 * 16 + 1)
+    × (at + spanFrom symbols words 16 at 1 ≡ here + spanFrom symbols words left here need)
 
 abbrev μ-loop : tie.MeasureT-loop
 μ-loop symbols words at need₀ here₀ left₀ need here left = left
@@ -55,7 +56,8 @@ loop-again c =
     let entry = c .before .before .before .before .before .before .before in
     let a = entry .args in
     let l = c .before .before .before .before .loop in
-    let e = span-next (a .symbols .now) (a .words .now) (l .left) (l .here) (l .need) (c .before .before .before .loop-test .taken) (c .before .before .if1 .left) in
+    let e = span-next (a .symbols .now) (a .words .now) (l .left) (l .here) (l .need) (c .before .before .before .loop-test .taken)
+    (c .before .before .if1 .left) in
     let i = l .inv in
     let d =
     ap (λ z. spanFrom (a .symbols .now) (a .words .now) (l .left - 1) (l .here + 1) (l .need - 1 + z))

@@ -29,12 +29,14 @@ returns : tie.Need-returns
 returns c =
     let entry = c .before .before .before .before .before .before .before .before in
     c .node-word .ensures
-    ∙ sym (entry-in (entry .args .symbols .now) (entry .args .words .now) (entry .args .starts .now) (entry .args .k) (c .before .before .before .before .if1 .taken) (omega (arith, c .before .if2 .taken, c .before .before .span-at .ensures .0)))
+    ∙ sym (entry-in (entry .args .symbols .now) (entry .args .words .now) (entry .args .starts .now) (entry .args .k)
+    (c .before .before .before .before .if1 .taken) (omega (arith, c .before .if2 .taken, c .before .before .span-at .ensures .0)))
 
 returns-2 : tie.Need-returns-2
 returns-2 c =
     let entry = c .before .before .before .before .before .before .before in
-    sym (entry-past (entry .args .symbols .now) (entry .args .words .now) (entry .args .starts .now) (entry .args .k) (c .before .before .before .if1 .taken) (omega (arith, c .if2 .left, c .before .span-at .ensures .0)))
+    sym (entry-past (entry .args .symbols .now) (entry .args .words .now) (entry .args .starts .now) (entry .args .k)
+    (c .before .before .before .if1 .taken) (omega (arith, c .if2 .left, c .before .span-at .ensures .0)))
 
 returns-3 : tie.Need-returns-3
 returns-3 c =

@@ -25,7 +25,8 @@ read-term-below t =
     and 2 read-term-kinds.ps (falls 2 read-term-kinds.ps _<_ μ-read-term t) read-term.Pre
 
 abbrev read-term-Inv-loop : read-term-lts.InvT-loop
-read-term-Inv-loop symbols words limits at left n here₀ k₀ here k = (k ≤ n) × (reading symbols words limits left at ≡ kidsOf (reading symbols words limits (left - 1)) (n - k) (met here))
+read-term-Inv-loop symbols words limits at left n here₀ k₀ here k =
+    (k ≤ n) × (reading symbols words limits left at ≡ kidsOf (reading symbols words limits (left - 1)) (n - k) (met here))
 
 abbrev read-term-μ-loop : read-term-lts.MeasureT-loop
 read-term-μ-loop symbols words limits at left n here₀ k₀ here k = n - k
@@ -68,7 +69,8 @@ read-term-returns-2 : (t : ℕ) → read-term-lts.Need-returns-2 (
   read-term-below t,
   read-term.Post,
 ) (read-term-at t) read-term.Post read-term-Inv-loop read-term-μ-loop
-read-term-returns-2 t c = sym (reading-deep _ _ _ _ _ (sym (c .before .before .before .before .head .ensures) ∙ c .before .before .n .given .1) (c .if1 .taken))
+read-term-returns-2 t c = sym (reading-deep _ _ _ _ _ (sym (c .before .before .before .before .head .ensures) ∙ c .before .before .n .given .1)
+    (c .if1 .taken))
 
 read-term-add-here : (t : ℕ) → read-term-lts.Need-add-here (
   head-reads.Asked,
@@ -84,7 +86,11 @@ read-term-loop-holds : (t : ℕ) → read-term-lts.Need-loop-holds (
   read-term-below t,
   read-term.Post,
 ) (read-term-at t) read-term.Post read-term-Inv-loop read-term-μ-loop
-read-term-loop-holds t c = (omega arith, reading-into _ _ _ _ _ (sym (c .before .before .before .before .head .ensures) ∙ c .before .before .n .given .1) (c .if1 .left) ∙ simp sub-zero)
+read-term-loop-holds t c = (
+  omega arith,
+  reading-into _ _ _ _ _
+      (sym (c .before .before .before .before .head .ensures) ∙ c .before .before .n .given .1) (c .if1 .left) ∙ simp sub-zero,
+)
 
 read-term-sub-read-term : (t : ℕ) → read-term-lts.Need-sub-read-term (
   head-reads.Asked,
@@ -126,7 +132,8 @@ read-term-returns-3 : (t : ℕ) → read-term-lts.Need-returns-3 (
 ) (read-term-at t) read-term.Post read-term-Inv-loop read-term-μ-loop
 read-term-returns-3 t c =
     let at-loop = c .before .before .before .before .before .loop in
-    sym (at-loop .inv .1 ∙ kids-stop _ _ _ (met (at-loop .here)) (c .before .before .before .before .loop-test .taken) (sym (c .before .before .before .read-term .ensures) ∙ c .before .f2 .given .1))
+    sym (at-loop .inv .1 ∙ kids-stop _ _ _ (met (at-loop .here)) (c .before .before .before .before .loop-test .taken)
+    (sym (c .before .before .before .read-term .ensures) ∙ c .before .f2 .given .1))
 
 read-term-add-k : (t : ℕ) → read-term-lts.Need-add-k (
   head-reads.Asked,
@@ -151,8 +158,11 @@ read-term-loop-again : (t : ℕ) → read-term-lts.Need-loop-again (
   read-term.Post,
 ) (read-term-at t) read-term.Post read-term-Inv-loop read-term-μ-loop
 read-term-loop-again t c =
-    let at-loop = c .before .before .before .before .before .loop in
-    (omega arith, at-loop .inv .1 ∙ kids-next _ _ _ (met (at-loop .here)) (c .before .before .before .before .loop-test .taken) (sym (c .before .before .before .read-term .ensures) ∙ c .before .m .given .1))
+    let at-loop = c .before .before .before .before .before .loop in (
+      omega arith,
+      at-loop .inv .1 ∙ kids-next _ _ _ (met (at-loop .here)) (c .before .before .before .before .loop-test .taken)
+          (sym (c .before .before .before .read-term .ensures) ∙ c .before .m .given .1),
+    )
 
 read-term-returns-4 : (t : ℕ) → read-term-lts.Need-returns-4 (
   head-reads.Asked,

@@ -25,15 +25,18 @@ enum-known-n c = search needs
 returns-2 : tie.Need-returns-2
 returns-2 c =
     let at-if1 = c .before .before .before .before .before .before .before .if1 in
-    sym (head-many _ _ _ _ (at-if1 .left) (sym (c .before .before .before .before .before .children .ensures) ∙ c .before .before .before .n .given .1) (c .if2 .taken))
+    sym (head-many _ _ _ _ (at-if1 .left)
+    (sym (c .before .before .before .before .before .children .ensures) ∙ c .before .before .before .n .given .1) (c .if2 .taken))
 
 returns-3 : tie.Need-returns-3
-returns-3 c = sym (head-bad _ _ _ _ (c .before .before .before .before .before .if1 .left) (sym (c .before .before .before .children .ensures) ∙ c .before .f .given .1))
+returns-3 c = sym (head-bad _ _ _ _ (c .before .before .before .before .before .if1 .left)
+    (sym (c .before .before .before .children .ensures) ∙ c .before .f .given .1))
 
 returns-4 : tie.Need-returns-4
 returns-4 c =
     let at-if1 = c .before .before .before .before .before .before .before .if1 in
-    sym (head-kids _ _ _ _ (at-if1 .left) (sym (c .before .before .before .before .before .children .ensures) ∙ c .before .before .before .n .given .1) (c .if2 .left))
+    sym (head-kids _ _ _ _ (at-if1 .left)
+    (sym (c .before .before .before .before .before .children .ensures) ∙ c .before .before .before .n .given .1) (c .if2 .left))
 
 pub head-spec : {M : Type 1} → statement M
 head-spec =

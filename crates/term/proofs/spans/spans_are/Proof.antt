@@ -18,7 +18,8 @@ abbrev μ-loop : tie.MeasureT-loop
 returns : tie.Need-returns Inv-loop μ-loop
 returns c =
     let entry = c .before .before .before .before in
-    sym (same-lengths (entry .args .spans .now) (spansOf (entry .args .symbols .now) (entry .args .words .now)) (λ h. c .if1 .taken (h ∙ length-spans (entry .args .symbols .now) (entry .args .words .now))))
+    sym (same-lengths (entry .args .spans .now) (spansOf (entry .args .symbols .now) (entry .args .words .now))
+    (λ h. c .if1 .taken (h ∙ length-spans (entry .args .symbols .now) (entry .args .words .now))))
 
 loop-holds : tie.Need-loop-holds Inv-loop μ-loop
 loop-holds c =
@@ -63,8 +64,10 @@ returns-2 c =
     let at-skip = c .before .before .skip in
     let a = entry .args in
     let q : at-loop .i ≡ at-loop .i - 1 + 1 = omega arith in
-    let en : drop (at-loop .i - 1 + 1) (a .spans .now) ≡ spansOf (a .symbols .now) (drop (at-loop .i - 1 + 1) (a .words .now)) = rw (← q) (at-loop .inv .1) in
-    sym (check-stop (a .symbols .now) (a .words .now) (a .spans .now) (at-loop .i - 1) (at-skip .result) (omega arith) (at-if1 .left) en _ (c .before .before .before .count .ensures) (at-skip .ensures) (c .if2 .taken))
+    let en : drop (at-loop .i - 1 + 1) (a .spans .now) ≡ spansOf (a .symbols .now) (drop (at-loop .i - 1 + 1) (a .words .now)) =
+    rw (← q) (at-loop .inv .1) in
+    sym (check-stop (a .symbols .now) (a .words .now) (a .spans .now) (at-loop .i - 1) (at-skip .result) (omega arith) (at-if1 .left) en _
+    (c .before .before .before .count .ensures) (at-skip .ensures) (c .if2 .taken))
 
 loop-less : tie.Need-loop-less Inv-loop μ-loop
 loop-less c = search needs
@@ -77,8 +80,12 @@ loop-again c =
     let at-skip = c .before .before .skip in
     let a = entry .args in
     let q : at-loop .i ≡ at-loop .i - 1 + 1 = omega arith in
-    let en : drop (at-loop .i - 1 + 1) (a .spans .now) ≡ spansOf (a .symbols .now) (drop (at-loop .i - 1 + 1) (a .words .now)) = rw (← q) (at-loop .inv .1) in
-    (omega arith, check-next (a .symbols .now) (a .words .now) (a .spans .now) (at-loop .i - 1) (at-skip .result) (omega arith) (at-if1 .left) en _ (c .before .before .before .count .ensures) (at-skip .ensures) (c .if2 .left))
+    let en : drop (at-loop .i - 1 + 1) (a .spans .now) ≡ spansOf (a .symbols .now) (drop (at-loop .i - 1 + 1) (a .words .now)) =
+    rw (← q) (at-loop .inv .1) in (
+      omega arith,
+      check-next (a .symbols .now) (a .words .now) (a .spans .now) (at-loop .i - 1) (at-skip .result) (omega arith) (at-if1 .left) en _
+          (c .before .before .before .count .ensures) (at-skip .ensures) (c .if2 .left),
+    )
 
 returns-3 : tie.Need-returns-3 Inv-loop μ-loop
 returns-3 c =

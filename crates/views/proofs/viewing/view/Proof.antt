@@ -44,7 +44,8 @@ use Rattle.views.proofs.viewing.view.Code as code
 abbrev stayed : Stays (view.ended .signature .params) (view.ended .kept)
 stayed = (stay-none-slice (0 ∷ []) tt (plain (λ _. u16)) yes, (stay-none (λ _. u16) yes, (stay-none (λ _. u16) yes, tt)))
 
-module _ {M : Type 1} (𝓤 : URA M) (H : Heap 𝓤) (A : Atoms 𝓤) (W : Given 𝓤 H A) (mem : Memory → SProp 𝓤) (run : Routine → Fun 𝓤) (κ : Lft) (q : Share) (s : RefT (List ℕ)) (m k : ℕ) (okm : m < 2 ^ 16) (okk : k < 2 ^ 16) where
+module _ {M : Type 1} (𝓤 : URA M) (H : Heap 𝓤) (A : Atoms 𝓤) (W : Given 𝓤 H A) (mem : Memory → SProp 𝓤) (run : Routine → Fun 𝓤) (κ : Lft) (q : Share)
+    (s : RefT (List ℕ)) (m k : ℕ) (okm : m < 2 ^ 16) (okk : k < 2 ^ 16) where
   abbrev α : NamedLft
   α = namedLft 1 0 tt (κ, tt)
 
@@ -67,32 +68,48 @@ module _ {M : Type 1} (𝓤 : URA M) (H : Heap 𝓤) (A : Atoms 𝓤) (W : Given
   exits : ent 𝓤 (onEntry 𝓤 H A view.signature (κ, tt) (q, tt) (s, (m, (k, tt))) at) (Post (T′.lowered made))
   exits =
       qed W ((‵ (flft κ q) ⊛ ‵ ftrue) ∷ ‵ (owns (ShrSlice (named 0) κ u16 ∷ u16 ∷ u16 ∷ []) (s, (m, (k, tt))) at) ∷ []) ∵
-      suffices ! _ (ends-at 𝓤 H A view.ended stayed (view.clauses 𝓤 H A mem run) W (((κ, tt), (q, tt), tt, (s, (m, (k, tt))), at), tt) (T′.lowered made) made (tt, (tt, (tt, tt))) (tt, (tt, (tt, tt)))) $ says ! (refl, refl, refl) $
-      frame ! $ fsplit ! $ use1 W (‵ Own ⊛ ‵ Own) (shr-slice-copy 𝓤 H A W (named 0) κ u16 .twice s (v ∷ [])) $ split ! $ move ! (0 ∷ 2 ∷ []) $ fjoin ! $ frame ! $
+      suffices ! _ (ends-at 𝓤 H A view.ended stayed (view.clauses 𝓤 H A mem run) W (((κ, tt), (q, tt), tt, (s, (m, (k, tt))), at), tt)
+      (T′.lowered made) made (tt, (tt, (tt, tt))) (tt, (tt, (tt, tt)))) $ says ! (refl, refl, refl) $
+      frame ! $ fsplit ! $ use1 W (‵ Own ⊛ ‵ Own) (shr-slice-copy 𝓤 H A W (named 0) κ u16 .twice s (v ∷ [])) $ split ! $ move ! (0 ∷ 2 ∷ []) $ fjoin !
+      $ frame ! $
       -- [what the words own]: what the fields own together, of it and of the counts' facts, is what the view owns
-      nothing ! $ owned ! u16 (Is u16) (uint-makes 𝓤 H A W w16) k _ (refl, okk) $ fjoin ! $ owned ! u16 (Is u16) (uint-makes 𝓤 H A W w16) m _ (refl, okm) $ fjoin ! $
+      nothing ! $ owned ! u16 (Is u16) (uint-makes 𝓤 H A W w16) k _ (refl, okk) $ fjoin ! $ owned ! u16 (Is u16) (uint-makes 𝓤 H A W w16) m _
+      (refl, okm) $ fjoin ! $
       move ! (1 ∷ 0 ∷ []) $ fjoin ! $ by ! (own-shut 𝓤 H A W (T.the-type α) (T′.the-laws α) (s, (m, (k, tt))))
 
   module _ (C : Calls 𝓤 H) (Λ : Loops 𝓤 H) where
-    walk : Is (ShrSlice (named 0) κ u16) s (v ∷ []) → ent 𝓤 (onEntry 𝓤 H A view.signature (κ, tt) (q, tt) (s, (m, (k, tt))) at) (WpFn 𝓤 H C Λ code.function (v ∷ vint w16 m ∷ vint w16 k ∷ []) Post)
+    walk : Is (ShrSlice (named 0) κ u16) s (v ∷ [])
+        → ent 𝓤 (onEntry 𝓤 H A view.signature (κ, tt) (q, tt) (s, (m, (k, tt))) at)
+        (WpFn 𝓤 H C Λ code.function (v ∷ vint w16 m ∷ vint w16 k ∷ []) Post)
     walk p =
         let typed = shr-slice-lawful 𝓤 H A W (named 0) κ u16 .typed s (v ∷ []) p .0 in
-        qed W (raw (onEntry 𝓤 H A view.signature (κ, tt) (q, tt) (s, (m, (k, tt))) at) ∷ []) ∵ enter ! C Λ code.function (v ∷ vint w16 m ∷ vint w16 k ∷ []) _ $
+        qed W (raw (onEntry 𝓤 H A view.signature (κ, tt) (q, tt) (s, (m, (k, tt))) at) ∷ []) ∵ enter ! C Λ code.function
+        (v ∷ vint w16 m ∷ vint w16 k ∷ []) _ $
         alloc1 ! (λ l₀. alloc1 ! (λ l₁. alloc1 ! (λ l₂. alloc1 ! (λ l₃. alloc0 ! $ params1 ! $
-        pass1 ! (init ! 4 refl typed) $ pass1 ! (init ! 2 refl (tt, record { fits = okm })) $ pass1 ! (init ! 0 refl (tt, record { fits = okk })) $ pass0 ! $
-        assigns ! (agg ! (and-then ! (load ! (from ! (stop !)) (look ! 4 refl)) (and-then ! (load ! (from ! (stop !)) (look ! 2 refl)) (and-then ! (load ! (from ! (stop !)) (look ! 0 refl)) (no-more !))))) (from ! (stop !))
+        pass1 ! (init ! 4 refl typed) $ pass1 ! (init ! 2 refl (tt, record { fits = okm })) $ pass1 ! (init ! 0 refl (tt, record { fits = okk })) $
+        pass0 ! $
+        assigns ! (agg ! (and-then ! (load ! (from ! (stop !)) (look ! 4 refl))
+        (and-then ! (load ! (from ! (stop !)) (look ! 2 refl)) (and-then ! (load ! (from ! (stop !)) (look ! 0 refl)) (no-more !)))))
+        (from ! (stop !))
         (init ! 6 refl (tt, (typed .1, (record { fits = okm }, (record { fits = okk }, tt))))) $
         returns ! (look ! 6 refl) $ forget ! 0 refl $ forget ! 2 refl $ forget ! 4 refl $ forget ! 6 refl $
         move ! (6 ∷ 7 ∷ []) $ free1 ! $ move ! (4 ∷ 5 ∷ []) $ free1 ! $ move ! (2 ∷ 3 ∷ []) $ free1 ! $ free1 ! $ free0 ! $ by ! exits))))
 
 module _ {M : Type 1} (𝓤 : URA M) (H : Heap 𝓤) (A : Atoms 𝓤) (W : Given 𝓤 H A) (mem : Memory → SProp 𝓤) (run : Routine → Fun 𝓤) where
   view-walks : (C : Calls 𝓤 H) (Λ : Loops 𝓤 H) → Walks 𝓤 H A view.ended stayed (WpFn 𝓤 H C Λ code.function) (view.clauses 𝓤 H A mem run)
-  view-walks C Λ = walked 𝓤 H A view.ended stayed (view.clauses 𝓤 H A mem run) (WpFn 𝓤 H C Λ code.function) (λ κs. (slice-vals, (uint-vals w16, (uint-vals w16, tt)))) (λ κs. (shr-slice-tells (named 0) (κs .0) u16, (uint-tells w16, (uint-tells w16, tt))))
-      (λ κs qs bounds a g are. via 𝓤 _ (fst∗ 𝓤 _ (emp 𝓤)) (walk 𝓤 H A W mem run (κs .0) (qs .0) (a .0) (a .1 .0) (a .1 .1 .0) (are .1 .0 .1) (are .1 .1 .0 .1) C Λ (are .0)))
+  view-walks C Λ = walked 𝓤 H A view.ended stayed (view.clauses 𝓤 H A mem run) (WpFn 𝓤 H C Λ code.function)
+      (λ κs. (slice-vals, (uint-vals w16, (uint-vals w16, tt))))
+      (λ κs. (shr-slice-tells (named 0) (κs .0) u16, (uint-tells w16, (uint-tells w16, tt))))
+      (λ κs qs bounds a g are. via 𝓤 _ (fst∗ 𝓤 _ (emp 𝓤))
+      (walk 𝓤 H A W mem run (κs .0) (qs .0) (a .0) (a .1 .0) (a .1 .1 .0) (are .1 .0 .1) (are .1 .1 .0 .1) C Λ (are .0)))
 
 view-meets : {M : Type 1} (𝓤 : URA M) (H : Heap 𝓤) (A : Atoms 𝓤) → Given 𝓤 H A → (mem : Memory → SProp 𝓤) (run : Routine → Fun 𝓤) (𝓣 : Tables 𝓤 H)
     → Meets 𝓤 H A view.signature (WpFn 𝓤 H (𝓣 .C) (𝓣 .Λ) code.function) (view.spec 𝓤 H A mem run)
-view-meets 𝓤 H A W mem run 𝓣 = walk-meets 𝓤 H A view.ended stayed W (goes-none-slice 𝓤 H A W 1 (0 ∷ []) tt (plain (λ _. u16)) yes, (goes-none 𝓤 H A W 1 (λ _. u16) yes (λ κs x f. refl), (goes-none 𝓤 H A W 1 (λ _. u16) yes (λ κs x f. refl), tt))) (view.clauses 𝓤 H A mem run) (WpFn 𝓤 H (𝓣 .C) (𝓣 .Λ) code.function) (WpFn-mono 𝓤 H (W .laws) 𝓣 code.function) (view-walks 𝓤 H A W mem run (𝓣 .C) (𝓣 .Λ))
+view-meets 𝓤 H A W mem run 𝓣 = walk-meets 𝓤 H A view.ended stayed W (
+  goes-none-slice 𝓤 H A W 1 (0 ∷ []) tt (plain (λ _. u16)) yes,
+  (goes-none 𝓤 H A W 1 (λ _. u16) yes (λ κs x f. refl), (goes-none 𝓤 H A W 1 (λ _. u16) yes (λ κs x f. refl), tt)),
+) (view.clauses 𝓤 H A mem run)
+    (WpFn 𝓤 H (𝓣 .C) (𝓣 .Λ) code.function) (WpFn-mono 𝓤 H (W .laws) 𝓣 code.function) (view-walks 𝓤 H A W mem run (𝓣 .C) (𝓣 .Λ))
 
 pub view-spec : {M : Type 1} → stated.statement M
 unfolding code.routine tablesOf

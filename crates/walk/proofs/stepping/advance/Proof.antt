@@ -82,8 +82,11 @@ add-mark-pairs-2 c =
 
 mark-pairs-requires : tie.Need-mark-pairs-requires
 mark-pairs-requires c κs =
-    let entry = c .before .before .before .before .before .before .before .before .before .before .before in
-    (omega (arith, law.sight-block _ _ _ _ _ _ _ _ (law.sighted-is _ _ _ _ _ _ _ _ (entry .pre .0))), law.sight-outs _ _ _ _ _ _ _ _ (law.sighted-is _ _ _ _ _ _ _ _ (entry .pre .0)))
+    let entry = c .before .before .before .before .before .before .before .before .before .before .before in (
+      omega (arith, law.sight-block _ _ _ _ _ _ _ _ (law.sighted-is _ _ _ _ _ _ _ _ (entry .pre .0))),
+      law.sight-outs _ _ _ _ _ _ _ _
+          (law.sighted-is _ _ _ _ _ _ _ _ (entry .pre .0)),
+    )
 
 mul-close-up : tie.Need-mul-close-up
 mul-close-up c =
@@ -102,23 +105,30 @@ close-up-requires c κs =
 
 add-append-pairs-2 : tie.Need-add-append-pairs-2
 add-append-pairs-2 c =
-    let entry = c .before .before .before .before .before .before .before .before .before .before .before .before .before .before .before .before .before .before .before in
+    let entry =
+    c .before .before .before .before .before .before .before .before .before .before .before .before .before .before .before .before .before .before .before in
     omega (arith, law.sight-block _ _ _ _ _ _ _ _ (law.sighted-is _ _ _ _ _ _ _ _ (entry .pre .0)))
 
 mul-append-pairs : tie.Need-mul-append-pairs
 mul-append-pairs c =
-    let entry = c .before .before .before .before .before .before .before .before .before .before .before .before .before .before .before .before .before .before .before in
+    let entry =
+    c .before .before .before .before .before .before .before .before .before .before .before .before .before .before .before .before .before .before .before in
     omega (arith, law.sighted-is _ _ _ _ _ _ _ _ (entry .pre .0) .fits)
 
 sub-append-pairs-2 : tie.Need-sub-append-pairs-2
 sub-append-pairs-2 c =
-    let entry = c .before .before .before .before .before .before .before .before .before .before .before .before .before .before .before .before .before .before .before in
+    let entry =
+    c .before .before .before .before .before .before .before .before .before .before .before .before .before .before .before .before .before .before .before in
     omega (arith, law.sighted-is _ _ _ _ _ _ _ _ (entry .pre .0) .fits)
 
 append-pairs-requires : tie.Need-append-pairs-requires
 append-pairs-requires c κs =
-    let entry = c .before .before .before .before .before .before .before .before .before .before .before .before .before .before .before .before .before .before .before in
-    (omega (arith, law.sight-block _ _ _ _ _ _ _ _ (law.sighted-is _ _ _ _ _ _ _ _ (entry .pre .0))), omega (arith, law.sighted-is _ _ _ _ _ _ _ _ (entry .pre .0) .room, c .before .before .before .close-up .kept .0))
+    let entry =
+    c .before .before .before .before .before .before .before .before .before .before .before .before .before .before .before .before .before .before .before in (
+      omega (arith, law.sight-block _ _ _ _ _ _ _ _ (law.sighted-is _ _ _ _ _ _ _ _ (entry .pre .0))),
+      omega
+          (arith, law.sighted-is _ _ _ _ _ _ _ _ (entry .pre .0) .room, c .before .before .before .close-up .kept .0),
+    )
 
 same-length : tie.Need-same-length
 same-length c = search needs
@@ -131,10 +141,13 @@ same-length-3 c = search needs
 
 returns : tie.Need-returns
 returns c =
-    let entry = c .before .before .before .before .before .before .before .before .before .before .before .before .before .before .before .before .before .before .before .before .before .before in
+    let entry =
+    c .before .before .before .before .before .before .before .before .before .before .before .before .before .before .before .before .before .before .before .before .before .before in
     let at-mark-pairs = c .before .before .before .before .before .before .before .before .before .before .mark-pairs in
     let at-close-up = c .before .before .before .before .before .before .close-up in
-    law.tells-on (entry .args .plan .now) (entry .args .score .now) (entry .args .spans .now) (entry .args .waiting .now) (entry .args .log .now) (entry .args .marks .now) (entry .args .«record») (entry .args .choice) (entry .pre .1) (entry .pre .0) (at-close-up .ensures) (c .before .before .append-pairs .ensures) (at-mark-pairs .ensures)
+    law.tells-on (entry .args .plan .now) (entry .args .score .now) (entry .args .spans .now) (entry .args .waiting .now) (entry .args .log .now)
+    (entry .args .marks .now) (entry .args .«record») (entry .args .choice) (entry .pre .1) (entry .pre .0) (at-close-up .ensures)
+    (c .before .before .append-pairs .ensures) (at-mark-pairs .ensures)
 
 pub advance-spec : {M : Type 1} → statement M
 advance-spec =

@@ -86,7 +86,9 @@ fine-pairs-requires-2 c κs =
     omega (arith, fits-in (entry .args .plan .now) (entry .args .b) (entry .pre .1))
 
 returns-2 : tie.Need-returns-2
-returns-2 c = c .fine-pairs2 .ensures ∙ sym (law.leads-nexts _ _ _ _ _ _ (sym (c .before .before .before .before .fine-pairs .ensures) ∙ not-false _ (c .before .before .before .if1 .left)))
+returns-2 c = c .fine-pairs2 .ensures
+    ∙ sym (law.leads-nexts _ _ _ _ _ _ (sym (c .before .before .before .before .fine-pairs .ensures)
+    ∙ not-false _ (c .before .before .before .if1 .left)))
 
 pub leads-fine-spec : {M : Type 1} → statement M
 leads-fine-spec =

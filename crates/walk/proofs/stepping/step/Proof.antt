@@ -8,7 +8,8 @@ use Rattle.walk.proofs.stepping.step.Tie as tie
 returns : tie.Need-returns
 returns c =
     let entry = c .before .before .before .before .before .before .before .before in
-    law.tells-32 (entry .args .plan .now) (entry .args .score .now) (entry .args .spans .now) (entry .args .waiting .now) (entry .args .log .now) (entry .args .marks .now) (entry .args .«record») (entry .args .choice) (c .if1 .taken)
+    law.tells-32 (entry .args .plan .now) (entry .args .score .now) (entry .args .spans .now) (entry .args .waiting .now) (entry .args .log .now)
+    (entry .args .marks .now) (entry .args .«record») (entry .args .choice) (c .if1 .taken)
 
 look-requires : tie.Need-look-requires
 look-requires c κs = search needs
@@ -31,7 +32,9 @@ same-length c = search needs
 returns-2 : tie.Need-returns-2
 returns-2 c =
     let entry = c .before .before .before .before .before .before .before .before .before .before .before .before in
-    law.tells-34 (entry .args .plan .now) (entry .args .score .now) (entry .args .spans .now) (entry .args .waiting .now) (entry .args .log .now) (entry .args .marks .now) (entry .args .«record») (entry .args .choice) (c .before .before .before .before .if1 .left) (sym (c .before .before .look .ensures) ∙ ap sightOf (c .enum-told .given .1))
+    law.tells-34 (entry .args .plan .now) (entry .args .score .now) (entry .args .spans .now) (entry .args .waiting .now) (entry .args .log .now)
+    (entry .args .marks .now) (entry .args .«record») (entry .args .choice) (c .before .before .before .before .if1 .left)
+    (sym (c .before .before .look .ensures) ∙ ap sightOf (c .enum-told .given .1))
 
 same-length-2 : tie.Need-same-length-2
 same-length-2 c = search needs

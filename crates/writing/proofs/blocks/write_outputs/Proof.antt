@@ -62,12 +62,20 @@ shared-slice-read-plan c =
 mul-plan-3 : tie.Need-mul-plan-3 Inv-loop μ-loop
 mul-plan-3 c =
     let entry = c .before .before .before .before in
-    omega (arith, paired-room (c .before .before .before .loop .inv) (c .before .before .loop-test .taken) (entry .args .plan .now) refl (entry .pre .2))
+    omega (
+      arith,
+      paired-room (c .before .before .before .loop .inv) (c .before .before .loop-test .taken) (entry .args .plan .now) refl
+          (entry .pre .2),
+    )
 
 slice-write-plan-2 : tie.Need-slice-write-plan-2 Inv-loop μ-loop
 slice-write-plan-2 c =
     let entry = c .before .before .before .before in
-    omega (arith, paired-room (c .before .before .before .loop .inv) (c .before .before .loop-test .taken) (entry .args .plan .now) refl (entry .pre .2))
+    omega (
+      arith,
+      paired-room (c .before .before .before .loop .inv) (c .before .before .loop-test .taken) (entry .args .plan .now) refl
+          (entry .pre .2),
+    )
 
 add-plan : tie.Need-add-plan Inv-loop μ-loop
 add-plan c =
@@ -87,24 +95,44 @@ shared-slice-read-plan-2 c =
 add-plan-2 : tie.Need-add-plan-2 Inv-loop μ-loop
 add-plan-2 c =
     let entry = c .before .before .before .before .before in
-    omega (arith, paired-room (c .before .before .before .before .loop .inv) (c .before .before .before .loop-test .taken) (entry .args .plan .now) refl (entry .pre .2))
+    omega (
+      arith,
+      paired-room (c .before .before .before .before .loop .inv) (c .before .before .before .loop-test .taken) (entry .args .plan .now)
+          refl (entry .pre .2),
+    )
 
 mul-plan-5 : tie.Need-mul-plan-5 Inv-loop μ-loop
 mul-plan-5 c =
     let entry = c .before .before .before .before .before in
     let at-loop = c .before .before .before .before .loop in
-    omega (arith, paired-room (at-loop .inv) (c .before .before .before .loop-test .taken) (entry .args .plan .now) refl (entry .pre .2), length-set (at-loop .plan) (at-loop .here) (getD (entry .args .scratch .now) (entry .args .from + 3 * (getD (entry .args .out .now) (at-loop .j) 0 % 128)) 0))
+    omega (
+      arith,
+      paired-room (at-loop .inv) (c .before .before .before .loop-test .taken) (entry .args .plan .now) refl (entry .pre .2),
+      length-set
+          (at-loop .plan) (at-loop .here)
+          (getD (entry .args .scratch .now) (entry .args .from + 3 * (getD (entry .args .out .now) (at-loop .j) 0 % 128)) 0),
+    )
 
 slice-write-plan-3 : tie.Need-slice-write-plan-3 Inv-loop μ-loop
 slice-write-plan-3 c =
     let entry = c .before .before .before .before .before in
     let at-loop = c .before .before .before .before .loop in
-    omega (arith, paired-room (at-loop .inv) (c .before .before .before .loop-test .taken) (entry .args .plan .now) refl (entry .pre .2), length-set (at-loop .plan) (at-loop .here) (getD (entry .args .scratch .now) (entry .args .from + 3 * (getD (entry .args .out .now) (at-loop .j) 0 % 128)) 0))
+    omega (
+      arith,
+      paired-room (at-loop .inv) (c .before .before .before .loop-test .taken) (entry .args .plan .now) refl (entry .pre .2),
+      length-set
+          (at-loop .plan) (at-loop .here)
+          (getD (entry .args .scratch .now) (entry .args .from + 3 * (getD (entry .args .out .now) (at-loop .j) 0 % 128)) 0),
+    )
 
 add-here-2 : tie.Need-add-here-2 Inv-loop μ-loop
 add-here-2 c =
     let entry = c .before .before .before .before .before in
-    omega (arith, paired-room (c .before .before .before .before .loop .inv) (c .before .before .before .loop-test .taken) (entry .args .plan .now) refl (entry .pre .2))
+    omega (
+      arith,
+      paired-room (c .before .before .before .before .loop .inv) (c .before .before .before .loop-test .taken) (entry .args .plan .now)
+          refl (entry .pre .2),
+    )
 
 add-j : tie.Need-add-j Inv-loop μ-loop
 add-j c = search needs

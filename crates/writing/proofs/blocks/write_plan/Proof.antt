@@ -39,7 +39,13 @@ cast-plan-3 c = omega (arith, c .before .before .before .before .pre .ready .few
 slice-write-plan-3 : tie.Need-slice-write-plan-3 Inv-loop μ-loop
 slice-write-plan-3 c =
     let entry = c .before .before .before .before in
-    omega (arith, plan-room (entry .pre), length-set (entry .args .plan .now) 0 (entry .args .m), length-set (set (entry .args .plan .now) 0 (entry .args .m)) 1 (length (entry .args .symbols .now)))
+    omega (
+      arith,
+      plan-room (entry .pre),
+      length-set (entry .args .plan .now) 0 (entry .args .m),
+      length-set
+          (set (entry .args .plan .now) 0 (entry .args .m)) 1 (length (entry .args .symbols .now)),
+    )
 
 cast-plan-4 : tie.Need-cast-plan-4 Inv-loop μ-loop
 cast-plan-4 c = omega (arith, c .before .before .before .before .pre .word)
@@ -47,7 +53,15 @@ cast-plan-4 c = omega (arith, c .before .before .before .before .pre .word)
 slice-write-plan-4 : tie.Need-slice-write-plan-4 Inv-loop μ-loop
 slice-write-plan-4 c =
     let entry = c .before .before .before .before in
-    omega (arith, plan-room (entry .pre), head-length (entry .args .plan .now) (entry .args .m) (length (entry .args .symbols .now)) (entry .args .shapes) (entry .args .total), length-set (set (set (set (entry .args .plan .now) 0 (entry .args .m)) 1 (length (entry .args .symbols .now))) 2 (entry .args .shapes)) 3 (entry .args .total))
+    omega (
+      arith,
+      plan-room (entry .pre),
+      head-length (entry .args .plan .now) (entry .args .m) (length (entry .args .symbols .now))
+          (entry .args .shapes) (entry .args .total),
+      length-set
+          (set (set (set (entry .args .plan .now) 0 (entry .args .m)) 1 (length (entry .args .symbols .now))) 2 (entry .args .shapes)) 3
+          (entry .args .total),
+    )
 
 add-at : tie.Need-add-at Inv-loop μ-loop
 add-at c = omega (arith, c .before .before .before .before .pre .held .kept .few)
@@ -109,7 +123,14 @@ mul-plan c =
 slice-write-plan-5 : tie.Need-slice-write-plan-5 Inv-loop μ-loop
 slice-write-plan-5 c =
     let entry = c .before .before .before .before .before .before .before .before in
-    omega (arith, c .before .before .loop-test .taken, c .before .before .before .loop .inv .long, head-length (entry .args .plan .now) (entry .args .m) (length (entry .args .symbols .now)) (entry .args .shapes) (entry .args .total), plan-room (entry .pre))
+    omega (
+      arith,
+      c .before .before .loop-test .taken,
+      c .before .before .before .loop .inv .long,
+      head-length (entry .args .plan .now)
+          (entry .args .m) (length (entry .args .symbols .now)) (entry .args .shapes) (entry .args .total),
+      plan-room (entry .pre),
+    )
 
 write-row-requires : tie.Need-write-row-requires Inv-loop μ-loop
 write-row-requires c κs =

@@ -51,7 +51,15 @@ mul-plan c =
 slice-write-plan : tie.Need-slice-write-plan Inv-loop μ-loop
 slice-write-plan c =
     let entry = c .before .before .before .before .before .before .before in
-    omega (arith, rowed-room (c .before .loop .inv) (c .loop-test .taken), c .before .loop .inv .past, c .before .loop .inv .long, c .loop-test .taken, entry .pre .starts, entry .pre .room)
+    omega (
+      arith,
+      rowed-room (c .before .loop .inv) (c .loop-test .taken),
+      c .before .loop .inv .past,
+      c .before .loop .inv .long,
+      c .loop-test .taken,
+      entry .pre .starts,
+      entry .pre .room,
+    )
 
 write-block-requires : tie.Need-write-block-requires Inv-loop μ-loop
 write-block-requires c κs =

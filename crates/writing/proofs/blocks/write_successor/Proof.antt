@@ -43,7 +43,12 @@ find-state-requires c κs =
     let at-put-class = c .before .before .before .before .before .before .put-class in (
       entry .pre .0,
       omega (arith, class-count (entry .pre .1) (entry .args .r) _ _ _ (at-put-class .ensures), entry .pre .3),
-      omega (arith, class-count (entry .pre .1) (entry .args .r) _ _ _ (at-put-class .ensures), entry .pre .3, c .before .before .lift-class .kept .1 .1 .0),
+      omega (
+        arith,
+        class-count (entry .pre .1) (entry .args .r) _ _ _ (at-put-class .ensures),
+        entry .pre .3,
+        c .before .before .lift-class .kept .1 .1 .0,
+      ),
     )
 
 cast-plan : tie.Need-cast-plan

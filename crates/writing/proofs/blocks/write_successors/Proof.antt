@@ -16,7 +16,8 @@ use Rattle.writing.proofs.blocks.write_successor.Reads as write-success
 
 abbrev Inv-loop : tie.InvT-loop
 Inv-loop scratch m goals n dep order at plan₀ here₀ j₀ plan here j =
-    Paired (λ x. placeOf (statesIn scratch m) (liftedW (classAt dep goals n (x % 128)))) (λ x. displacementW (classAt dep goals n (x % 128))) order plan₀ plan at here j
+    Paired (λ x. placeOf (statesIn scratch m) (liftedW (classAt dep goals n (x % 128)))) (λ x. displacementW (classAt dep goals n (x % 128))) order
+    plan₀ plan at here j
 
 abbrev μ-loop : tie.MeasureT-loop
 μ-loop scratch m goals n dep order at plan₀ here₀ j₀ plan here j = length order - j
@@ -63,7 +64,11 @@ add-here-2 : tie.Need-add-here-2 Inv-loop μ-loop
 add-here-2 c =
     let entry = c .before .before .before .before .before .before .before .before .before .before .before in
     let at-loop = c .before .before .before .before .before .before .loop in
-    omega (arith, paired-room (at-loop .inv) (c .before .before .before .before .before .loop-test .taken) (entry .args .plan .now) refl (entry .pre .4))
+    omega (
+      arith,
+      paired-room (at-loop .inv) (c .before .before .before .before .before .loop-test .taken) (entry .args .plan .now) refl
+          (entry .pre .4),
+    )
 
 add-j : tie.Need-add-j Inv-loop μ-loop
 add-j c = search needs
