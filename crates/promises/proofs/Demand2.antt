@@ -5,7 +5,7 @@ use mathlib.Core.Path.{_≡_, ap, sym, _∙_, subst}
 use mathlib.Core.Bool.{Bool}
 use mathlib.Core.List.{List}
 use mathlib.Core.Logic.{_↔_}
-use mathlib.Core.Option.{some}
+use mathlib.Core.Option.{some, Option·map}
 use Prim.Native.Nat.{ℕ, _<_, _≤_}
 use native.Mathlib.Omega.{arith}
 use lib.Dec.{eqb}
@@ -18,10 +18,10 @@ use Rattle.kinds.proofs.Places.{at-below}
 use Rattle.term.specs.Terms.{Term, span}
 use Rattle.term.specs.Places.{Matches, number}
 use Rattle.term.proofs.MatchTest.{matches-of, matches-is}
-use Rattle.term.proofs.Numbers.{number-place, number-below, dom-place}
+use Rattle.term.proofs.Numbers.{number-place, number-below, node-at, dom-place}
 use Rattle.counting.specs.Counting.{matchAt, found}
 use Rattle.report.specs.Paths.{pathOf}
-use Rattle.report.specs.Text.{report}
+use Rattle.report.specs.Text.{matchLine, report}
 use Rattle.walk.specs.Starting.{Walk}
 use Rattle.walking.proofs.AnyWalk.{same-walk, marks-right, marks-shapes}
 use Rattle.promises.specs.OneFile.{OneFile, symbolsIn, spansIn, shapesIn, scoreIn, after, reported}
@@ -90,7 +90,9 @@ demand-2 S = record {
   plan = plan-is S;
   exactly = exactly S;
   no-other = no-other S;
-  path = path S;
+  path = λ n j h.
+      let w = node-at (scoreIn S) n h in
+      (w .0, w .1, ap (Option·map (matchLine (matchAt n j))) (path S (w .0) n (w .1)));
   order = λ p n e. dom-place (scoreIn S) n ∙ number-place p (scoreIn S) n e;
   text = λ test says choices done. text S choices done test says;
   tested = λ ℓ p. (matches-of ℓ (scoreIn S) p, matches-is ℓ (scoreIn S) p);

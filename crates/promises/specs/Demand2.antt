@@ -25,7 +25,8 @@ use Rattle.term.proofs.MatchTest.{agreesAt}
 use Rattle.folio.specs.Folio.{Folio}
 use Rattle.automaton.specs.PlanWords.{plan-of}
 use Rattle.plan.specs.Building.{planOf}
-use Rattle.report.specs.Paths.{pathOf}
+use Rattle.counting.specs.Counting.{matchAt}
+use Rattle.report.specs.Text.{line, matchLine}
 use Rattle.promises.specs.OneFile.{OneFile, symbolsIn, wordsIn, nodesIn, spansIn, shapesIn, scoreIn, planIn, after, reported}
 use Rattle.promises.specs.Reported.{reportIn}
 
@@ -42,7 +43,8 @@ pub record Demand2 {file : List ℕ} (S : OneFile file) : Type 0 where
   pub exactly : (choices : List ℕ) → after S choices .count .waiting ≡ 0 → (j : ℕ) (ℓ : Term) → getElem? (shapesIn S) j ≡ some ℓ → (n : ℕ) (p : Pos) → number (scoreIn S) p ≡ some n
       → (bit (getD (after S choices .marks) n 0) j ≡ 1) ↔ Matches ℓ (scoreIn S) p
   pub no-other : (choices : List ℕ) (j n : ℕ) → n < span (scoreIn S) → bit (getD (after S choices .marks) n 0) j ≡ 1 → (ℓ : Term) × (getElem? (shapesIn S) j ≡ some ℓ)
-  pub path : (p : Pos) (n : ℕ) → number (scoreIn S) p ≡ some n → pathOf (spansIn S) n ≡ some p
+  pub path : (n j : ℕ) → n < span (scoreIn S)
+      → (p : Pos) × (number (scoreIn S) p ≡ some n) × (line (spansIn S) (matchAt n j) ≡ some (matchLine (matchAt n j) p))
   pub order : (p : Pos) (n : ℕ) → number (scoreIn S) p ≡ some n → getElem? (dom (scoreIn S)) n ≡ some p
   pub text : (test : Term → Pos → Bool) → Says test (scoreIn S) → (choices : List ℕ) → after S choices .count .waiting ≡ 0
       → reported S choices ≡ reportIn test (shapesIn S) (scoreIn S) (S .size .states)

@@ -7,9 +7,11 @@
 --   matchLine     one match, its node's position given
 --   line          the same by the spans; none where they do not have the node
 --   firstLine     the four numbers
+--   texts textOf  texts in a row; a text that there is
 --   lines         by node, then shape; a match whose node the spans do not have has no line
 --   report        over the spans of the n nodes, the state count and the marks
 --   refusalText   what a refusal prints
+--   stepOf pathIn numbersIn   what the parts of the code answer: a child, a path at a buffer's start, how many numbers it has
 use Prim.Native.Nat.{ℕ, zero, suc, _+_, _/_, _%_}
 use mathlib.Core.List.{List, [], _∷_, _++_}
 use mathlib.Core.Bool.{Bool, cond}
