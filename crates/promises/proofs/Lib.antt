@@ -23,3 +23,4 @@ pub mod SampleFile
 pub mod Calls
 pub mod Determined
 pub mod ChildRows
+pub mod Construction
