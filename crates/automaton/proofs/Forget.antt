@@ -126,7 +126,7 @@ module _ {O P : Type 0} (K : Calculus O) (J : Calculus P) (h : O → P) (Right :
       c : forgets h C ≡ gather (λ i. J .fresh (p ++ (i ∷ []))) (range 1 n)
       c = map-gather (forget h) (λ i. K .fresh (p ++ (i ∷ []))) (range 1 n) ∙ gather-same _ _ (range 1 n) (λ i m. carries .fresh (p ++ (i ∷ [])))
 
-  deriv-right : (s : State O) → AllRight s → (f n : ℕ) → AllRight (deriv K s f n)
+  pub deriv-right : (s : State O) → AllRight s → (f n : ℕ) → AllRight (deriv K s f n)
   deriv-right s r f n g m = ⊎-elim old (λ i. ⊎-elim less new (∈-append (filter (λ x. not (isNil (x .obs))) (met K s f n)) i)) (∈-append (filter (λ x. not (has K (label K s) (x .obs))) s) m)
     where
       old : g ∈ filter (λ x. not (has K (label K s) (x .obs))) s → Right g
@@ -172,7 +172,7 @@ module _ {O P : Type 0} (K : Calculus O) (J : Calculus P) (h : O → P) (Right :
       one g = ap (λ os. record { shape = g .shape; ann = strip (gcp k) (g .ann); obs = os })
           (map-map h (K .lifted (gcp k)) (g .obs) ∙ map-same _ _ (g .obs) (λ o m. carries .lifted (gcp k) o) ∙ sym (map-map (J .lifted (gcp k)) h (g .obs)))
 
-  lift-right : (k : State O) → AllRight k → AllRight (lift K k)
+  pub lift-right : (k : State O) → AllRight k → AllRight (lift K k)
   lift-right k r g m = on-map (liftGoal K (gcp k)) k m λ y i e. rw e (carries .lifted-right (gcp k) y (gcp-below k y i) (r y i))
 
   -- ---- equality of states

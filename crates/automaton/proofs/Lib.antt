@@ -29,3 +29,4 @@ pub mod Explored
 pub mod OpenNodes
 pub mod Walks
 pub mod BlocksAgain
+pub mod Parted

@@ -1,6 +1,7 @@
 -- The paper's obligations and bare positions give the same plan, and the same refusals.
 --   RightOb Right   each obligation's subpattern is the shape's, at its position below the announcement
 --   carries         forgetting the subpatterns commutes with each part of the two calculi
+--   alike-refl      an obligation is alike itself
 --   same-plan       planned (paper shapes) is planned (bare shapes)
 use mathlib.Core.Path.{_≡_, refl, ap, ap₂, sym, _∙_}
 use mathlib.Core.Bool.{Bool, true, false, cond, _&&_, _||_}
@@ -15,7 +16,7 @@ use Rattle.kinds.specs.Lists.{same, any, gather, mapAt, range, bind}
 use Rattle.kinds.specs.Positions.{Pos, strip}
 use Rattle.kinds.proofs.Bools.{both, is-eqb}
 use Rattle.kinds.proofs.Options.{on-bind}
-use Rattle.kinds.proofs.Members.{on-map, on-gather, same-is}
+use Rattle.kinds.proofs.Members.{on-map, on-gather, same-is, same-refl}
 use Rattle.kinds.specs.Members.{_∈_, here, there}
 use Rattle.kinds.proofs.ListLaws.{map-gather, gather-map, gather-same}
 use Rattle.kinds.proofs.Places.{on-mapAt}
@@ -50,6 +51,9 @@ mutual
   sameTerms-refl : (ts : Terms) → sameTerms ts ts ≡ true
   sameTerms-refl tnil = refl
   sameTerms-refl (tcons t ts) = both {a = sameTerm t t} (sameTerm-refl t) (sameTerms-refl ts)
+
+pub alike-refl : (o : Ob) → (same (o .pos) (o .pos) && sameTerm (o .pat) (o .pat)) ≡ true
+alike-refl o = both {a = same (o .pos) (o .pos)} (same-refl (o .pos)) (sameTerm-refl (o .pat))
 
 -- ---- fresh goals
 freshes-from : (p : Pos) (c : ℕ) (shapes : List Term) → forgets position (mapAt (freshOb p) c shapes) ≡ map (fresh p) (range c (length shapes))

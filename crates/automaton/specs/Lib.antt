@@ -7,4 +7,5 @@ pub mod Exploring
 pub mod FinalBlocks
 pub mod PlanWords
 pub mod Walking
+pub mod Parted
 pub mod Examples

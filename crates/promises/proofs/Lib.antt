@@ -24,3 +24,4 @@ pub mod Calls
 pub mod Runs
 pub mod Determined
 pub mod ChildRows
+pub mod Construction

@@ -10,3 +10,4 @@ pub mod OneFile
 pub mod Reported
 pub mod Demand2
 pub mod Demand3
+pub mod Construction
