@@ -13,6 +13,8 @@ use Rattle.counting.specs.Clashes.{clashNumber, clash}
 use Rattle.readers.specs.BlockWords.{middle}
 use Rattle.readers.specs.PlanParts.{labelSays, blockSays, announcementSays, successorSays}
 use Rattle.following.specs.Following.{reachedSays}
+use Rattle.report.specs.Text.{firstLine, refusalText}
+use Rattle.report.specs.Lines.{writtenSays}
 use Rattle.term.specs.Terms.{flatten}
 use lib.ListN.{getD}
 use Rattle.folio.proofs.opening.open.Reads as open-folio
@@ -26,11 +28,14 @@ use Rattle.readers.proofs.reading.label_of.Reads as label-of
 use Rattle.readers.proofs.reading.lengths_of.Reads as lengths-of
 use Rattle.readers.proofs.reading.successor_of.Reads as successor-of
 use Rattle.views.proofs.viewing.label_at.Reads as label-at
+use Rattle.report.proofs.lines.put_first.Reads as put-first
+use Rattle.report.proofs.lines.put_line.Reads as put-line
+use Rattle.report.proofs.lines.put_refusal.Reads as put-refusal
 use Rattle.kinds.proofs.Position.child.Reads as child
 use Rattle.following.proofs.positions.follow.Reads as follow
 use Rattle.promises.specs.Told.{told}
 use Rattle.promises.specs.Found.{FoundRow, partSays, pairValues, Standing, LabelFound, BlockFound, AnnouncementFound, SuccessorFound, ChildFound, Reaches}
-use Rattle.promises.specs.Demand1.{OpenRow, openTold, StartRow, CountRow, StepRow, walkTold}
+use Rattle.promises.specs.Demand1.{OpenRow, openTold, StartRow, CountRow, StepRow, walkTold, LineRow, MatchRow, lineTold}
 use Rattle.promises.proofs.Demand1.{demand-1}
 
 pub open-call : (κs : _) (a : _) (r : _) (e : _) → open-folio.Learnt κs a r e → Below 256 (now (a .0))
@@ -74,3 +79,19 @@ child-call κs a r e h = subst (FoundRow (ChildFound (a .0) (a .1 .0)) (λ c. c 
 
 pub follow-call : (κs : _) (a : _) (r : _) (e : _) → follow.Learnt κs a r e → FoundRow (Reaches (now (a .0)) (a .1 .0) (a .1 .1 .0 .0) (a .1 .1 .1 .0 .0)) (λ x. x ∷ []) (reachedSays r)
 follow-call κs a r e h = subst (FoundRow (Reaches (now (a .0)) (a .1 .0) (a .1 .1 .0 .0) (a .1 .1 .1 .0 .0)) (λ x. x ∷ [])) (ap reachedSays (sym h)) (demand-1 .following _ _ _ _ .0)
+
+-- ---- the lines
+pub put-first-call : (κs : _) (a : _) (r : _) (e : _) → put-first.Learnt κs a r e
+    → LineRow (firstLine (a .0) (a .1 .0) (a .1 .1 .0) (a .1 .1 .1 .0)) (now (a .1 .1 .1 .1 .0)) (told (writtenSays r) (now (e .1 .1 .1 .1 .0)))
+put-first-call κs a r e h =
+    subst (LineRow (firstLine (a .0) (a .1 .0) (a .1 .1 .0) (a .1 .1 .1 .0)) (now (a .1 .1 .1 .1 .0))) (ap lineTold (sym h)) (demand-1 .first-line _ _ _ _ _ .0)
+
+pub put-line-call : (κs : _) (a : _) (r : _) (e : _) → put-line.Learnt κs a r e
+    → MatchRow (now (a .0)) (a .1 .0 .0) (a .1 .1 .0 .0) (now (a .1 .1 .1 .0)) (told (writtenSays r) (now (e .1 .1 .1 .0)))
+put-line-call κs a r e h =
+    subst (MatchRow (now (a .0)) (a .1 .0 .0) (a .1 .1 .0 .0) (now (a .1 .1 .1 .0))) (ap lineTold (sym h)) (demand-1 .match-line _ _ _ _ .0)
+
+pub put-refusal-call : (κs : _) (a : _) (r : _) (e : _) → put-refusal.Learnt κs a r e
+    → LineRow (refusalText (a .0) (a .1 .0)) (now (a .1 .1 .0)) (told (writtenSays r) (now (e .1 .1 .0)))
+put-refusal-call κs a r e h =
+    subst (LineRow (refusalText (a .0) (a .1 .0)) (now (a .1 .1 .0))) (ap lineTold (sym h)) (demand-1 .refusal-line _ _ _ .0)
