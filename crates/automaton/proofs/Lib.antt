@@ -30,3 +30,4 @@ pub mod OpenNodes
 pub mod Walks
 pub mod BlocksAgain
 pub mod Parted
+pub mod Progress

@@ -8,4 +8,5 @@ pub mod FinalBlocks
 pub mod PlanWords
 pub mod Walking
 pub mod Parted
+pub mod Progress
 pub mod Examples

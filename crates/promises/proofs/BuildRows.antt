@@ -1,5 +1,5 @@
--- Rows 19 to 23: building's outcome is the one that they give.
-use mathlib.Core.Path.{_≡_, refl, sym, _∙_}
+-- Rows 19 to 23: what building says and leaves is what they give.
+use mathlib.Core.Path.{_≡_, refl, ap, sym, _∙_}
 use mathlib.Core.Bool.{true, false}
 use mathlib.Core.Logic.{_⊎_, inl, inr}
 use mathlib.Core.List.{List}
@@ -7,16 +7,24 @@ use Prim.Native.Nat.{ℕ, _<_, _≤_}
 use native.Mathlib.Omega.{arith}
 use native.Mathlib.Decide.{decLt}
 use lib.ListN.{length}
+use Rattle.kinds.specs.declared.Reason.the-variants.{ManyGoals, ManyStates}
 use Rattle.kinds.proofs.Bools.{test, false-true}
 use Rattle.checks.specs.Again.{shapesGood}
 use Rattle.folio.specs.Folio.{shapeTerms}
 use Rattle.folio.proofs.GoodTables.{shapes-good-shaped, shaped-good}
+use Rattle.automaton.specs.Goals.{State}
+use Rattle.automaton.specs.Classes.{sameState}
+use Rattle.automaton.specs.Paper.{Ob, paper}
 use Rattle.automaton.specs.PlanWords.{Plan, halted, too-long, plan-of}
-use Rattle.plan.specs.Building.{planOf, written, buildOf, BuildOutcome}
+use Rattle.automaton.proofs.Numbered.{sameState-refl}
+use Rattle.automaton.proofs.SamePlan.{alike-refl}
+use Rattle.automaton.proofs.Progress.{plan-over-goals, plan-over-states, plan-too-long, plan-made, PlanEnd, plan-end}
+use Rattle.automaton.proofs.Progress as ends
+use Rattle.plan.specs.Building.{planOf, written, buildOf}
 use Rattle.plan.proofs.BuildLaws.{built-bad, built-short, built-on}
 use Rattle.promises.specs.Demand1 as rows
-use Rattle.promises.specs.Demand1.{BuildRow, GoodShapes}
-use Rattle.promises.specs.Told.{By}
+use Rattle.promises.specs.Demand1.{BuildRow, GoodShapes, buildTold, paperOf, wordsFor}
+use Rattle.promises.specs.Told.{By, Told}
 
 module _ (ar ws st plan scratch : List ℕ) where
   good-or-not : GoodShapes ar ws st plan scratch ⊎ (GoodShapes ar ws st plan scratch → ⊥)
@@ -36,28 +44,38 @@ module _ (ar ws st plan scratch : List ℕ) where
   is-good : GoodShapes ar ws st plan scratch → shapesGood ar ws st ≡ true
   is-good g = shaped-good ar ws st (g .0) (g .1)
 
-  on-with : GoodShapes ar ws st plan scratch → 32768 ≤ length scratch → (p : Plan) → planOf ar (shapeTerms ar ws) (length plan) ≡ p → buildOf ar ws st plan scratch ≡ written p plan scratch
-  on-with g h p e = built-on ar ws st plan scratch (is-good g) h p (sym e)
+  -- a state is the same as itself
+  alike : (s : State Ob) → sameState (paper (shapeTerms ar ws)) s s ≡ true
+  alike = sameState-refl (paper (shapeTerms ar ws)) alike-refl
 
-  build-row : BuildRow ar ws st plan scratch (buildOf ar ws st plan scratch)
+  on-with : GoodShapes ar ws st plan scratch → 32768 ≤ length scratch → (p : Plan) → planOf ar (shapeTerms ar ws) (length plan) ≡ p
+      → buildTold (buildOf ar ws st plan scratch) ≡ buildTold (written p plan scratch)
+  on-with g h p e = ap buildTold (built-on ar ws st plan scratch (is-good g) h p (sym e))
+
+  build-row : BuildRow ar ws st plan scratch (buildTold (buildOf ar ws st plan scratch))
   build-row = go good-or-not (decLt (length scratch) 32768)
     where
-      on : GoodShapes ar ws st plan scratch → 32768 ≤ length scratch → (p : Plan) → planOf ar (shapeTerms ar ws) (length plan) ≡ p → BuildRow ar ws st plan scratch (written p plan scratch)
-      on g h (halted r i) e = rows.build-20-21 g h r i e
-      on g h too-long e = rows.build-22 g h e
-      on g h (plan-of m w) e = rows.builds g h m w e
+      on : GoodShapes ar ws st plan scratch → 32768 ≤ length scratch → {p : Plan} → PlanEnd (paperOf ar ws) alike ar (length (shapeTerms ar ws)) (length plan) p
+          → BuildRow ar ws st plan scratch (buildTold (written p plan scratch))
+      on g h (ends.plan-goals {i} o) = rows.build-20 g h i o
+      on g h (ends.plan-states {i} o) = rows.build-21 g h i o
+      on g h (ends.plan-long ss r l) = rows.build-22 g h ss r l
+      on g h (ends.plan-fits ss r l) = rows.builds g h ss r l
 
-      go : GoodShapes ar ws st plan scratch ⊎ (GoodShapes ar ws st plan scratch → ⊥) → Dec (length scratch < 32768) → BuildRow ar ws st plan scratch (buildOf ar ws st plan scratch)
+      go : GoodShapes ar ws st plan scratch ⊎ (GoodShapes ar ws st plan scratch → ⊥) → Dec (length scratch < 32768) → BuildRow ar ws st plan scratch (buildTold (buildOf ar ws st plan scratch))
       go (inr n) d = rw (built-bad ar ws st plan scratch (is-bad n)) (rows.build-19 n)
       go (inl g) (yes h) = rw (built-short ar ws st plan scratch (is-good g) h) (rows.build-23 g h)
-      go (inl g) (no h) = let k : 32768 ≤ length scratch = omega arith in rw (on-with g k (planOf ar (shapeTerms ar ws) (length plan)) refl) (on g k (planOf ar (shapeTerms ar ws) (length plan)) refl)
+      go (inl g) (no h) =
+          let k : 32768 ≤ length scratch = omega arith in
+          rw (on-with g k (planOf ar (shapeTerms ar ws) (length plan)) refl) (on g k (plan-end (paperOf ar ws) alike ar (length (shapeTerms ar ws)) (length plan)))
 
-  build-only : (o : BuildOutcome) → BuildRow ar ws st plan scratch o → buildOf ar ws st plan scratch ≡ o
-  build-only _ (rows.build-19 n) = built-bad ar ws st plan scratch (is-bad n)
-  build-only _ (rows.build-23 g h) = built-short ar ws st plan scratch (is-good g) h
-  build-only _ (rows.build-20-21 g h r i e) = on-with g h (halted r i) e
-  build-only _ (rows.build-22 g h e) = on-with g h too-long e
-  build-only _ (rows.builds g h m w e) = on-with g h (plan-of m w) e
+  build-only : (o : Told (List ℕ × List ℕ)) → BuildRow ar ws st plan scratch o → buildTold (buildOf ar ws st plan scratch) ≡ o
+  build-only _ (rows.build-19 n) = ap buildTold (built-bad ar ws st plan scratch (is-bad n))
+  build-only _ (rows.build-23 g h) = ap buildTold (built-short ar ws st plan scratch (is-good g) h)
+  build-only _ (rows.build-20 g h i o) = on-with g h (halted ManyGoals i) (plan-over-goals (paperOf ar ws) alike ar (length (shapeTerms ar ws)) (length plan) i o)
+  build-only _ (rows.build-21 g h i o) = on-with g h (halted ManyStates i) (plan-over-states (paperOf ar ws) alike ar (length (shapeTerms ar ws)) (length plan) i o)
+  build-only _ (rows.build-22 g h ss r l) = on-with g h too-long (plan-too-long (paperOf ar ws) alike ar (length (shapeTerms ar ws)) (length plan) ss r l)
+  build-only _ (rows.builds g h ss r l) = on-with g h (plan-of (length ss) (wordsFor ar ws ss)) (plan-made (paperOf ar ws) alike ar (length (shapeTerms ar ws)) (length plan) ss r l)
 
-  pub by-build : By (BuildRow ar ws st plan scratch) (buildOf ar ws st plan scratch)
+  pub by-build : By (BuildRow ar ws st plan scratch) (buildTold (buildOf ar ws st plan scratch))
   by-build = (build-row, build-only)

@@ -18,6 +18,8 @@ use Rattle.report.specs.Lines.{writtenSays}
 use Rattle.term.specs.Terms.{flatten}
 use lib.ListN.{getD}
 use Rattle.folio.proofs.opening.open.Reads as open-folio
+use Rattle.plan.specs.Building.{builtSays}
+use Rattle.plan.proofs.building.build.Reads as build
 use Rattle.walk.proofs.starting.start.Reads as start
 use Rattle.walk.proofs.stepping.step.Reads as step
 use Rattle.counting.proofs.marks.clashes.Reads as clashes
@@ -35,12 +37,16 @@ use Rattle.kinds.proofs.Position.child.Reads as child
 use Rattle.following.proofs.positions.follow.Reads as follow
 use Rattle.promises.specs.Told.{told}
 use Rattle.promises.specs.Found.{FoundRow, partSays, pairValues, Standing, LabelFound, BlockFound, AnnouncementFound, SuccessorFound, ChildFound, Reaches}
-use Rattle.promises.specs.Demand1.{OpenRow, openTold, StartRow, CountRow, StepRow, walkTold, LineRow, MatchRow, lineTold}
+use Rattle.promises.specs.Demand1.{OpenRow, openTold, BuildRow, buildTold, StartRow, CountRow, StepRow, walkTold, LineRow, MatchRow, lineTold}
 use Rattle.promises.proofs.Demand1.{demand-1}
 
 pub open-call : (κs : _) (a : _) (r : _) (e : _) → open-folio.Learnt κs a r e → Below 256 (now (a .0))
     → OpenRow (now (a .0)) (lent (now (a .1 .0)) (now (a .1 .1 .0)) (now (a .1 .1 .1 .0)) (now (a .1 .1 .1 .1 .0))) (told (openedSays r) (lent (now (e .1 .0)) (now (e .1 .1 .0)) (now (e .1 .1 .1 .0)) (now (e .1 .1 .1 .1 .0))))
 open-call κs a r e h small = subst (OpenRow (now (a .0)) (lent (now (a .1 .0)) (now (a .1 .1 .0)) (now (a .1 .1 .1 .0)) (now (a .1 .1 .1 .1 .0)))) (ap openTold (sym h)) (demand-1 .opening _ _ small .0)
+
+pub build-call : (κs : _) (a : _) (r : _) (e : _) → build.Learnt κs a r e
+    → BuildRow (now (a .0)) (now (a .1 .0)) (now (a .1 .1 .0)) (now (a .1 .1 .1 .0)) (now (a .1 .1 .1 .1 .0)) (told (builtSays r) (now (e .1 .1 .1 .0), now (e .1 .1 .1 .1 .0)))
+build-call κs a r e h = subst (BuildRow (now (a .0)) (now (a .1 .0)) (now (a .1 .1 .0)) (now (a .1 .1 .1 .0)) (now (a .1 .1 .1 .1 .0))) (ap buildTold (sym h)) (demand-1 .building _ _ _ _ _ .0)
 
 pub start-call : (κs : _) (a : _) (r : _) (e : _) → start.Learnt κs a r e → Below 65536 (now (a .1 .0))
     → StartRow (now (a .0)) (now (a .1 .0)) (now (a .1 .1 .0)) (walkOf (now (a .1 .1 .1 .0)) (now (a .1 .1 .1 .1 .0)) (now (a .1 .1 .1 .1 .1 .0)) (counting 0 0)) (told (walkedSays r) (walkOf (now (e .1 .1 .1 .0)) (now (e .1 .1 .1 .1 .0)) (now (e .1 .1 .1 .1 .1 .0)) (recordAfter r (counting 0 0))))
@@ -94,4 +100,4 @@ put-line-call κs a r e h =
 pub put-refusal-call : (κs : _) (a : _) (r : _) (e : _) → put-refusal.Learnt κs a r e
     → LineRow (refusalText (a .0) (a .1 .0)) (now (a .1 .1 .0)) (told (writtenSays r) (now (e .1 .1 .0)))
 put-refusal-call κs a r e h =
-    subst (LineRow (refusalText (a .0) (a .1 .0)) (now (a .1 .1 .0))) (ap lineTold (sym h)) (demand-1 .refusal-line _ _ _ .0)
+    subst (LineRow (refusalText (a .0) (a .1 .0)) (now (a .1 .1 .0))) (ap lineTold (sym h)) (demand-1 .refusal-line (a .0) (a .1 .0) (now (a .1 .1 .0)) .0)

@@ -10,13 +10,13 @@ use Prim.Native.Nat.{ℕ}
 use denote.Ref.{now}
 use lib.ListN.{take}
 use Rattle.kinds.specs.Members.{Below}
-use Rattle.folio.specs.Opening.{Lent, OpenOutcome, lent, opened}
+use Rattle.folio.specs.Opening.{Lent, OpenOutcome, lent, out, opened}
 use Rattle.folio.specs.declared.Counts.{Counts}
 use Rattle.folio.specs.declared.Opened.the-variants as opening
-use Rattle.plan.specs.Building.{BuildOutcome, buildOf}
+use Rattle.plan.specs.Building.{BuildOutcome, out as built-out, buildOf}
 use Rattle.plan.specs.declared.Size.{Size}
 use Rattle.plan.specs.declared.Built.the-variants as building
-use Rattle.walk.specs.Starting.{Walk, WalkOutcome, walkOf, counting, recordAfter, started}
+use Rattle.walk.specs.Starting.{Walk, WalkOutcome, walkOf, counting, recordAfter, outcome, started}
 use Rattle.walk.specs.Stepping.{stepped, run}
 use Rattle.walk.specs.declared.Record.{Record}
 use Rattle.walk.specs.declared.Walked.the-variants as walking
@@ -37,9 +37,9 @@ module _ (plan score spans : List ℕ) where
         → walkOf (now (a .1 .1 .1 .0)) (now (a .1 .1 .1 .1 .0)) (now (a .1 .1 .1 .1 .1 .0)) (a .1 .1 .1 .1 .1 .1 .0) ≡ w → a .1 .1 .1 .1 .1 .1 .1 .0 ≡ i
         → Stepped i w (walkOf (now (e .1 .1 .1 .0)) (now (e .1 .1 .1 .1 .0)) (now (e .1 .1 .1 .1 .1 .0)) (recordAfter r (a .1 .1 .1 .1 .1 .1 .0)))
 
-  pub data Walked (w : Walk) : List ℕ → Walk → Type 0 where
-    none : Walked w [] w
-    then : {v u : Walk} (i : ℕ) (is : List ℕ) → Stepped i w v → Walked v is u → Walked w (i ∷ is) u
+  pub data Walked : Walk → List ℕ → Walk → Type 0 where
+    none : {w : Walk} → Walked w [] w
+    then : {w v u : Walk} (i : ℕ) (is : List ℕ) → Stepped i w v → Walked v is u → Walked w (i ∷ is) u
 
   same-step : {p s t : List ℕ} {i j : ℕ} {w v : Walk} → p ≡ plan → s ≡ score → t ≡ spans → w ≡ v → j ≡ i → stepped p s t j w ≡ stepped plan score spans i v
   same-step {p} {s} {t} {i} {j} {w} {v} ep es et ew ei =
@@ -63,13 +63,16 @@ module _ {file : List ℕ} (bytes : Below 256 file)
     (s-symbols : now (as′ .0) ≡ take (counts .symbols) file) (s-score : now (as′ .1 .0) ≡ take (counts .nodes) (now (eo .1 .1 .1 .0)))
     (s-spans : now (as′ .1 .1 .0) ≡ take (counts .nodes) (now (eo .1 .1 .1 .1 .0)))
     (behind : List ℕ) where
-  abbrev tables : Lent
+  abbrev pub tables : Lent
   tables = lent (now (ao .1 .0)) (now (ao .1 .1 .0)) (now (ao .1 .1 .1 .0)) (now (ao .1 .1 .1 .1 .0))
 
-  abbrev begun : Walk
+  abbrev pub begun : Walk
   begun = walkOf (now (as′ .1 .1 .1 .0)) (now (as′ .1 .1 .1 .1 .0)) (now (as′ .1 .1 .1 .1 .1 .0)) (counting 0 0)
 
-  was-opened : opened file tables ≡ _
+  abbrev pub left : Lent
+  left = lent (now (eo .1 .0)) (now (eo .1 .1 .0)) (now (eo .1 .1 .1 .0)) (now (eo .1 .1 .1 .1 .0))
+
+  pub was-opened : opened file tables ≡ out (opening.Folio counts) left
   was-opened = ap (λ f. opened f tables) (sym of-file) ∙ sym opens
 
   same-build : {ar ar′ ws ws′ st st′ : List ℕ} (p s : List ℕ) → ar ≡ ar′ → ws ≡ ws′ → st ≡ st′ → buildOf ar ws st p s ≡ buildOf ar′ ws′ st′ p s
@@ -78,14 +81,16 @@ module _ {file : List ℕ} (bytes : Below 256 file)
   same-start : {ar ar′ sc sc′ sp sp′ : List ℕ} (w : Walk) → ar ≡ ar′ → sc ≡ sc′ → sp ≡ sp′ → started ar sc sp w ≡ started ar′ sc′ sp′ w
   same-start {ar′ = ar′} {sc′ = sc′} {sp = sp} w ea ec ep = ap₂ (λ x y. started x y sp w) ea ec ∙ ap (λ x. started ar′ sc′ x w) ep
 
-  built-is : buildOf (take (counts .symbols) file) (take (counts .words) (opened file tables .tables .words)) (take (counts .shapes) (opened file tables .tables .starts)) (now (ab .1 .1 .1 .0)) (now (ab .1 .1 .1 .1 .0)) ≡ _
+  pub built-is : buildOf (take (counts .symbols) file) (take (counts .words) (opened file tables .tables .words)) (take (counts .shapes) (opened file tables .tables .starts)) (now (ab .1 .1 .1 .0)) (now (ab .1 .1 .1 .1 .0))
+      ≡ built-out (building.Plan size) (now (eb .1 .1 .1 .0)) (now (eb .1 .1 .1 .1 .0))
   built-is =
       same-build (now (ab .1 .1 .1 .0)) (now (ab .1 .1 .1 .1 .0)) (sym b-symbols)
       (ap (λ (o : OpenOutcome). take (counts .words) (o .tables .words)) was-opened ∙ sym b-words)
       (ap (λ (o : OpenOutcome). take (counts .shapes) (o .tables .starts)) was-opened ∙ sym b-starts)
       ∙ sym builds
 
-  started-is : started (take (counts .symbols) file) (take (counts .nodes) (opened file tables .tables .score)) (take (counts .nodes) (opened file tables .tables .spans)) begun ≡ _
+  pub started-is : started (take (counts .symbols) file) (take (counts .nodes) (opened file tables .tables .score)) (take (counts .nodes) (opened file tables .tables .spans)) begun
+      ≡ outcome (walking.On first) (counting 0 0) (now (es .1 .1 .1 .0)) (now (es .1 .1 .1 .1 .0)) (now (es .1 .1 .1 .1 .1 .0))
   started-is =
       same-start begun (sym s-symbols)
       (ap (λ (o : OpenOutcome). take (counts .nodes) (o .tables .score)) was-opened ∙ sym s-score)

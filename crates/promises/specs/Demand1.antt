@@ -1,7 +1,8 @@
 -- Demand 1: "every file, table and list handed to a public call gets its answer or one numbered refusal, and the call ends". For each call a table: a row has when it
 -- applies, what is answered then, and every buffer as it is then. The call's outcome is the one that the table gives, for any arguments.
 --   OpenRow     1 to 18, by `Refusals`; or a folio
---   BuildRow    19, 23; 20 or 21; 22; or a plan
+--   BuildRow    19, 23; 20 or 21, by `OverGoals` and `OverStates` of automaton/specs (Progress); 22; or a plan
+--   paperOf wordsFor   the paper's construction for the shapes that shape words hold; its plan's words
 --   StartRow    31, 30; or a walk that is begun
 --   StepRow     32, 34; or a step, by `StepFound`
 --   CountRow    31, 30; or a number, for matches and for clashes
@@ -9,7 +10,7 @@
 --   LineRow     30 for a buffer under 1,400 bytes (docs/DECISIONS.md); or the line
 --   MatchRow    30; 34 for a node to which no path leads by the spans lent; or the line with the path that does
 --   FoundRow    34; or what is found: in `Found`, for subtree, the plan readers and a position's child
---   openTold walkTold   what opening, starting and stepping say and leave
+--   openTold buildTold walkTold   what opening, building, starting and stepping say and leave; building leaves the plan's buffer and scratch
 use mathlib.Core.Path.{_≡_}
 use mathlib.Core.List.{List, [], _∷_, _++_}
 use Prim.Native.Nat.{ℕ, _*_, _<_, _≤_}
@@ -21,16 +22,17 @@ use Rattle.kinds.specs.Kinds.{childOf, childSays}
 use Rattle.kinds.specs.Positions.{Pos}
 use Rattle.kinds.specs.declared.Position.{Position}
 use Rattle.kinds.specs.declared.Reason.{Reason}
-use Rattle.kinds.specs.declared.Reason.the-variants.{BadShapes, ShortScratch, LongPlan}
 use Rattle.term.specs.Terms.{Term, span, flatten}
 use Rattle.folio.specs.Opening.{Lent, Room, OpenOutcome, opened, openedSays}
 use Rattle.folio.specs.Folio.{Meaning, GoodSymbols, Shaped, GoodScore, shapeTerms, answered}
 use Rattle.checks.specs.Again.{subtreeAt}
 use Rattle.checks.specs.declared.Asked.{Asked}
 use Rattle.sections.specs.declared.Places.{Places}
-use Rattle.automaton.specs.PlanWords.{halted, too-long, plan-of}
-use Rattle.plan.specs.Building.{scratchWords, cleared, size, stateNumber, planOf, buildOf, BuildOutcome, refuseBuild}
-use Rattle.plan.specs.declared.Built.the-variants as built
+use Rattle.automaton.specs.Goals.{State}
+use Rattle.automaton.specs.Paper.{Ob, paper}
+use Rattle.automaton.specs.Exploring.{Construction, construction}
+use Rattle.automaton.specs.Progress.{AllMet, OverGoals, OverStates, wordsOf, TooLong, Fits}
+use Rattle.plan.specs.Building.{scratchWords, cleared, buildOf, BuildOutcome, builtSays}
 use Rattle.walk.specs.Starting.{Walk, WalkOutcome, begun, started, walkedSays}
 use Rattle.walk.specs.Stepping.{stepped}
 use Rattle.counting.specs.Counting.{total, matchAt, matchesOf, countedSays}
@@ -51,6 +53,9 @@ use Rattle.sections.specs.Sections.{symbolsAt}
 abbrev pub openTold : OpenOutcome → Told Lent
 openTold o = told (openedSays (o .answer)) (o .tables)
 
+abbrev pub buildTold : BuildOutcome → Told (List ℕ × List ℕ)
+buildTold o = told (builtSays (o .answer)) (o .plan, o .scratch)
+
 abbrev pub walkTold : WalkOutcome → Told Walk
 walkTold o = told (walkedSays (o .answer)) (o .walk)
 
@@ -62,20 +67,27 @@ pub data OpenRow (file : List ℕ) (l : Lent) : Told Lent → Type 0 where
       → OpenRow file l (told (gives (length (symbolsAt file at) ∷ length (m .shapes) ∷ length (gather flatten (m .shapes)) ∷ span (m .score) ∷ [])) (answered (symbolsAt file at) (m .shapes) (m .score) l .tables))
 
 -- ---- building
+module _ (ar ws : List ℕ) where
+  abbrev pub paperOf : Construction (State Ob)
+  paperOf = construction (paper (shapeTerms ar ws))
+
+  abbrev pub wordsFor : List (State Ob) → List ℕ
+  wordsFor ss = wordsOf paperOf ar (length (shapeTerms ar ws)) ss
+
 module _ (ar ws st plan scratch : List ℕ) where
   -- "such as opening writes or accepts"
   abbrev pub GoodShapes : Type 0
   GoodShapes = GoodSymbols ar × Shaped ar ws st
 
-  pub data BuildRow : BuildOutcome → Type 0 where
-    build-19 : (GoodShapes → ⊥) → BuildRow (refuseBuild BadShapes plan scratch)
-    build-23 : GoodShapes → length scratch < scratchWords → BuildRow (refuseBuild ShortScratch plan scratch)
-    build-20-21 : GoodShapes → scratchWords ≤ length scratch → (r : Reason) (i : ℕ) → planOf ar (shapeTerms ar ws) (length plan) ≡ halted r i
-        → BuildRow (record { answer = built.Stopped r (stateNumber i); plan = plan; scratch = cleared scratch })
-    build-22 : GoodShapes → scratchWords ≤ length scratch → planOf ar (shapeTerms ar ws) (length plan) ≡ too-long
-        → BuildRow (record { answer = built.Refused LongPlan; plan = plan; scratch = cleared scratch })
-    builds : GoodShapes → scratchWords ≤ length scratch → (m : ℕ) (w : List ℕ) → planOf ar (shapeTerms ar ws) (length plan) ≡ plan-of m w
-        → BuildRow (record { answer = built.Plan (size m (length w)); plan = sets plan 0 w; scratch = cleared scratch })
+  pub data BuildRow : Told (List ℕ × List ℕ) → Type 0 where
+    build-19 : (GoodShapes → ⊥) → BuildRow (told (refusal 19 0) (plan, scratch))
+    build-23 : GoodShapes → length scratch < scratchWords → BuildRow (told (refusal 23 0) (plan, scratch))
+    build-20 : GoodShapes → scratchWords ≤ length scratch → (i : ℕ) → OverGoals (paperOf ar ws) ar i → BuildRow (told (refusal 20 i) (plan, cleared scratch))
+    build-21 : GoodShapes → scratchWords ≤ length scratch → (i : ℕ) → OverStates (paperOf ar ws) ar i → BuildRow (told (refusal 21 i) (plan, cleared scratch))
+    build-22 : GoodShapes → scratchWords ≤ length scratch → (ss : List (State Ob)) → AllMet (paperOf ar ws) ar ss → TooLong (length plan) (wordsFor ar ws ss)
+        → BuildRow (told (refusal 22 0) (plan, cleared scratch))
+    builds : GoodShapes → scratchWords ≤ length scratch → (ss : List (State Ob)) → AllMet (paperOf ar ws) ar ss → Fits (length plan) (wordsFor ar ws ss)
+        → BuildRow (told (gives (length ss ∷ length (wordsFor ar ws ss) ∷ [])) (sets plan 0 (wordsFor ar ws ss), cleared scratch))
 
 -- ---- starting
 module _ (ar score spans : List ℕ) where
@@ -121,7 +133,7 @@ pub data MatchRow (spans : List ℕ) (x j : ℕ) (buffer : List ℕ) : Told (Lis
 
 pub record Demand1 : Type 0 where
   pub opening : (file : List ℕ) (l : Lent) → Below 256 file → By (OpenRow file l) (openTold (opened file l))
-  pub building : (ar ws st plan scratch : List ℕ) → By (BuildRow ar ws st plan scratch) (buildOf ar ws st plan scratch)
+  pub building : (ar ws st plan scratch : List ℕ) → By (BuildRow ar ws st plan scratch) (buildTold (buildOf ar ws st plan scratch))
   pub starting : (ar score spans : List ℕ) (w : Walk) → Below 65536 score → By (StartRow ar score spans w) (walkTold (started ar score spans w))
   pub stepping : (plan score spans : List ℕ) (i : ℕ) (w : Walk) → By (StepRow plan score spans i w) (walkTold (stepped plan score spans i w))
   pub matches : (ar score spans marks : List ℕ) → Below 65536 score → By (CountRow ar score spans total marks) (countedSays (matchesOf ar score spans marks))
