@@ -3,8 +3,9 @@
 --   Carries                         the map commutes with each part, on the goals that are Right; and what is made of these is Right
 --   AllRight AllRights              of all goals of a state, of states
 --   label-same outputs-same deriv-same classes-same gcp-same lift-same sameState-same   and so with each stage
+--   reach-same                      what is reachable stays so
 --   plan-same                       so the same plan is made, or refused
-use mathlib.Core.Path.{_≡_, refl, ap, ap₂, sym, _∙_}
+use mathlib.Core.Path.{_≡_, refl, ap, ap₂, sym, _∙_, subst}
 use mathlib.Core.Bool.{Bool, true, false, cond, not, _&&_, _||_}
 use mathlib.Core.List.{List, [], _∷_, _++_, map}
 use mathlib.Core.Option.{Option, none, some}
@@ -17,7 +18,7 @@ use Rattle.kinds.specs.Positions.{Pos, before, commonPrefix, strip, code}
 use Rattle.kinds.specs.declared.Reason.{Reason}
 use Rattle.kinds.specs.declared.Reason.the-variants.{ManyGoals, ManyStates}
 use Rattle.kinds.proofs.Bools.{and-l, and-r, eqb-is, ltb-is}
-use Rattle.kinds.proofs.Members.{∈-append, in-filter, on-map, on-gather, same-is}
+use Rattle.kinds.proofs.Members.{∈-append, in-filter, on-map, map-in, on-gather, same-is}
 use Rattle.kinds.specs.Members.{_∈_, here, there}
 use Rattle.kinds.proofs.ListLaws.{map-append, map-map, map-same, filter-map, filter-same, any-map, any-same, all-map, all-same, sort-map, gather-same, map-gather, gather-map, nil-same}
 use Rattle.kinds.proofs.Places.{getD-in}
@@ -26,6 +27,7 @@ use Rattle.automaton.specs.Goals.{Goal, State, Calculus, isRoot, has, fi
 use Rattle.automaton.specs.Classes.{dep, square, closed, picked, rowsFrom, classBefore, classes, gcpFrom, gcp, liftGoal, lift, sameGoal, sameState}
 use Rattle.automaton.specs.Exploring.{construction}
 use Rattle.automaton.specs.PlanWords.{planned}
+use Rattle.automaton.specs.Walking.{Reach, init, next}
 use Rattle.automaton.proofs.Classes.{class-sub, picked-map}
 use Rattle.automaton.proofs.Root.{gcp-below}
 use Rattle.automaton.proofs.Simulation.{Simulates, plan-simulated}
@@ -126,7 +128,7 @@ module _ {O P : Type 0} (K : Calculus O) (J : Calculus P) (h : O → P) (Right :
       c : forgets h C ≡ gather (λ i. J .fresh (p ++ (i ∷ []))) (range 1 n)
       c = map-gather (forget h) (λ i. K .fresh (p ++ (i ∷ []))) (range 1 n) ∙ gather-same _ _ (range 1 n) (λ i m. carries .fresh (p ++ (i ∷ [])))
 
-  pub deriv-right : (s : State O) → AllRight s → (f n : ℕ) → AllRight (deriv K s f n)
+  deriv-right : (s : State O) → AllRight s → (f n : ℕ) → AllRight (deriv K s f n)
   deriv-right s r f n g m = ⊎-elim old (λ i. ⊎-elim less new (∈-append (filter (λ x. not (isNil (x .obs))) (met K s f n)) i)) (∈-append (filter (λ x. not (has K (label K s) (x .obs))) s) m)
     where
       old : g ∈ filter (λ x. not (has K (label K s) (x .obs))) s → Right g
@@ -172,8 +174,18 @@ module _ {O P : Type 0} (K : Calculus O) (J : Calculus P) (h : O → P) (Right :
       one g = ap (λ os. record { shape = g .shape; ann = strip (gcp k) (g .ann); obs = os })
           (map-map h (K .lifted (gcp k)) (g .obs) ∙ map-same _ _ (g .obs) (λ o m. carries .lifted (gcp k) o) ∙ sym (map-map (J .lifted (gcp k)) h (g .obs)))
 
-  pub lift-right : (k : State O) → AllRight k → AllRight (lift K k)
+  lift-right : (k : State O) → AllRight k → AllRight (lift K k)
   lift-right k r g m = on-map (liftGoal K (gcp k)) k m λ y i e. rw e (carries .lifted-right (gcp k) y (gcp-below k y i) (r y i))
+
+  -- what is reachable
+  pub reach-same : (ar : List ℕ) {s : State O} → Reach K ar s → AllRight s × Reach J ar (forgets h s)
+  reach-same ar init = (carries .fresh-right [], subst (Reach J ar) (sym (carries .fresh [])) init)
+  reach-same ar (next {s} {k} f n r a m) =
+      let ih = reach-same ar r in
+      let right : AllRight k = λ g i. deriv-right s (ih .0) f n g (class-sub K (deriv K s f n) k m g i) in
+      let e : map (forgets h) (classes K (deriv K s f n)) ≡ classes J (deriv J (forgets h s) f n) = classes-same (deriv K s f n) ∙ ap (classes J) (deriv-same s (ih .0) f n) in
+      let inside : forgets h k ∈ classes J (deriv J (forgets h s) f n) = subst (λ l. forgets h k ∈ l) e (map-in (forgets h) m) in
+      (lift-right k right, subst (Reach J ar) (sym (lift-same k)) (next f n (ih .1) a inside))
 
   -- ---- equality of states
   inside-same : (g g′ : Goal O) → Right g → Right g′ → g .shape ≡ g′ .shape → g .ann ≡ g′ .ann

@@ -11,7 +11,7 @@
 use mathlib.Core.Path.{_≡_, refl, ap, sym, _∙_, subst}
 use mathlib.Core.Bool.{Bool, true, false, cond}
 use mathlib.Core.List.{List, [], _∷_, map}
-use mathlib.Core.Logic.{_↔_, ⊎-elim, inl, inr}
+use mathlib.Core.Logic.{_↔_, ⊎-elim}
 use mathlib.Core.Option.{some}
 use Prim.Native.Nat.{ℕ, zero, suc, _+_, _<_}
 use native.Mathlib.Omega.{arith}
@@ -32,12 +32,12 @@ use Rattle.automaton.specs.Classes.{Square, leads, rowsFrom, picked, dep
 use Rattle.automaton.specs.Paper.{Ob, paper}
 use Rattle.automaton.specs.Exploring.{construction, Block, made, explored}
 use Rattle.automaton.specs.Parted.{SameAnnouncement, Once, FirstOf, OneClass, Parted}
-use Rattle.automaton.specs.Walking.{Setting, Reach, init, next, calculus, Reachable}
+use Rattle.automaton.specs.Walking.{Setting, Reach, calculus, Reachable}
 use Rattle.automaton.proofs.ClassOrder.{classes-in-order}
 use Rattle.automaton.proofs.Classes.{pairwise-picked, on-row, Class, class-is, class-sub, class-at, class-has, class-some, class-unique, class-of}
 use Rattle.automaton.proofs.Closure.{dep-sym, direct, dependent-join, dependent-sym, dependent-closed}
 use Rattle.automaton.proofs.Derivative.{first-in}
-use Rattle.automaton.proofs.Forget.{forget, forgets, AllRight, deriv-same, deriv-right, classes-same, lift-same, lift-right}
+use Rattle.automaton.proofs.Forget.{forget, forgets, AllRight, deriv-same, reach-same}
 use Rattle.automaton.proofs.Numbered.{numbered}
 use Rattle.automaton.proofs.Reachable.{reachable-sound, deriv-sound}
 use Rattle.automaton.proofs.SamePlan.{position, Right, carries, alike-refl}
@@ -55,14 +55,18 @@ module _ {A : Type 0} (R : A → A → Type 0) where
   pairwise-back f [] a = tt
   pairwise-back f (x ∷ xs) a = (λ y m. a .0 (f y) (map-in f m), pairwise-back f xs (a .1))
 
-  pub pairwise-both : (Q T : A → A → Type 0) (xs : List A) → ((x y : A) → x ∈ xs → y ∈ xs → R x y → Q x y → T x y) → Pairwise R xs → Pairwise Q xs → Pairwise T xs
+  pub pairwise-both : (Q T : A → A → Type 0) (xs : List A) → ((x y : A) → x ∈ xs → y ∈ xs → R x y → Q x y → T x y) → Pairwise R xs → Pairwise Q xs
+      → Pairwise T xs
   pairwise-both Q T [] h a b = tt
-  pairwise-both Q T (x ∷ xs) h a b = (λ y m. h x y (here refl) (there m) (a .0 y m) (b .0 y m), pairwise-both Q T xs (λ u v i j. h u v (there i) (there j)) (a .1) (b .1))
+  pairwise-both Q T (x ∷ xs) h a b =
+      (λ y m. h x y (here refl) (there m) (a .0 y m) (b .0 y m), pairwise-both Q T xs (λ u v i j. h u v (there i) (there j)) (a .1) (b .1))
 
 rows-pairwise : (R : List Bool → List Bool → Type 0) (m : Square) (i : ℕ)
-    → ((k l : ℕ) (x y : List Bool) → k < l → getElem? m k ≡ some x → leads (i + k) x ≡ true → getElem? m l ≡ some y → leads (i + l) y ≡ true → R x y) → Pairwise R (rowsFrom i m)
+    → ((k l : ℕ) (x y : List Bool) → k < l → getElem? m k ≡ some x → leads (i + k) x ≡ true → getElem? m l ≡ some y → leads (i + l) y ≡ true → R x y)
+    → Pairwise R (rowsFrom i m)
 rows-pairwise R [] i h = tt
-rows-pairwise R (x ∷ m) i h = go (leads i x) refl (rows-pairwise R m (suc i) (λ k l a b u e t d v. h (suc k) (suc l) a b (omega arith) e (rw (shift k) at t) d (rw (shift l) at v)))
+rows-pairwise R (x ∷ m) i h =
+    go (leads i x) refl (rows-pairwise R m (suc i) (λ k l a b u e t d v. h (suc k) (suc l) a b (omega arith) e (rw (shift k) at t) d (rw (shift l) at v)))
   where
     shift : (c : ℕ) → suc i + c ≡ i + suc c
     shift c = omega arith
@@ -110,7 +114,8 @@ module _ {O : Type 0} (K : Calculus O) where
         (pairwise-map (λ x y. Apart (picked x d) (picked y d)) Apart (λ r. picked r d) (rowsFrom 0 (closed K d)) (λ x y i j a. a)
         (rows-pairwise (λ x y. Apart (picked x d) (picked y d)) (closed K d) 0 two))
       where
-        two : (k l : ℕ) (x y : List Bool) → k < l → getElem? (closed K d) k ≡ some x → leads (0 + k) x ≡ true → getElem? (closed K d) l ≡ some y → leads (0 + l) y ≡ true
+        two : (k l : ℕ) (x y : List Bool) → k < l → getElem? (closed K d) k ≡ some x → leads (0 + k) x ≡ true → getElem? (closed K d) l ≡ some y
+            → leads (0 + l) y ≡ true
             → Apart (picked x d) (picked y d)
         two k l x y u e t e′ t′ g h i j s =
             let c : Class K d (picked x d) = record { lead = k; row = x; is-row = e; begins = rw zero-add at t; is = refl } in
@@ -148,7 +153,8 @@ module _ {O : Type 0} (K : Calculus O) where
       leads-to : (k : State O) (c : Class K d k) (i : ℕ) (g : Goal O) → getElem? d i ≡ some g → g ∈ k → Dependent K d (c .lead) i
       leads-to k c i g a m = class-at K d k c m λ j b e. dependent-join K d e (direct K d b a (self g (at-in d i a)))
 
-      together : (k : State O) → k ∈ classes K d → (i j : ℕ) (g h : Goal O) → getElem? d i ≡ some g → getElem? d j ≡ some h → g ∈ k → (h ∈ k) ↔ Dependent K d i j
+      together : (k : State O) → k ∈ classes K d → (i j : ℕ) (g h : Goal O) → getElem? d i ≡ some g → getElem? d j ≡ some h → g ∈ k
+          → (h ∈ k) ↔ Dependent K d i j
       together k m i j g h a b gk =
           let c = class-is K d k m in
           let to = leads-to k c i g a gk in
@@ -159,7 +165,8 @@ module _ {O : Type 0} (K : Calculus O) where
           on-in m λ j a.
           class-of K d j (direct K d a a (self g m)) λ k c i e.
           on-in i λ n at.
-          record { number = n; part = k; is = at; inside = class-has K d k c j a e; only = λ c′ k′ at′ gk′. only n c′ k k′ at at′ (class-has K d k c j a e) gk′ }
+          let gk = class-has K d k c j a e in
+          record { number = n; part = k; is = at; inside = gk; only = λ c′ k′ at′ gk′. only n c′ k k′ at at′ gk gk′ }
         where
           only : (n c : ℕ) (k k′ : State O) → getElem? (classes K d) n ≡ some k → getElem? (classes K d) c ≡ some k′ → g ∈ k → g ∈ k′ → c ≡ n
           only n c k k′ at at′ gk gk′ = go (order c n)
@@ -177,7 +184,8 @@ module _ {O : Type 0} (K : Calculus O) where
         one-class = one-class;
         some-goal = λ k m. class-some K d k (class-is K d k m);
         first-is = firsts;
-        in-order = pairwise-both Apart (λ a b. before (first K (allObs b)) (first K (allObs a)) ≡ false) _ (classes K d) strict classes-apart (classes-in-order K d);
+        in-order =
+            pairwise-both Apart (λ a b. before (first K (allObs b)) (first K (allObs a)) ≡ false) _ (classes K d) strict classes-apart (classes-in-order K d);
         once = once;
         once-in = λ k m. let c = class-is K d k m in rw (c .is) (pairwise-picked (λ g h. SameAnnouncement g h → ⊥) (c .row) d once);
       }
@@ -194,15 +202,7 @@ module _ (S : Setting) where
   Rights s = AllRight P J position (Right (S .shapes)) (carries (S .shapes)) s
 
   pub reach-carried : {s : State Ob} → Reach P (S .counts) s → Rights s × Reachable S (forgets position s)
-  reach-carried init = (carries (S .shapes) .fresh-right [], subst (Reach J (S .counts)) (sym (carries (S .shapes) .fresh [])) init)
-  reach-carried (next {s} {k} f n r a m) =
-      let ih = reach-carried r in
-      let c = carries (S .shapes) in
-      let right : Rights k = λ g i. deriv-right P J position (Right (S .shapes)) c s (ih .0) f n g (class-sub P (deriv P s f n) k m g i) in
-      let same-classes = classes-same P J position (Right (S .shapes)) c (deriv P s f n) ∙ ap (classes J) (deriv-same P J position (Right (S .shapes)) c s (ih .0) f n) in (
-        lift-right P J position (Right (S .shapes)) c k right,
-        subst (Reach J (S .counts)) (sym (lift-same P J position (Right (S .shapes)) c k)) (next f n (ih .1) a (subst (λ l. forgets position k ∈ l) same-classes (map-in (forgets position) m))),
-      )
+  reach-carried r = reach-same P J position (Right (S .shapes)) (carries (S .shapes)) (S .counts) r
 
   module _ {s : State Ob} (r : Reach P (S .counts) s) where
     sound : SoundState S (forgets position s)

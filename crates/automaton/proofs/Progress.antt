@@ -24,9 +24,10 @@ use Rattle.kinds.specs.declared.Reason.the-variants.{ManyGoals, ManyStates}
 use Rattle.kinds.proofs.Bools.{is-ltb, ltb-is, ltb-not, is-leb, leb-is, ltb-irrefl, not-true, false-true, or-l, or-r, neither}
 use Rattle.kinds.proofs.Options.{none-not}
 use Rattle.kinds.proofs.Places.{at-below, at-in, at-left, at-getD, getD-at, find-at, find-none}
-use Rattle.automaton.specs.Exploring.{Construction, Succ, Block, Met, stopped, met, Made, refused, made, andThen, thenBlock, thenMore, numbered, meet, meets, row, run, explored}
+use Rattle.automaton.specs.Exploring.{Construction, Succ, Block, Met, stopped, met, Made, refused, made}
+use Rattle.automaton.specs.Exploring.{andThen, thenBlock, thenMore, meet, meets, row, run, explored}
 use Rattle.automaton.specs.FinalBlocks.{allBlocks}
-use Rattle.automaton.specs.PlanWords.{Plan, halted, too-long, plan-of, planWords, toPlan, planned}
+use Rattle.automaton.specs.PlanWords.{Plan, halted, too-long, plan-of, toPlan, planned}
 use Rattle.automaton.specs.Progress.{Known, New, ClassAt, Reached, AllMet, OverGoals, OverStates, wordsOf, TooLong, Fits}
 use Rattle.automaton.specs.Progress as progress
 use Rattle.automaton.proofs.BlocksAgain.{blocks-again}
@@ -70,7 +71,8 @@ module _ {S : Type 0} (C : Construction S) where
     meet-full h n l = rw (small h, find-absent (C .same (C .lift k)) ss 0 n, is-leb 128 (length ss) (omega arith))
 
     pub meet-new : C .size k ≤ 32 → New C ss k → length ss < 128 → meet C ss k ≡ met (ss ++ (C .lift k ∷ [])) (record { to = length ss; by = C .gcp k } ∷ [])
-    meet-new h n l = rw (small h, find-absent (C .same (C .lift k)) ss 0 n, not-true (leb 128 (length ss)) (λ e. let z = leb-is 128 (length ss) e in omega arith))
+    meet-new h n l =
+        rw (small h, find-absent (C .same (C .lift k)) ss 0 n, not-true (leb 128 (length ss)) (λ e. let z = leb-is 128 (length ss) e in omega arith))
 
     pub meet-known : C .size k ≤ 32 → Known C ss k → (xs : List Succ) × (meet C ss k ≡ met ss xs)
     meet-known h n = let j = find-some (C .same (C .lift k)) ss 0 (n .met) (n .equal) in (record { to = j .0; by = C .gcp k } ∷ [], rw (small h, j .1))
@@ -126,7 +128,8 @@ module _ {S : Type 0} (C : Construction S) where
       at-symbol : {f : ℕ} (s : S) → getElem? ss i ≡ some s → OnSymbol ss i f s → Rest ss i f 0
       at-class : {f c : ℕ} (s : S) (n : ℕ) → getElem? ss i ≡ some s → getElem? ar f ≡ some n → OnClass ss i f c s n → Rest ss i f c
 
-    state-on : (ss : List S) (i : ℕ) (s : S) (fuel : ℕ) (bs : List Block) → length ss ≤ 128 → getElem? ss i ≡ some s → fuel + i ≡ 128 → explored C ar ≡ run C ar fuel i ss bs → OnSymbol ss i 0 s
+    state-on : (ss : List S) (i : ℕ) (s : S) (fuel : ℕ) (bs : List Block) → length ss ≤ 128 → getElem? ss i ≡ some s → fuel + i ≡ 128
+        → explored C ar ≡ run C ar fuel i ss bs → OnSymbol ss i 0 s
     state-on ss i s zero bs l a fi e = let h = at-below ss i a in absurd (omega arith)
     state-on ss i s (suc fuel) bs l a fi e =
         let h = at-below ss i a in
@@ -142,7 +145,8 @@ module _ {S : Type 0} (C : Construction S) where
           ∙ ap (λ m. onward (o .fuel) i (fromClass i s f n (o .blocks) m)) (sym (after-none (meets C ss (C .classes s f n))));
     }
 
-    to-class : {ss : List S} {i f c : ℕ} → length ss ≤ 128 → Rest ss i f c → (s : S) (n : ℕ) → getElem? ss i ≡ some s → getElem? ar f ≡ some n → OnClass ss i f c s n
+    to-class : {ss : List S} {i f c : ℕ} → length ss ≤ 128 → Rest ss i f c → (s : S) (n : ℕ) → getElem? ss i ≡ some s → getElem? ar f ≡ some n
+        → OnClass ss i f c s n
     to-class {ss} {i} l (at-state fuel bs fi e) s n a b = symbol-on ss i 0 s n b (state-on ss i s fuel bs l a fi e)
     to-class {ss} {i} l (at-symbol {f} s′ a′ o) s n a b = let z : s′ ≡ s = cc in symbol-on ss i f s n b (rw z at o)
     to-class {ss} {i} l (at-class {f} {c} s′ n′ a′ b′ o) s n a b =
@@ -150,28 +154,36 @@ module _ {S : Type 0} (C : Construction S) where
         let y : n′ ≡ n = cc in
         rw (z, y) at o
 
-    class-on : {ss : List S} {i f c : ℕ} (s : S) (n : ℕ) (k : S) (ss′ : List S) (zs : List Succ) → getElem? (C .classes s f n) c ≡ some k → meet C ss k ≡ met ss′ zs → OnClass ss i f c s n → OnClass ss′ i f (suc c) s n
+    from-class : {ss : List S} {i f c : ℕ} {k : S} → length ss ≤ 128 → Rest ss i f c → (a : ClassAt C ar ss i f c k) → OnClass ss i f c (a .state) (a .children)
+    from-class l x a = to-class l x (a .state) (a .children) (a .state-is) (a .children-are)
+
+    class-on : {ss : List S} {i f c : ℕ} (s : S) (n : ℕ) (k : S) (ss′ : List S) (zs : List Succ) → getElem? (C .classes s f n) c ≡ some k
+        → meet C ss k ≡ met ss′ zs → OnClass ss i f c s n → OnClass ss′ i f (suc c) s n
     class-on {ss} {i} {f} {c} s n k ss′ zs a e o = record {
       fuel = o .fuel;
       blocks = o .blocks;
       succs = o .succs ++ zs;
       left = o .left;
       is = o .is ∙ ap (λ m. onward (o .fuel) i (fromClass i s f n (o .blocks) m))
-          (ap (λ l. after (o .succs) (meets C ss l)) (drop-at (C .classes s f n) c a) ∙ ap (after (o .succs)) (meets-on ss k (drop (suc c) (C .classes s f n)) ss′ zs e)
+          (ap (λ l. after (o .succs) (meets C ss l)) (drop-at (C .classes s f n) c a)
+          ∙ ap (after (o .succs)) (meets-on ss k (drop (suc c) (C .classes s f n)) ss′ zs e)
           ∙ after-after (o .succs) zs (meets C ss′ (drop (suc c) (C .classes s f n))));
     }
 
-    class-stop : {ss : List S} {i f c : ℕ} (s : S) (n : ℕ) (k : S) (r : Reason) → getElem? (C .classes s f n) c ≡ some k → meet C ss k ≡ stopped r → OnClass ss i f c s n → explored C ar ≡ refused r i
+    class-stop : {ss : List S} {i f c : ℕ} (s : S) (n : ℕ) (k : S) (r : Reason) → getElem? (C .classes s f n) c ≡ some k → meet C ss k ≡ stopped r
+        → OnClass ss i f c s n → explored C ar ≡ refused r i
     class-stop {ss} {i} {f} {c} s n k r a e o =
         o .is ∙ ap (λ m. onward (o .fuel) i (fromClass i s f n (o .blocks) m))
-        (ap (λ l. after (o .succs) (meets C ss l)) (drop-at (C .classes s f n) c a) ∙ ap (after (o .succs)) (meets-stop ss k (drop (suc c) (C .classes s f n)) r e))
+        (ap (λ l. after (o .succs) (meets C ss l)) (drop-at (C .classes s f n) c a)
+        ∙ ap (after (o .succs)) (meets-stop ss k (drop (suc c) (C .classes s f n)) r e))
 
     class-end : {ss : List S} {i f c : ℕ} (s : S) (n : ℕ) → c ≡ length (C .classes s f n) → OnClass ss i f c s n → OnSymbol ss i (suc f) s
     class-end {ss} {i} {f} {c} s n e o = record {
       fuel = o .fuel;
       blocks = o .blocks ++ (record { out = C .outputs s f n; succs = o .succs ++ [] } ∷ []);
       left = o .left;
-      is = o .is ∙ ap (λ l. onward (o .fuel) i (fromClass i s f n (o .blocks) (after (o .succs) (meets C ss l)))) (ap (λ x. drop x (C .classes s f n)) e ∙ drop-all (C .classes s f n));
+      is = o .is ∙ ap (λ l. onward (o .fuel) i (fromClass i s f n (o .blocks) (after (o .succs) (meets C ss l))))
+          (ap (λ x. drop x (C .classes s f n)) e ∙ drop-all (C .classes s f n));
     }
 
     symbol-end : {ss : List S} {i f : ℕ} (s : S) → f ≡ length ar → OnSymbol ss i f s → Rest ss (suc i) 0 0
@@ -179,7 +191,9 @@ module _ {S : Type 0} (C : Construction S) where
         (o .is ∙ ap (λ l. onward (o .fuel) i (row C i s f l ss (o .blocks))) (ap (λ x. drop x ar) e ∙ drop-all ar))
 
     next-rest : {ss : List S} {i f : ℕ} → length ss ≤ 128 → i < length ss → f ≡ length ar → Rest ss i f 0 → Rest ss (suc i) 0 0
-    next-rest {ss} {i} l h e (at-state fuel bs fi d) = let s = getD ss i (C .start) in symbol-end s e (state-on ss i s fuel bs l (at-getD ss i (C .start) h) fi d)
+    next-rest {ss} {i} l h e (at-state fuel bs fi d) =
+        let s = getD ss i (C .start) in
+        symbol-end s e (state-on ss i s fuel bs l (at-getD ss i (C .start) h) fi d)
     next-rest l h e (at-symbol s a o) = symbol-end s e o
     next-rest l h e (at-class {f} s n a b o) = let z = at-below ar f b in absurd (omega arith)
 
@@ -188,23 +202,23 @@ module _ {S : Type 0} (C : Construction S) where
     rest (progress.known {ss} k r a h n) =
         let m = meet-known ss k h n in
         at-class (a .state) (a .children) (a .state-is) (a .children-are)
-        (class-on (a .state) (a .children) k ss (m .0) (a .class-is) (m .1) (to-class (few r) (rest r) (a .state) (a .children) (a .state-is) (a .children-are)))
+        (class-on (a .state) (a .children) k ss (m .0) (a .class-is) (m .1) (from-class (few r) (rest r) a))
     rest (progress.new {ss} {i} k r a h n l) =
         at-class (a .state) (a .children) (at-left ss (C .lift k ∷ []) i (a .state-is)) (a .children-are)
-        (class-on (a .state) (a .children) k (ss ++ (C .lift k ∷ [])) _ (a .class-is) (meet-new ss k h n l) (to-class (few r) (rest r) (a .state) (a .children) (a .state-is) (a .children-are)))
+        (class-on (a .state) (a .children) k (ss ++ (C .lift k ∷ [])) _ (a .class-is) (meet-new ss k h n l) (from-class (few r) (rest r) a))
     rest (progress.next-symbol s n r a b e) = at-symbol s a (class-end s n e (to-class (few r) (rest r) s n a b))
     rest (progress.next-state r l e) = next-rest (few r) l e (rest r)
 
     pub over-goals : (i : ℕ) → OverGoals C ar i → explored C ar ≡ refused ManyGoals i
     over-goals i o =
         let a = o .is in
-        class-stop (a .state) (a .children) (o .part) ManyGoals (a .class-is) (meet-over (o .states) (o .part) (o .over)) (to-class (few (o .reached)) (rest (o .reached)) (a .state) (a .children) (a .state-is) (a .children-are))
+        class-stop (a .state) (a .children) (o .part) ManyGoals (a .class-is) (meet-over (o .states) (o .part) (o .over)) (from-class (few (o .reached)) (rest (o .reached)) a)
 
     pub over-states : (i : ℕ) → OverStates C ar i → explored C ar ≡ refused ManyStates i
     over-states i o =
         let a = o .is in
         class-stop (a .state) (a .children) (o .part) ManyStates (a .class-is) (meet-full (o .states) (o .part) (o .few) (o .is-new) (o .full))
-        (to-class (few (o .reached)) (rest (o .reached)) (a .state) (a .children) (a .state-is) (a .children-are))
+        (from-class (few (o .reached)) (rest (o .reached)) a)
 
     pub all-met : (ss : List S) → AllMet C ar ss → (bs : List Block) × (explored C ar ≡ made ss bs)
     all-met ss r = go (rest r)
@@ -226,32 +240,43 @@ module _ {S : Type 0} (C : Construction S) where
 
     data MeetsEnd (i : ℕ) (s : S) (f n : ℕ) : Met S → Type 0 where
       meets-halt : {r : Reason} → Ends (refused r i) → MeetsEnd i s f n (stopped r)
-      meets-done : {ss : List S} {xs : List Succ} {c : ℕ} → c ≡ length (C .classes s f n) → Reached C ar ss i f c → getElem? ss i ≡ some s → MeetsEnd i s f n (met ss xs)
+      meets-done : {ss : List S} {xs : List Succ} {c : ℕ} → c ≡ length (C .classes s f n) → Reached C ar ss i f c → getElem? ss i ≡ some s
+          → MeetsEnd i s f n (met ss xs)
 
     meets-after : {i : ℕ} {s : S} {f n : ℕ} (zs : List Succ) {m : Met S} → MeetsEnd i s f n m → MeetsEnd i s f n (after zs m)
     meets-after zs (meets-halt e) = meets-halt e
     meets-after zs (meets-done e r a) = meets-done e r a
 
-    meets-end : (i : ℕ) (s : S) (f n : ℕ) → getElem? ar f ≡ some n → (ks pre : List S) (c : ℕ) (ss : List S) → c ≡ length pre → C .classes s f n ≡ pre ++ ks → Reached C ar ss i f c → getElem? ss i ≡ some s → MeetsEnd i s f n (meets C ss ks)
+    meets-end : (i : ℕ) (s : S) (f n : ℕ) → getElem? ar f ≡ some n → (ks pre : List S) (c : ℕ) (ss : List S) → c ≡ length pre
+        → C .classes s f n ≡ pre ++ ks → Reached C ar ss i f c → getElem? ss i ≡ some s → MeetsEnd i s f n (meets C ss ks)
     meets-end i s f n b [] pre c ss ec e r a = meets-done (ec ∙ ap length (sym (e ∙ append-nil pre))) r a
     meets-end i s f n b (k ∷ ks) pre c ss ec e r a =
-        goals (decLt 32 (C .size k)) (λ ss′ r′ a′. meets-end i s f n b ks (pre ++ (k ∷ [])) (suc c) ss′ (let z = length-append pre (k ∷ []) in omega arith) (e ∙ sym (append-assoc pre (k ∷ []) ks)) r′ a′)
+        let z = length-append pre (k ∷ []) in
+        goals (decLt 32 (C .size k)) (λ ss′ r′ a′. meets-end i s f n b ks (pre ++ (k ∷ [])) (suc c) ss′ (omega arith) (e ∙ sym (append-assoc pre (k ∷ []) ks)) r′ a′)
       where
         at : ClassAt C ar ss i f c k
-        at = record { state = s; children = n; state-is = a; children-are = b; class-is = ap (λ l. getElem? l c) e ∙ ap (getElem? (pre ++ (k ∷ ks))) ec ∙ at-middle pre k ks }
+        at =
+            let here-is = ap (λ l. getElem? l c) e ∙ ap (getElem? (pre ++ (k ∷ ks))) ec ∙ at-middle pre k ks in
+            record { state = s; children = n; state-is = a; children-are = b; class-is = here-is }
 
         on : (ss′ : List S) (zs : List Succ) → meet C ss k ≡ met ss′ zs → MeetsEnd i s f n (meets C ss′ ks) → MeetsEnd i s f n (meets C ss (k ∷ ks))
         on ss′ zs d m = rw (meets-on ss k ks ss′ zs d) (meets-after zs m)
 
-        states : C .size k ≤ 32 → New C ss k → Dec (length ss < 128) → ((ss′ : List S) → Reached C ar ss′ i f (suc c) → getElem? ss′ i ≡ some s → MeetsEnd i s f n (meets C ss′ ks)) → MeetsEnd i s f n (meets C ss (k ∷ ks))
-        states h w (yes l) ih = on (ss ++ (C .lift k ∷ [])) _ (meet-new ss k h w l) (ih (ss ++ (C .lift k ∷ [])) (progress.new k r at h w l) (at-left ss (C .lift k ∷ []) i a))
+        states : C .size k ≤ 32 → New C ss k → Dec (length ss < 128)
+            → ((ss′ : List S) → Reached C ar ss′ i f (suc c) → getElem? ss′ i ≡ some s → MeetsEnd i s f n (meets C ss′ ks))
+            → MeetsEnd i s f n (meets C ss (k ∷ ks))
+        states h w (yes l) ih =
+            on (ss ++ (C .lift k ∷ [])) _ (meet-new ss k h w l)
+            (ih (ss ++ (C .lift k ∷ [])) (progress.new k r at h w l) (at-left ss (C .lift k ∷ []) i a))
         states h w (no l) ih =
             let z = few r in
             let full : length ss ≡ 128 = omega arith in
             rw (meets-stop ss k ks ManyStates (meet-full ss k h w full))
             (meets-halt (at-states (record { states = ss; symbol = f; number = c; part = k; reached = r; is = at; few = h; is-new = w; full = full })))
 
-        placed : C .size k ≤ 32 → (o : Option ℕ) → find (C .same (C .lift k)) ss 0 ≡ o → ((ss′ : List S) → Reached C ar ss′ i f (suc c) → getElem? ss′ i ≡ some s → MeetsEnd i s f n (meets C ss′ ks)) → MeetsEnd i s f n (meets C ss (k ∷ ks))
+        placed : C .size k ≤ 32 → (o : Option ℕ) → find (C .same (C .lift k)) ss 0 ≡ o
+            → ((ss′ : List S) → Reached C ar ss′ i f (suc c) → getElem? ss′ i ≡ some s → MeetsEnd i s f n (meets C ss′ ks))
+            → MeetsEnd i s f n (meets C ss (k ∷ ks))
         placed h none d ih = states h (find-none (C .same (C .lift k)) ss 0 d) (decLt (length ss) 128) ih
         placed h (some j) d ih =
             let t = find-at (C .same (C .lift k)) ss 0 j d in
@@ -259,7 +284,8 @@ module _ {S : Type 0} (C : Construction S) where
             let m = meet-known ss k h w in
             on ss (m .0) (m .1) (ih ss (progress.known k r at h w) a)
 
-        goals : Dec (32 < C .size k) → ((ss′ : List S) → Reached C ar ss′ i f (suc c) → getElem? ss′ i ≡ some s → MeetsEnd i s f n (meets C ss′ ks)) → MeetsEnd i s f n (meets C ss (k ∷ ks))
+        goals : Dec (32 < C .size k) → ((ss′ : List S) → Reached C ar ss′ i f (suc c) → getElem? ss′ i ≡ some s → MeetsEnd i s f n (meets C ss′ ks))
+            → MeetsEnd i s f n (meets C ss (k ∷ ks))
         goals (yes h) ih =
             rw (meets-stop ss k ks ManyGoals (meet-over ss k h))
             (meets-halt (at-goals (record { states = ss; symbol = f; number = c; part = k; reached = r; is = at; over = h })))
@@ -269,29 +295,38 @@ module _ {S : Type 0} (C : Construction S) where
       row-halt : {r : Reason} → Ends (refused r i) → RowEnd i (refused r i)
       row-done : {ss : List S} {bs : List Block} {f : ℕ} → f ≡ length ar → Reached C ar ss i f 0 → i < length ss → RowEnd i (made ss bs)
 
-    row-end : (i : ℕ) (s : S) (ns pre : List ℕ) (f : ℕ) (ss : List S) (bs : List Block) → f ≡ length pre → ar ≡ pre ++ ns → Reached C ar ss i f 0 → getElem? ss i ≡ some s → RowEnd i (row C i s f ns ss bs)
+    row-end : (i : ℕ) (s : S) (ns pre : List ℕ) (f : ℕ) (ss : List S) (bs : List Block) → f ≡ length pre → ar ≡ pre ++ ns → Reached C ar ss i f 0
+        → getElem? ss i ≡ some s → RowEnd i (row C i s f ns ss bs)
     row-end i s [] pre f ss bs ef e r a = row-done (ef ∙ ap length (sym (e ∙ append-nil pre))) r (at-below ss i a)
     row-end i s (n ∷ ns) pre f ss bs ef e r a =
         go (meets-end i s f n b (C .classes s f n) [] 0 ss refl refl r a)
-        (λ ss₁ bs₁ r₁ a₁. row-end i s ns (pre ++ (n ∷ [])) (suc f) ss₁ bs₁ (let z = length-append pre (n ∷ []) in omega arith) (e ∙ sym (append-assoc pre (n ∷ []) ns)) r₁ a₁)
+        (λ ss₁ bs₁ r₁ a₁. row-end i s ns (pre ++ (n ∷ [])) (suc f) ss₁ bs₁ (longer f ef) (e ∙ sym (append-assoc pre (n ∷ []) ns)) r₁ a₁)
       where
+        longer : (f : ℕ) → f ≡ length pre → suc f ≡ length (pre ++ (n ∷ []))
+        longer f d = let z = length-append pre (n ∷ []) in omega arith
+
         b : getElem? ar f ≡ some n
         b = ap (λ l. getElem? l f) e ∙ ap (getElem? (pre ++ (n ∷ ns))) ef ∙ at-middle pre n ns
 
-        go : {m : Met S} → MeetsEnd i s f n m → ((ss₁ : List S) (bs₁ : List Block) → Reached C ar ss₁ i (suc f) 0 → getElem? ss₁ i ≡ some s → RowEnd i (row C i s (suc f) ns ss₁ bs₁))
+        go : {m : Met S} → MeetsEnd i s f n m
+            → ((ss₁ : List S) (bs₁ : List Block) → Reached C ar ss₁ i (suc f) 0 → getElem? ss₁ i ≡ some s → RowEnd i (row C i s (suc f) ns ss₁ bs₁))
             → RowEnd i (thenBlock i (C .outputs s f n) bs m (λ ss₁ bs₁. row C i s (suc f) ns ss₁ bs₁))
         go (meets-halt d) ih = row-halt d
-        go (meets-done {ss = ss₁} {xs = xs} d r₁ a₁) ih = ih ss₁ (bs ++ (record { out = C .outputs s f n; succs = xs } ∷ [])) (progress.next-symbol s n r₁ a₁ b d) a₁
+        go (meets-done {ss = ss₁} {xs = xs} d r₁ a₁) ih =
+            ih ss₁ (bs ++ (record { out = C .outputs s f n; succs = xs } ∷ [])) (progress.next-symbol s n r₁ a₁ b d) a₁
 
     run-end : (fuel i : ℕ) (ss : List S) (bs : List Block) → fuel + i ≡ 128 → Reached C ar ss i 0 0 → i ≤ length ss → Ends (run C ar fuel i ss bs)
     run-end zero i ss bs fi r l = let z = few r in let e : i ≡ length ss = omega arith in at-end (rw e at r)
     run-end (suc fuel) i ss bs fi r l = go (ltb i (length ss)) refl (λ ss₁ bs₁ r₁ l₁. run-end fuel (suc i) ss₁ bs₁ (omega arith) r₁ l₁)
       where
-        more : {m : Made S} → RowEnd i m → ((ss₁ : List S) (bs₁ : List Block) → Reached C ar ss₁ (suc i) 0 0 → suc i ≤ length ss₁ → Ends (run C ar fuel (suc i) ss₁ bs₁)) → Ends (thenMore m (λ ss₁ bs₁. run C ar fuel (suc i) ss₁ bs₁))
+        more : {m : Made S} → RowEnd i m
+            → ((ss₁ : List S) (bs₁ : List Block) → Reached C ar ss₁ (suc i) 0 0 → suc i ≤ length ss₁ → Ends (run C ar fuel (suc i) ss₁ bs₁))
+            → Ends (thenMore m (λ ss₁ bs₁. run C ar fuel (suc i) ss₁ bs₁))
         more (row-halt d) ih = d
         more (row-done {ss = ss₁} {bs = bs₁} e r₁ h) ih = ih ss₁ bs₁ (progress.next-state r₁ h e) h
 
-        go : (b : Bool) → ltb i (length ss) ≡ b → ((ss₁ : List S) (bs₁ : List Block) → Reached C ar ss₁ (suc i) 0 0 → suc i ≤ length ss₁ → Ends (run C ar fuel (suc i) ss₁ bs₁))
+        go : (b : Bool) → ltb i (length ss) ≡ b
+            → ((ss₁ : List S) (bs₁ : List Block) → Reached C ar ss₁ (suc i) 0 0 → suc i ≤ length ss₁ → Ends (run C ar fuel (suc i) ss₁ bs₁))
             → Ends (cond b (thenMore (row C i (getD ss i (C .start)) 0 ar ss bs) (λ ss₁ bs₁. run C ar fuel (suc i) ss₁ bs₁)) (made ss bs))
         go true e ih = more (row-end i (getD ss i (C .start)) ar [] 0 ss bs refl refl r (at-getD ss i (C .start) (ltb-is i (length ss) e))) ih
         go false e ih = let h = ltb-not i (length ss) e in let z : i ≡ length ss = omega arith in at-end (rw z at r)

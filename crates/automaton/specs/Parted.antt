@@ -39,7 +39,8 @@ module _ {O : Type 0} (K : Calculus O) where
     pub square : (i j : ℕ) → (cell (closed K d) i j ≡ true) ↔ Dependent K d i j
     -- with one of its goals a class has exactly those that depend on it
     pub within : (k : State O) → k ∈ classes K d → k ⊆ d
-    pub together : (k : State O) → k ∈ classes K d → (i j : ℕ) (g h : Goal O) → getElem? d i ≡ some g → getElem? d j ≡ some h → g ∈ k → (h ∈ k) ↔ Dependent K d i j
+    pub together : (k : State O) → k ∈ classes K d → (i j : ℕ) (g h : Goal O) → getElem? d i ≡ some g → getElem? d j ≡ some h → g ∈ k
+        → (h ∈ k) ↔ Dependent K d i j
     pub one-class : (g : Goal O) → g ∈ d → OneClass d g
     pub some-goal : (k : State O) → k ∈ classes K d → (g : Goal O) × (g ∈ k)
     -- "each class in the document order of its first obligation position"

@@ -1,8 +1,10 @@
--- How far building has come: "states are numbered as first met: state 0 initial, then each state in number order, each symbol ascending, each class in the document
--- order of its first obligation position; building stops at the first class, in that order, with over 32 goals (20) or new past 128 states (21); one that is both gives 20."
+-- How far building has come: "states are numbered as first met: state 0 initial, then each state in number order, each symbol ascending, each class
+-- in the document order of its first obligation position; building stops at the first class, in that order, with over 32 goals (20) or new past 128
+-- states (21); one that is both gives 20."
 --   ClassAt      class number c of state number i on symbol f, among the states met
 --   Known New    a state met is equal to what the class lifts to; none of them is
---   Reached      the states met when class number c of state number i on symbol f is looked at next; behind the last class the next symbol, behind the last symbol the next state
+--   Reached      the states met when class number c of state number i on symbol f is looked at next; behind the last class the next symbol,
+--                behind the last symbol the next state
 --   AllMet       every class of every state was looked at
 --   OverGoals    the class to look at next, of state number i, has over 32 goals
 --   OverStates   it has not, and is new, and 128 states are met
@@ -41,8 +43,10 @@ module _ {S : Type 0} (C : Construction S) where
     pub data Reached : List S → ℕ → ℕ → ℕ → Type 0 where
       begin : Reached (C .start ∷ []) 0 0 0
       known : {ss : List S} {i f c : ℕ} (k : S) → Reached ss i f c → ClassAt ss i f c k → C .size k ≤ 32 → Known ss k → Reached ss i f (suc c)
-      new : {ss : List S} {i f c : ℕ} (k : S) → Reached ss i f c → ClassAt ss i f c k → C .size k ≤ 32 → New ss k → length ss < 128 → Reached (ss ++ (C .lift k ∷ [])) i f (suc c)
-      next-symbol : {ss : List S} {i f c : ℕ} (s : S) (n : ℕ) → Reached ss i f c → getElem? ss i ≡ some s → getElem? ar f ≡ some n → c ≡ length (C .classes s f n) → Reached ss i (suc f) 0
+      new : {ss : List S} {i f c : ℕ} (k : S) → Reached ss i f c → ClassAt ss i f c k → C .size k ≤ 32 → New ss k → length ss < 128
+          → Reached (ss ++ (C .lift k ∷ [])) i f (suc c)
+      next-symbol : {ss : List S} {i f c : ℕ} (s : S) (n : ℕ) → Reached ss i f c → getElem? ss i ≡ some s → getElem? ar f ≡ some n
+          → c ≡ length (C .classes s f n) → Reached ss i (suc f) 0
       next-state : {ss : List S} {i f : ℕ} → Reached ss i f 0 → i < length ss → f ≡ length ar → Reached ss (suc i) 0 0
 
     abbrev pub AllMet : List S → Type 0

@@ -15,6 +15,7 @@ use Rattle.folio.proofs.GoodTables.{shapes-good-shaped, shaped-good}
 use Rattle.automaton.specs.Goals.{State}
 use Rattle.automaton.specs.Classes.{sameState}
 use Rattle.automaton.specs.Paper.{Ob, paper}
+use Rattle.automaton.specs.Exploring.{Construction}
 use Rattle.automaton.specs.PlanWords.{Plan, halted, too-long, plan-of}
 use Rattle.automaton.proofs.Numbered.{sameState-refl}
 use Rattle.automaton.proofs.SamePlan.{alike-refl}
@@ -44,6 +45,12 @@ module _ (ar ws st plan scratch : List ℕ) where
   is-good : GoodShapes ar ws st plan scratch → shapesGood ar ws st ≡ true
   is-good g = shaped-good ar ws st (g .0) (g .1)
 
+  abbrev C : Construction (State Ob)
+  C = paperOf ar ws
+
+  abbrev n : ℕ
+  n = length (shapeTerms ar ws)
+
   -- a state is the same as itself
   alike : (s : State Ob) → sameState (paper (shapeTerms ar ws)) s s ≡ true
   alike = sameState-refl (paper (shapeTerms ar ws)) alike-refl
@@ -55,27 +62,28 @@ module _ (ar ws st plan scratch : List ℕ) where
   build-row : BuildRow ar ws st plan scratch (buildTold (buildOf ar ws st plan scratch))
   build-row = go good-or-not (decLt (length scratch) 32768)
     where
-      on : GoodShapes ar ws st plan scratch → 32768 ≤ length scratch → {p : Plan} → PlanEnd (paperOf ar ws) alike ar (length (shapeTerms ar ws)) (length plan) p
+      on : GoodShapes ar ws st plan scratch → 32768 ≤ length scratch → {p : Plan} → PlanEnd C alike ar n (length plan) p
           → BuildRow ar ws st plan scratch (buildTold (written p plan scratch))
       on g h (ends.plan-goals {i} o) = rows.build-20 g h i o
       on g h (ends.plan-states {i} o) = rows.build-21 g h i o
       on g h (ends.plan-long ss r l) = rows.build-22 g h ss r l
       on g h (ends.plan-fits ss r l) = rows.builds g h ss r l
 
-      go : GoodShapes ar ws st plan scratch ⊎ (GoodShapes ar ws st plan scratch → ⊥) → Dec (length scratch < 32768) → BuildRow ar ws st plan scratch (buildTold (buildOf ar ws st plan scratch))
-      go (inr n) d = rw (built-bad ar ws st plan scratch (is-bad n)) (rows.build-19 n)
+      go : GoodShapes ar ws st plan scratch ⊎ (GoodShapes ar ws st plan scratch → ⊥) → Dec (length scratch < 32768)
+          → BuildRow ar ws st plan scratch (buildTold (buildOf ar ws st plan scratch))
+      go (inr bad) d = rw (built-bad ar ws st plan scratch (is-bad bad)) (rows.build-19 bad)
       go (inl g) (yes h) = rw (built-short ar ws st plan scratch (is-good g) h) (rows.build-23 g h)
       go (inl g) (no h) =
           let k : 32768 ≤ length scratch = omega arith in
-          rw (on-with g k (planOf ar (shapeTerms ar ws) (length plan)) refl) (on g k (plan-end (paperOf ar ws) alike ar (length (shapeTerms ar ws)) (length plan)))
+          rw (on-with g k (planOf ar (shapeTerms ar ws) (length plan)) refl) (on g k (plan-end C alike ar n (length plan)))
 
   build-only : (o : Told (List ℕ × List ℕ)) → BuildRow ar ws st plan scratch o → buildTold (buildOf ar ws st plan scratch) ≡ o
-  build-only _ (rows.build-19 n) = ap buildTold (built-bad ar ws st plan scratch (is-bad n))
+  build-only _ (rows.build-19 bad) = ap buildTold (built-bad ar ws st plan scratch (is-bad bad))
   build-only _ (rows.build-23 g h) = ap buildTold (built-short ar ws st plan scratch (is-good g) h)
-  build-only _ (rows.build-20 g h i o) = on-with g h (halted ManyGoals i) (plan-over-goals (paperOf ar ws) alike ar (length (shapeTerms ar ws)) (length plan) i o)
-  build-only _ (rows.build-21 g h i o) = on-with g h (halted ManyStates i) (plan-over-states (paperOf ar ws) alike ar (length (shapeTerms ar ws)) (length plan) i o)
-  build-only _ (rows.build-22 g h ss r l) = on-with g h too-long (plan-too-long (paperOf ar ws) alike ar (length (shapeTerms ar ws)) (length plan) ss r l)
-  build-only _ (rows.builds g h ss r l) = on-with g h (plan-of (length ss) (wordsFor ar ws ss)) (plan-made (paperOf ar ws) alike ar (length (shapeTerms ar ws)) (length plan) ss r l)
+  build-only _ (rows.build-20 g h i o) = on-with g h (halted ManyGoals i) (plan-over-goals C alike ar n (length plan) i o)
+  build-only _ (rows.build-21 g h i o) = on-with g h (halted ManyStates i) (plan-over-states C alike ar n (length plan) i o)
+  build-only _ (rows.build-22 g h ss r l) = on-with g h too-long (plan-too-long C alike ar n (length plan) ss r l)
+  build-only _ (rows.builds g h ss r l) = on-with g h (plan-of (length ss) (wordsFor ar ws ss)) (plan-made C alike ar n (length plan) ss r l)
 
   pub by-build : By (BuildRow ar ws st plan scratch) (buildTold (buildOf ar ws st plan scratch))
   by-build = (build-row, build-only)
