@@ -63,14 +63,16 @@ module _ (S : Setting) where
 
   partner-same : (s : State Pos) (g : Goal Pos) → Partner s g → any (sameGoal K g) s ≡ true
   partner-same s g p = any-of (sameGoal K g) (p .inside)
-      (both (both (both {a = eqb (g .shape) (p .goal .shape)} (is-eqb (g .shape) (p .goal .shape) (sym (p .shape))) (rw (p .ann) (same-refl (g .ann))))
+      (both (both (both {a = eqb (g .shape) (p .goal .shape)} (is-eqb (g .shape) (p .goal .shape) (sym (p .shape)))
+      (rw (p .ann) (same-refl (g .ann))))
       (inside (g .obs) (p .goal .obs) (p .more))) (inside (p .goal .obs) (g .obs) (p .less)))
     where
       inside : (xs ys : List Pos) → xs ⊆ ys → all (λ o. any (same o) ys) xs ≡ true
       inside xs ys h = all-of (λ o. any (same o) ys) xs (λ o i. any-of (same o) (h o i) (same-refl o))
 
   pub alike-same : (s s′ : State Pos) → Alike s s′ → sameState K s s′ ≡ true
-  alike-same s s′ a = both (all-of (λ g. any (sameGoal K g) s′) s (λ g m. partner-same s′ g (a .to g m))) (all-of (λ g. any (sameGoal K g) s) s′ (λ g m. partner-same s g (a .fro g m)))
+  alike-same s s′ a = both (all-of (λ g. any (sameGoal K g) s′) s (λ g m. partner-same s′ g (a .to g m)))
+      (all-of (λ g. any (sameGoal K g) s) s′ (λ g m. partner-same s g (a .fro g m)))
 
   -- ---- the first of a list of positions is before all others
   firstFrom-least : (p : Pos) (os : List Pos) (x : Pos) → (x ≡ p) ⊎ (x ∈ os) → (x ≡ firstFrom K p os) ⊎ Before (firstFrom K p os) x
@@ -78,7 +80,8 @@ module _ (S : Setting) where
   firstFrom-least p (o ∷ os) x m = go (before o p) refl m (firstFrom-least o os) (firstFrom-least p os)
     where
       -- what is no later than a start of the rest is no later than x
-      up : (y z : Pos) → (z ≡ firstFrom K y os) ⊎ Before (firstFrom K y os) z → (x ≡ z) ⊎ Before z x → (x ≡ firstFrom K y os) ⊎ Before (firstFrom K y os) x
+      up : (y z : Pos) → (z ≡ firstFrom K y os) ⊎ Before (firstFrom K y os) z → (x ≡ z) ⊎ Before z x → (x ≡ firstFrom K y os)
+          ⊎ Before (firstFrom K y os) x
       up y z (inl e) (inl d) = inl (d ∙ e)
       up y z (inl e) (inr d) = inr (rw e at d)
       up y z (inr e) (inl d) = inr (rw d e)
@@ -87,14 +90,16 @@ module _ (S : Setting) where
       later : before o p ≡ false → (p ≡ o) ⊎ Before p o
       later e = ⊎-elim (λ (t : Before o p). absurd (false≢true (sym e ∙ t))) (⊎-elim (λ d. inl (sym d)) (λ d. inr d)) (before-total o p)
 
-      go : (b : Bool) → before o p ≡ b → (x ≡ p) ⊎ (x ∈ (o ∷ os)) → ((y : Pos) → (y ≡ o) ⊎ (y ∈ os) → (y ≡ firstFrom K o os) ⊎ Before (firstFrom K o os) y)
+      go : (b : Bool) → before o p ≡ b → (x ≡ p) ⊎ (x ∈ (o ∷ os))
+          → ((y : Pos) → (y ≡ o) ⊎ (y ∈ os) → (y ≡ firstFrom K o os) ⊎ Before (firstFrom K o os) y)
           → ((y : Pos) → (y ≡ p) ⊎ (y ∈ os) → (y ≡ firstFrom K p os) ⊎ Before (firstFrom K p os) y)
           → (x ≡ firstFrom K (cond b o p) os) ⊎ Before (firstFrom K (cond b o p) os) x
       go true e (inl d) ho hp = up o o (ho o (inl refl)) (inr (rw d e))
       go true e (inr (here d)) ho hp = ho x (inl d)
       go true e (inr (there i)) ho hp = ho x (inr i)
       go false e (inl d) ho hp = hp x (inl d)
-      go false e (inr (here d)) ho hp = up p p (hp p (inl refl)) (⊎-elim (λ (z : p ≡ o). inl (d ∙ sym z)) (λ (z : Before p o). inr (rw d z)) (later e))
+      go false e (inr (here d)) ho hp =
+          up p p (hp p (inl refl)) (⊎-elim (λ (z : p ≡ o). inl (d ∙ sym z)) (λ (z : Before p o). inr (rw d z)) (later e))
       go false e (inr (there i)) ho hp = hp x (inr i)
 
   pub first-least : (os : List Pos) (x : Pos) → x ∈ os → (x ≡ first K os) ⊎ Before (first K os) x
@@ -108,7 +113,8 @@ module _ (S : Setting) where
   first-same (x ∷ xs) (y ∷ ys) f g =
       let a = first-in K (x ∷ xs) {o = x} (here refl) in
       let b = first-in K (y ∷ ys) {o = y} (here refl) in
-      go (first K (x ∷ xs)) (first K (y ∷ ys)) (first-least (y ∷ ys) (first K (x ∷ xs)) (f (first K (x ∷ xs)) (rw (← (a .2)) (a .1)))) (first-least (x ∷ xs) (first K (y ∷ ys)) (g (first K (y ∷ ys)) (rw (← (b .2)) (b .1))))
+      go (first K (x ∷ xs)) (first K (y ∷ ys)) (first-least (y ∷ ys) (first K (x ∷ xs)) (f (first K (x ∷ xs)) (rw (← (a .2)) (a .1))))
+      (first-least (x ∷ xs) (first K (y ∷ ys)) (g (first K (y ∷ ys)) (rw (← (b .2)) (b .1))))
     where
       go : (p q : Pos) → (p ≡ q) ⊎ Before q p → (q ≡ p) ⊎ Before p q → p ≡ q
       go p q (inl e) d = e
@@ -116,7 +122,8 @@ module _ (S : Setting) where
       go p q (inr e) (inr d) = absurd (before-irrefl p (before-trans p q p d e))
 
   pub alike-label : (s s′ : State Pos) → Alike s s′ → label K s ≡ label K s′
-  alike-label s s′ a = first-same (allObs (filter (λ g. isRoot (g .ann)) s)) (allObs (filter (λ g. isRoot (g .ann)) s′)) (half s s′ a) (half s′ s (alike-sym a))
+  alike-label s s′ a = first-same (allObs (filter (λ g. isRoot (g .ann)) s)) (allObs (filter (λ g. isRoot (g .ann)) s′)) (half s s′ a)
+      (half s′ s (alike-sym a))
     where
       half : (s s′ : State Pos) → Alike s s′ → allObs (filter (λ g. isRoot (g .ann)) s) ⊆ allObs (filter (λ g. isRoot (g .ann)) s′)
       half s s′ a o m = on-gather (λ g. g .obs) (filter (λ g. isRoot (g .ann)) s) m λ g i j.

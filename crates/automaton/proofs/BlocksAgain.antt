@@ -38,7 +38,9 @@ module _ {S : Type 0} (C : Construction S) where
     pub meet-found : meet C ss k ≡ met ss′ xs → Found ss (k ∷ []) ss′ xs
     meet-found e = big (ltb 32 (C .size k)) refl e
       where
-        new : C .size k ≤ 32 → (b : Bool) → leb 128 (length ss) ≡ b → cond b (stopped ManyStates) (met (ss ++ (C .lift k ∷ [])) (record { to = length ss; by = C .gcp k } ∷ [])) ≡ met ss′ xs → Found ss (k ∷ []) ss′ xs
+        new : C .size k ≤ 32 → (b : Bool) → leb 128 (length ss) ≡ b
+            → cond b (stopped ManyStates) (met (ss ++ (C .lift k ∷ [])) (record { to = length ss; by = C .gcp k } ∷ [])) ≡ met ss′ xs
+            → Found ss (k ∷ []) ss′ xs
         new small true h d = let z : _≡_ {A = ℕ} 0 1 = cc in absurd (omega arith)
         new small false h d =
             let a : ss ++ (C .lift k ∷ []) ≡ ss′ = cc in
@@ -58,7 +60,9 @@ module _ {S : Type 0} (C : Construction S) where
             let b : record { to = i; by = C .gcp k } ∷ [] ≡ xs = cc in
             rw (← a, ← b) (record { ext = ext-refl ss; few = λ l. l; count = refl; from = λ s m. inl m; small = λ x m. rw (in-one m) small })
 
-        big : (b : Bool) → ltb 32 (C .size k) ≡ b → cond b (stopped ManyGoals) (numbered (find (C .same (C .lift k)) ss 0) ss (C .lift k) (C .gcp k)) ≡ met ss′ xs → Found ss (k ∷ []) ss′ xs
+        big : (b : Bool) → ltb 32 (C .size k) ≡ b
+            → cond b (stopped ManyGoals) (numbered (find (C .same (C .lift k)) ss 0) ss (C .lift k) (C .gcp k)) ≡ met ss′ xs
+            → Found ss (k ∷ []) ss′ xs
         big true h d = let z : _≡_ {A = ℕ} 0 1 = cc in absurd (omega arith)
         big false h d = placed (ltb-not 32 (C .size k) h) (find (C .same (C .lift k)) ss 0) d
 
@@ -69,12 +73,14 @@ module _ {S : Type 0} (C : Construction S) where
       rw (← a, ← b) (record { ext = ext-refl ss; few = λ l. l; count = refl; from = λ s m. inl m; small = λ x m. elim m [ ] })
   meets-found (k ∷ ks) ss ss′ xs e = go (meet C ss k) refl e (meets-found ks)
     where
-      commonPrefix : (ss₁ : List S) (ys : List Succ) (zs : List Succ) → Found ss (k ∷ []) ss₁ ys → Found ss₁ ks ss′ zs → Found ss (k ∷ ks) ss′ (ys ++ zs)
+      commonPrefix : (ss₁ : List S) (ys : List Succ) (zs : List Succ) → Found ss (k ∷ []) ss₁ ys → Found ss₁ ks ss′ zs
+          → Found ss (k ∷ ks) ss′ (ys ++ zs)
       commonPrefix ss₁ ys zs a b = record {
         ext = ext-trans (a .ext) (b .ext);
         few = λ l. b .few (a .few l);
         count = let x = a .count in let y = b .count in length-append ys zs ∙ omega arith;
-        from = λ s m. ⊎-elim (λ i. ⊎-elim inl (λ r. inr (r .0, here (in-one (r .1)), r .2)) (a .from s i)) (λ r. inr (r .0, there (r .1), r .2)) (b .from s m);
+        from = λ s m. ⊎-elim (λ i. ⊎-elim inl (λ r. inr (r .0, here (in-one (r .1)), r .2)) (a .from s i)) (λ r. inr (r .0, there (r .1), r .2))
+            (b .from s m);
         small = small;
       }
         where
@@ -82,7 +88,8 @@ module _ {S : Type 0} (C : Construction S) where
           small x (here i) = a .small x (here i)
           small x (there i) = b .small x i
 
-      last : (ss₁ : List S) (ys : List Succ) → Found ss (k ∷ []) ss₁ ys → (m : Met S) → meets C ss₁ ks ≡ m → andThen m (λ ss₂ zs. met ss₂ (ys ++ zs)) ≡ met ss′ xs
+      last : (ss₁ : List S) (ys : List Succ) → Found ss (k ∷ []) ss₁ ys → (m : Met S) → meets C ss₁ ks ≡ m
+          → andThen m (λ ss₂ zs. met ss₂ (ys ++ zs)) ≡ met ss′ xs
           → ((ss ss′ : List S) (xs : List Succ) → meets C ss ks ≡ met ss′ xs → Found ss ks ss′ xs) → Found ss (k ∷ ks) ss′ xs
       last ss₁ ys a (stopped r) h d ih = let z : _≡_ {A = ℕ} 0 1 = cc in absurd (omega arith)
       last ss₁ ys a (met ss₂ zs) h d ih =
@@ -100,13 +107,17 @@ module _ {S : Type 0} (C : Construction S) (alike : (s : S) → C .same s s ≡ 
   meet-again : (ss : List S) (k : S) (ss′ : List S) (xs : List Succ) → meet C ss k ≡ met ss′ xs → (t : List S) → Ext ss′ t → xs ≡ succOf C t k ∷ []
   meet-again ss k ss′ xs e t x = big (ltb 32 (C .size k)) e
     where
-      new : find (C .same (C .lift k)) ss 0 ≡ none → (b : Bool) → cond b (stopped ManyStates) (met (ss ++ (C .lift k ∷ [])) (record { to = length ss; by = C .gcp k } ∷ [])) ≡ met ss′ xs → xs ≡ succOf C t k ∷ []
+      new : find (C .same (C .lift k)) ss 0 ≡ none → (b : Bool)
+          → cond b (stopped ManyStates) (met (ss ++ (C .lift k ∷ [])) (record { to = length ss; by = C .gcp k } ∷ [])) ≡ met ss′ xs
+          → xs ≡ succOf C t k ∷ []
       new none-is true d = let z : _≡_ {A = ℕ} 0 1 = cc in absurd (omega arith)
       new none-is false d =
           let a : ss ++ (C .lift k ∷ []) ≡ ss′ = cc in
           let b : record { to = length ss; by = C .gcp k } ∷ [] ≡ xs = cc in
           let whole : t ≡ ss ++ (C .lift k ∷ x .more) = x .eq ∙ ap (λ l. l ++ x .more) (sym a) ∙ append-assoc ss (C .lift k ∷ []) (x .more) in
-          let at : find (C .same (C .lift k)) t 0 ≡ some (length ss) = ap (λ l. find (C .same (C .lift k)) l 0) whole ∙ find-new (C .same (C .lift k)) ss (C .lift k) (x .more) 0 none-is (alike (C .lift k)) ∙ ap some (zero-add (length ss)) in
+          let at : find (C .same (C .lift k)) t 0 ≡ some (length ss) =
+          ap (λ l. find (C .same (C .lift k)) l 0) whole ∙ find-new (C .same (C .lift k)) ss (C .lift k) (x .more) 0 none-is (alike (C .lift k))
+          ∙ ap some (zero-add (length ss)) in
           sym b ∙ ap (λ o. record { to = orElse o (length t); by = C .gcp k } ∷ []) (sym at)
 
       placed : (o : Option ℕ) → find (C .same (C .lift k)) ss 0 ≡ o → numbered o ss (C .lift k) (C .gcp k) ≡ met ss′ xs → xs ≡ succOf C t k ∷ []
@@ -114,10 +125,13 @@ module _ {S : Type 0} (C : Construction S) (alike : (s : S) → C .same s s ≡ 
       placed (some i) h d =
           let a : ss ≡ ss′ = cc in
           let b : record { to = i; by = C .gcp k } ∷ [] ≡ xs = cc in
-          let at : find (C .same (C .lift k)) t 0 ≡ some i = ap (λ l. find (C .same (C .lift k)) l 0) (x .eq ∙ ap (λ l. l ++ x .more) (sym a)) ∙ find-more (C .same (C .lift k)) ss (x .more) 0 i h in
+          let at : find (C .same (C .lift k)) t 0 ≡ some i =
+          ap (λ l. find (C .same (C .lift k)) l 0) (x .eq ∙ ap (λ l. l ++ x .more) (sym a))
+          ∙ find-more (C .same (C .lift k)) ss (x .more) 0 i h in
           sym b ∙ ap (λ o. record { to = orElse o (length t); by = C .gcp k } ∷ []) (sym at)
 
-      big : (b : Bool) → cond b (stopped ManyGoals) (numbered (find (C .same (C .lift k)) ss 0) ss (C .lift k) (C .gcp k)) ≡ met ss′ xs → xs ≡ succOf C t k ∷ []
+      big : (b : Bool) → cond b (stopped ManyGoals) (numbered (find (C .same (C .lift k)) ss 0) ss (C .lift k) (C .gcp k)) ≡ met ss′ xs
+          → xs ≡ succOf C t k ∷ []
       big true d = let z : _≡_ {A = ℕ} 0 1 = cc in absurd (omega arith)
       big false d = placed (find (C .same (C .lift k)) ss 0) refl d
 
@@ -126,8 +140,10 @@ module _ {S : Type 0} (C : Construction S) (alike : (s : S) → C .same s s ≡ 
   meets-again [] ss ss′ xs e t x = let b : _≡_ {A = List Succ} [] xs = cc in sym b
   meets-again (k ∷ ks) ss ss′ xs e t x = go (meet C ss k) refl e (meets-again ks)
     where
-      last : (ss₁ : List S) (ys : List Succ) → meet C ss k ≡ met ss₁ ys → (m : Met S) → meets C ss₁ ks ≡ m → andThen m (λ ss₂ zs. met ss₂ (ys ++ zs)) ≡ met ss′ xs
-          → ((ss ss′ : List S) (xs : List Succ) → meets C ss ks ≡ met ss′ xs → (t : List S) → Ext ss′ t → xs ≡ map (succOf C t) ks) → xs ≡ map (succOf C t) (k ∷ ks)
+      last : (ss₁ : List S) (ys : List Succ) → meet C ss k ≡ met ss₁ ys → (m : Met S) → meets C ss₁ ks ≡ m
+          → andThen m (λ ss₂ zs. met ss₂ (ys ++ zs)) ≡ met ss′ xs
+          → ((ss ss′ : List S) (xs : List Succ) → meets C ss ks ≡ met ss′ xs → (t : List S) → Ext ss′ t → xs ≡ map (succOf C t) ks)
+          → xs ≡ map (succOf C t) (k ∷ ks)
       last ss₁ ys a (stopped r) h d ih = let z : _≡_ {A = ℕ} 0 1 = cc in absurd (omega arith)
       last ss₁ ys a (met ss₂ zs) h d ih =
           let u : ss₂ ≡ ss′ = cc in
@@ -136,7 +152,8 @@ module _ {S : Type 0} (C : Construction S) (alike : (s : S) → C .same s s ≡ 
           sym y ∙ ap₂ (λ l r. l ++ r) (meet-again ss k ss₁ ys a t (ext-trans (meets-found C ks ss₁ ss′ zs h′ .ext) x)) (ih ss₁ ss′ zs h′ t x)
 
       go : (m : Met S) → meet C ss k ≡ m → andThen m (λ ss₁ ys. andThen (meets C ss₁ ks) (λ ss₂ zs. met ss₂ (ys ++ zs))) ≡ met ss′ xs
-          → ((ss ss′ : List S) (xs : List Succ) → meets C ss ks ≡ met ss′ xs → (t : List S) → Ext ss′ t → xs ≡ map (succOf C t) ks) → xs ≡ map (succOf C t) (k ∷ ks)
+          → ((ss ss′ : List S) (xs : List Succ) → meets C ss ks ≡ met ss′ xs → (t : List S) → Ext ss′ t → xs ≡ map (succOf C t) ks)
+          → xs ≡ map (succOf C t) (k ∷ ks)
       go (stopped r) h d ih = let z : _≡_ {A = ℕ} 0 1 = cc in absurd (omega arith)
       go (met ss₁ ys) h d ih = last ss₁ ys h (meets C ss₁ ks) refl d ih
 
@@ -147,7 +164,8 @@ module _ {S : Type 0} (C : Construction S) (alike : (s : S) → C .same s s ≡ 
     pub is : (t : List S) → Ext ss′ t → bs′ ≡ bs ++ blocksOf C t s f ns
     pub small : SmallOn C s f ns
 
-  row-again : (i : ℕ) (s : S) (f : ℕ) (ns : List ℕ) (ss : List S) (bs : List Block) (ss′ : List S) (bs′ : List Block) → row C i s f ns ss bs ≡ made ss′ bs′ → RowAgain s f ns ss bs ss′ bs′
+  row-again : (i : ℕ) (s : S) (f : ℕ) (ns : List ℕ) (ss : List S) (bs : List Block) (ss′ : List S) (bs′ : List Block)
+      → row C i s f ns ss bs ≡ made ss′ bs′ → RowAgain s f ns ss bs ss′ bs′
   row-again i s f [] ss bs ss′ bs′ e =
       let a : ss ≡ ss′ = cc in
       let b : bs ≡ bs′ = cc in
@@ -161,7 +179,8 @@ module _ {S : Type 0} (C : Construction S) (alike : (s : S) → C .same s s ≡ 
         few = λ l. r .few (meets-found C (C .classes s f n) ss ss₁ xs h .few l);
         is = λ t x.
             r .is t x ∙ append-assoc bs (record { out = C .outputs s f n; succs = xs } ∷ []) (blocksOf C t s (suc f) ns)
-            ∙ ap (λ ys. bs ++ (record { out = C .outputs s f n; succs = ys } ∷ blocksOf C t s (suc f) ns)) (meets-again (C .classes s f n) ss ss₁ xs h t (ext-trans (r .ext) x));
+            ∙ ap (λ ys. bs ++ (record { out = C .outputs s f n; succs = ys } ∷ blocksOf C t s (suc f) ns))
+            (meets-again (C .classes s f n) ss ss₁ xs h t (ext-trans (r .ext) x));
         small = small;
       }
         where
@@ -169,8 +188,10 @@ module _ {S : Type 0} (C : Construction S) (alike : (s : S) → C .same s s ≡ 
           small zero m d k j = let z : n ≡ m = cc in meets-found C (C .classes s f n) ss ss₁ xs h .small k (rw (add-zero f, ← z) at j)
           small (suc g) m d k j = let z : f + suc g ≡ suc f + g = omega arith in r .small g m d k (rw z at j)
 
-      go : (m : Met S) → meets C ss (C .classes s f n) ≡ m → thenBlock i (C .outputs s f n) bs m (λ ss₁ bs₁. row C i s (suc f) ns ss₁ bs₁) ≡ made ss′ bs′
-          → ((ss₁ : List S) (bs₁ : List Block) → row C i s (suc f) ns ss₁ bs₁ ≡ made ss′ bs′ → RowAgain s (suc f) ns ss₁ bs₁ ss′ bs′) → RowAgain s f (n ∷ ns) ss bs ss′ bs′
+      go : (m : Met S) → meets C ss (C .classes s f n) ≡ m
+          → thenBlock i (C .outputs s f n) bs m (λ ss₁ bs₁. row C i s (suc f) ns ss₁ bs₁) ≡ made ss′ bs′
+          → ((ss₁ : List S) (bs₁ : List Block) → row C i s (suc f) ns ss₁ bs₁ ≡ made ss′ bs′ → RowAgain s (suc f) ns ss₁ bs₁ ss′ bs′)
+          → RowAgain s f (n ∷ ns) ss bs ss′ bs′
       go (stopped r) h d ih = let z : _≡_ {A = ℕ} 0 1 = cc in absurd (omega arith)
       go (met ss₁ xs) h d ih = commonPrefix ss₁ xs h (ih ss₁ (bs ++ (record { out = C .outputs s f n; succs = xs } ∷ [])) d)
 
@@ -180,23 +201,33 @@ module _ {S : Type 0} (C : Construction S) (alike : (s : S) → C .same s s ≡ 
     pub is : bs′ ≡ bs ++ gather (λ s. blocksOf C ss′ s 0 ar) (drop i ss′)
     pub small : (s : S) → s ∈ drop i ss′ → SmallOn C s 0 ar
 
-  run-done : (ar : List ℕ) (i : ℕ) (ss : List S) (bs : List Block) (ss′ : List S) (bs′ : List Block) → length ss ≤ i → made ss bs ≡ made ss′ bs′ → RunAgain ar i ss bs ss′ bs′
+  run-done : (ar : List ℕ) (i : ℕ) (ss : List S) (bs : List Block) (ss′ : List S) (bs′ : List Block) → length ss ≤ i → made ss bs ≡ made ss′ bs′
+      → RunAgain ar i ss bs ss′ bs′
   run-done ar i ss bs ss′ bs′ h e =
       let a : ss ≡ ss′ = cc in
       let b : bs ≡ bs′ = cc in
       let z : drop i ss ≡ [] = drop-of-length-le ss h in
-      rw (← a, ← b) (record { ext = ext-refl ss; is = sym (ap (λ l. bs ++ gather (λ s. blocksOf C ss s 0 ar) l) z ∙ append-nil bs); small = λ s m. elim (rw z at m) [ ] })
+      rw (← a, ← b) (record {
+        ext = ext-refl ss;
+        is = sym (ap (λ l. bs ++ gather (λ s. blocksOf C ss s 0 ar) l) z ∙ append-nil bs);
+        small =
+            λ s m. elim (rw z at m) [ ];
+      })
 
-  run-again : (ar : List ℕ) (fuel i : ℕ) (ss : List S) (bs : List Block) (ss′ : List S) (bs′ : List Block) → fuel + i ≡ 128 → length ss ≤ 128 → run C ar fuel i ss bs ≡ made ss′ bs′ → RunAgain ar i ss bs ss′ bs′
+  run-again : (ar : List ℕ) (fuel i : ℕ) (ss : List S) (bs : List Block) (ss′ : List S) (bs′ : List Block) → fuel + i ≡ 128 → length ss ≤ 128
+      → run C ar fuel i ss bs ≡ made ss′ bs′ → RunAgain ar i ss bs ss′ bs′
   run-again ar zero i ss bs ss′ bs′ fi few e = run-done ar i ss bs ss′ bs′ (omega arith) e
-  run-again ar (suc fuel) i ss bs ss′ bs′ fi few e = go (ltb i (length ss)) refl e (λ ss₁ bs₁ l d. run-again ar fuel (suc i) ss₁ bs₁ ss′ bs′ (omega arith) l d)
+  run-again ar (suc fuel) i ss bs ss′ bs′ fi few e =
+      go (ltb i (length ss)) refl e (λ ss₁ bs₁ l d. run-again ar fuel (suc i) ss₁ bs₁ ss′ bs′ (omega arith) l d)
     where
-      commonPrefix : i < length ss → (ss₁ : List S) (bs₁ : List Block) → RowAgain (getD ss i (C .start)) 0 ar ss bs ss₁ bs₁ → RunAgain ar (suc i) ss₁ bs₁ ss′ bs′ → RunAgain ar i ss bs ss′ bs′
+      commonPrefix : i < length ss → (ss₁ : List S) (bs₁ : List Block) → RowAgain (getD ss i (C .start)) 0 ar ss bs ss₁ bs₁
+          → RunAgain ar (suc i) ss₁ bs₁ ss′ bs′ → RunAgain ar i ss bs ss′ bs′
       commonPrefix inside ss₁ bs₁ a b =
           let x : Ext ss ss′ = ext-trans (a .ext) (b .ext) in
           let l = ext-length x in
           let here-is : getD ss′ i (C .start) ≡ getD ss i (C .start) = getD-ext x i (C .start) inside in
-          let next : drop i ss′ ≡ getD ss i (C .start) ∷ drop (suc i) ss′ = drop-cons ss′ i (C .start) (omega arith) ∙ ap (λ s. s ∷ drop (suc i) ss′) here-is in
+          let next : drop i ss′ ≡ getD ss i (C .start) ∷ drop (suc i) ss′ =
+          drop-cons ss′ i (C .start) (omega arith) ∙ ap (λ s. s ∷ drop (suc i) ss′) here-is in
           record {
             ext = x;
             is = b .is ∙ ap (λ l. l ++ gather (λ s. blocksOf C ss′ s 0 ar) (drop (suc i) ss′)) (a .is ss′ (b .ext))
@@ -209,15 +240,21 @@ module _ {S : Type 0} (C : Construction S) (alike : (s : S) → C .same s s ≡ 
           small s (here e) = rw e (a .small)
           small s (there m) = b .small s m
 
-      inner : i < length ss → (m : Made S) → row C i (getD ss i (C .start)) 0 ar ss bs ≡ m → thenMore m (λ ss₁ bs₁. run C ar fuel (suc i) ss₁ bs₁) ≡ made ss′ bs′
-          → ((ss₁ : List S) (bs₁ : List Block) → length ss₁ ≤ 128 → run C ar fuel (suc i) ss₁ bs₁ ≡ made ss′ bs′ → RunAgain ar (suc i) ss₁ bs₁ ss′ bs′) → RunAgain ar i ss bs ss′ bs′
+      inner : i < length ss → (m : Made S) → row C i (getD ss i (C .start)) 0 ar ss bs ≡ m
+          → thenMore m (λ ss₁ bs₁. run C ar fuel (suc i) ss₁ bs₁) ≡ made ss′ bs′
+          → ((ss₁ : List S) (bs₁ : List Block) → length ss₁ ≤ 128 → run C ar fuel (suc i) ss₁ bs₁ ≡ made ss′ bs′
+          → RunAgain ar (suc i) ss₁ bs₁ ss′ bs′) → RunAgain ar i ss bs ss′ bs′
       inner inside (refused r p) q d ih = let z : _≡_ {A = ℕ} 0 1 = cc in absurd (omega arith)
-      inner inside (made ss₁ bs₁) q d ih = let o = row-again i (getD ss i (C .start)) 0 ar ss bs ss₁ bs₁ q in commonPrefix inside ss₁ bs₁ o (ih ss₁ bs₁ (o .few few) d)
+      inner inside (made ss₁ bs₁) q d ih = let o = row-again i (getD ss i (C .start)) 0 ar ss bs ss₁ bs₁ q in
+          commonPrefix inside ss₁ bs₁ o (ih ss₁ bs₁ (o .few few) d)
 
-      go : (b : Bool) → ltb i (length ss) ≡ b → cond b (thenMore (row C i (getD ss i (C .start)) 0 ar ss bs) (λ ss₁ bs₁. run C ar fuel (suc i) ss₁ bs₁)) (made ss bs) ≡ made ss′ bs′
-          → ((ss₁ : List S) (bs₁ : List Block) → length ss₁ ≤ 128 → run C ar fuel (suc i) ss₁ bs₁ ≡ made ss′ bs′ → RunAgain ar (suc i) ss₁ bs₁ ss′ bs′) → RunAgain ar i ss bs ss′ bs′
+      go : (b : Bool) → ltb i (length ss) ≡ b
+          → cond b (thenMore (row C i (getD ss i (C .start)) 0 ar ss bs) (λ ss₁ bs₁. run C ar fuel (suc i) ss₁ bs₁)) (made ss bs) ≡ made ss′ bs′
+          → ((ss₁ : List S) (bs₁ : List Block) → length ss₁ ≤ 128 → run C ar fuel (suc i) ss₁ bs₁ ≡ made ss′ bs′
+          → RunAgain ar (suc i) ss₁ bs₁ ss′ bs′) → RunAgain ar i ss bs ss′ bs′
       go true q d ih = inner (ltb-is i (length ss) q) (row C i (getD ss i (C .start)) 0 ar ss bs) refl d ih
       go false q d ih = run-done ar i ss bs ss′ bs′ (ltb-not i (length ss) q) d
 
-  pub blocks-again : (ar : List ℕ) (ss : List S) (bs : List Block) → explored C ar ≡ made ss bs → (bs ≡ allBlocks C ss ar) × ((s : S) → s ∈ ss → SmallOn C s 0 ar)
+  pub blocks-again : (ar : List ℕ) (ss : List S) (bs : List Block) → explored C ar ≡ made ss bs → (bs ≡ allBlocks C ss ar)
+      × ((s : S) → s ∈ ss → SmallOn C s 0 ar)
   blocks-again ar ss bs e = let r = run-again ar 128 0 (C .start ∷ []) [] ss bs (omega arith) (omega arith) e in (r .is, r .small)

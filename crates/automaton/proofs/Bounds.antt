@@ -84,7 +84,8 @@ module _ (S : Setting) where
       each p = length-map (range 0 (length (S .shapes))) (fresh p) ∙ length-range 0 (length (S .shapes))
 
       new-ones : length (gather (λ i. K .fresh (label K s ++ (i ∷ []))) (range 1 n)) ≡ n * length (S .shapes)
-      new-ones = gather-length (λ i. K .fresh (label K s ++ (i ∷ []))) (length (S .shapes)) (range 1 n) (λ i. each (label K s ++ (i ∷ []))) ∙ rw (length-range 1 n)
+      new-ones = gather-length (λ i. K .fresh (label K s ++ (i ∷ []))) (length (S .shapes)) (range 1 n) (λ i. each (label K s ++ (i ∷ [])))
+          ∙ rw (length-range 1 n)
 
   pub deriv-few : (s : State Pos) (f n : ℕ) → length s ≤ 32 → n ≤ 4 → length (deriv K s f n) ≤ 96
   deriv-few s f n a c = let h = deriv-length s f n in let z = product n (length (S .shapes)) c (S .few-shapes) in omega arith

@@ -19,9 +19,8 @@ use Rattle.kinds.specs.Lists.{sum}
 use Rattle.kinds.proofs.Bools.{test, not-true, Order, less, equal, more, order}
 use Rattle.kinds.proofs.Options.{none-not}
 use Rattle.kinds.proofs.Members.{on-map, map-in, in-sort, sort-in, sort-perm}
-use Rattle.kinds.specs.Members.{_∈_, here, there, _⊆_}
+use Rattle.kinds.specs.Members.{_∈_, here, there, _⊆_, Pairwise}
 use Rattle.kinds.proofs.Sums.{sum-map, sum-perm, sum-zero}
-use Rattle.kinds.proofs.Pairwise.{Pairwise}
 use Rattle.kinds.proofs.Places.{on-in, at-below, at-some, getD-at}
 use Rattle.automaton.specs.Goals.{Goal, State, Calculus}
 use Rattle.automaton.specs.Classes.{Square, cell, picked, leads, rowsFrom, dep, Dependent, closed, classBefore, classes}
@@ -35,7 +34,8 @@ module _ {A : Type 0} where
   picked-in (true ∷ bs) (g ∷ s) x (there m) = there (picked-in bs s x m)
   picked-in (false ∷ bs) (g ∷ s) x m = there (picked-in bs s x m)
 
-  pub on-picked {κ} : {C : Type κ} (r : List Bool) (s : List A) {x : A} → x ∈ picked r s → ((j : ℕ) → getElem? s j ≡ some x → getD r j false ≡ true → C) → C
+  pub on-picked {κ} : {C : Type κ} (r : List Bool) (s : List A) {x : A} → x ∈ picked r s
+      → ((j : ℕ) → getElem? s j ≡ some x → getD r j false ≡ true → C) → C
   on-picked (true ∷ bs) (g ∷ s) (here e) k = k 0 (rw e) refl
   on-picked (true ∷ bs) (g ∷ s) (there m) k = on-picked bs s m (λ j. k (suc j))
   on-picked (false ∷ bs) (g ∷ s) m k = on-picked bs s m (λ j. k (suc j))
@@ -77,7 +77,8 @@ leads-of (suc i) (b ∷ bs) e h = rw (h 0 (omega arith)) (leads-of i bs e (λ m 
 shift : (i c : ℕ) → suc i + c ≡ i + suc c
 shift i c = omega arith
 
-pub on-row {κ} : {C : Type κ} (m : Square) (i : ℕ) {r : List Bool} → r ∈ rowsFrom i m → ((k : ℕ) → getElem? m k ≡ some r → leads (i + k) r ≡ true → C) → C
+pub on-row {κ} : {C : Type κ} (m : Square) (i : ℕ) {r : List Bool} → r ∈ rowsFrom i m → ((k : ℕ) → getElem? m k ≡ some r → leads (i + k) r ≡ true → C)
+    → C
 on-row {C = C} (x ∷ m) i {r} a k = go (leads i x) refl a (λ b. on-row m (suc i) b (λ c e t. k (suc c) e (rw (shift i c) at t)))
   where
     go : (b : Bool) → leads i x ≡ b → r ∈ cond b (x ∷ rowsFrom (suc i) m) (rowsFrom (suc i) m) → (r ∈ rowsFrom (suc i) m → C) → C
@@ -131,7 +132,8 @@ module _ {O : Type 0} (K : Calculus O) where
       record { lead = l; row = r; is-row = a; begins = rw zero-add at t; is = e }
 
   is-class : (s k : State O) → Class s k → k ∈ classes K s
-  is-class s k c = rw (c .is) (sort-in (classBefore K) (map-in (λ r. picked r s) (row-in (closed K s) 0 (c .lead) (c .is-row) (rw zero-add (c .begins)))))
+  is-class s k c = rw (c .is) (sort-in (classBefore K)
+      (map-in (λ r. picked r s) (row-in (closed K s) 0 (c .lead) (c .is-row) (rw zero-add (c .begins)))))
 
   pub class-sub : (s k : State O) → k ∈ classes K s → k ⊆ s
   class-sub s k m = let c = class-is s k m in rw (c .is) (picked-in (c .row) s)
@@ -172,7 +174,8 @@ module _ {O : Type 0} (K : Calculus O) where
   lead-first s k c m l d = false≢true (sym ((leads-at (c .lead) (c .row) (c .begins)) .1 m l) ∙ yes-row s k c m d)
 
   -- classes with a common place have the same first goal
-  pub class-unique : (s k k′ : State O) (c : Class s k) (c′ : Class s k′) (j : ℕ) → Dependent K s (c .lead) j → Dependent K s (c′ .lead) j → c .lead ≡ c′ .lead
+  pub class-unique : (s k k′ : State O) (c : Class s k) (c′ : Class s k′) (j : ℕ) → Dependent K s (c .lead) j → Dependent K s (c′ .lead) j
+      → c .lead ≡ c′ .lead
   class-unique s k k′ c c′ j d e = go (order (c .lead) (c′ .lead))
     where
       there : Dependent K s (c .lead) (c′ .lead)
@@ -184,8 +187,10 @@ module _ {O : Type 0} (K : Calculus O) where
       go (more h) = absurd (lead-first s k c (c′ .lead) h there)
 
   -- a goal that depends on itself is in a class
-  pub class-of {κ} : {C : Type κ} (s : State O) (j : ℕ) → Dependent K s j j → ((k : State O) (c : Class s k) → k ∈ classes K s → Dependent K s (c .lead) j → C) → C
-  class-of {C = C} s j d f = ⊎-elim (λ z. absurd (false≢true (sym (z j ((dependent-place K s d) .0)) ∙ (dependent-closed K s j j) .1 d))) go (least (cell (closed K s) j) (length s))
+  pub class-of {κ} : {C : Type κ} (s : State O) (j : ℕ) → Dependent K s j j
+      → ((k : State O) (c : Class s k) → k ∈ classes K s → Dependent K s (c .lead) j → C) → C
+  class-of {C = C} s j d f = ⊎-elim (λ z. absurd (false≢true (sym (z j ((dependent-place K s d) .0)) ∙ (dependent-closed K s j j) .1 d))) go
+      (least (cell (closed K s) j) (length s))
     where
       go : Least (cell (closed K s) j) (length s) → C
       go l = on-cell (closed K s) (l .at) (l .at) ((dependent-closed K s (l .at) (l .at)) .1 (dependent-join K s (dependent-sym K s to) to)) λ r a t.
@@ -202,7 +207,8 @@ module _ {O : Type 0} (K : Calculus O) where
               go′ false e = e
               go′ true e =
                   let y : cell (closed K s) (l .at) m ≡ true = ap (λ x. getD x m false) (getD-at (closed K s) (l .at) [] a) ∙ e in
-                  let u : cell (closed K s) j m ≡ true = (dependent-closed K s j m) .1 (dependent-join K s to ((dependent-closed K s (l .at) m) .0 y)) in
+                  let u : cell (closed K s) j m ≡ true =
+                  (dependent-closed K s j m) .1 (dependent-join K s to ((dependent-closed K s (l .at) m) .0 y)) in
                   absurd (false≢true (sym (l .before m h) ∙ u))
 
 -- exactly one of the rows that begin a class passes a test
@@ -215,18 +221,24 @@ rows-one P (x ∷ m) i zero r e t p u =
   where
     rest : (y : List Bool) → y ∈ rowsFrom (suc i) m → one (P y) ≡ 0
     rest y a = on-row m (suc i) a λ k b c. rw (not-true (P y) (λ q. let v = u (suc k) y b (rw (shift i k) at c) q in omega arith))
-rows-one P (x ∷ m) i (suc l) r e t p u = go (leads i x) refl (rows-one P m (suc i) l r e (rw (← (shift i l)) at t) p (λ k y b c q. let v = u (suc k) y b (rw (shift i k) at c) q in omega arith))
+rows-one P (x ∷ m) i (suc l) r e t p u =
+    go (leads i x) refl (rows-one P m (suc i) l r e (rw (← (shift i l)) at t) p
+    (λ k y b c q. let v = u (suc k) y b (rw (shift i k) at c) q in omega arith))
   where
-    go : (b : Bool) → leads i x ≡ b → sum (map (λ y. one (P y)) (rowsFrom (suc i) m)) ≡ 1 → sum (map (λ y. one (P y)) (cond b (x ∷ rowsFrom (suc i) m) (rowsFrom (suc i) m))) ≡ 1
+    go : (b : Bool) → leads i x ≡ b → sum (map (λ y. one (P y)) (rowsFrom (suc i) m)) ≡ 1
+        → sum (map (λ y. one (P y)) (cond b (x ∷ rowsFrom (suc i) m) (rowsFrom (suc i) m))) ≡ 1
     go true h ih = rw (not-true (P x) (λ q. let v = u 0 x refl (rw (add-zero, h)) q in omega arith)) (omega arith)
     go false h ih = ih
 
 module _ {O : Type 0} (K : Calculus O) (P : State O → Bool) (s : State O) where
   sum-rows : sum (map (λ k. one (P k)) (classes K s)) ≡ sum (map (λ r. one (P (picked r s))) (rowsFrom 0 (closed K s)))
-  sum-rows = sym (sum-perm (λ k. one (P k)) (sort-perm (classBefore K) (map (λ r. picked r s) (rowsFrom 0 (closed K s))))) ∙ sum-map (λ k. one (P k)) (λ r. picked r s) (rowsFrom 0 (closed K s))
+  sum-rows = sym (sum-perm (λ k. one (P k)) (sort-perm (classBefore K) (map (λ r. picked r s) (rowsFrom 0 (closed K s)))))
+      ∙ sum-map (λ k. one (P k)) (λ r. picked r s) (rowsFrom 0 (closed K s))
 
-  pub classes-one : (k : State O) (c : Class K s k) → P k ≡ true → ((k′ : State O) (c′ : Class K s k′) → P k′ ≡ true → c′ .lead ≡ c .lead) → sum (map (λ k. one (P k)) (classes K s)) ≡ 1
-  classes-one k c p u = sum-rows ∙ rows-one (λ r. P (picked r s)) (closed K s) 0 (c .lead) (c .row) (c .is-row) (rw zero-add (c .begins)) (rw (← (c .is)) p)
+  pub classes-one : (k : State O) (c : Class K s k) → P k ≡ true → ((k′ : State O) (c′ : Class K s k′) → P k′ ≡ true → c′ .lead ≡ c .lead)
+      → sum (map (λ k. one (P k)) (classes K s)) ≡ 1
+  classes-one k c p u = sum-rows ∙ rows-one (λ r. P (picked r s)) (closed K s) 0 (c .lead) (c .row) (c .is-row) (rw zero-add (c .begins))
+      (rw (← (c .is)) p)
       (λ l r a t q. u (picked r s) (record { lead = l; row = r; is-row = a; begins = rw zero-add at t; is = refl }) q)
 
   pub classes-none : ((k : State O) → k ∈ classes K s → P k ≡ false) → sum (map (λ k. one (P k)) (classes K s)) ≡ 0

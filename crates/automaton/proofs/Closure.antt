@@ -32,15 +32,18 @@ module _ (R : ℕ → ℕ → Bool) where
   rounds-chain zero i j e = one e
   rounds-chain (suc n) i j e = go (or-case (rounds n i j) e) (λ a b. rounds-chain n a b)
     where
-      go : (rounds n i j ≡ true) ⊎ ((rounds n i n && rounds n n j) ≡ true) → ((a b : ℕ) → rounds n a b ≡ true → Chain n (Yes R) a b) → Chain (suc n) (Yes R) i j
+      go : (rounds n i j ≡ true) ⊎ ((rounds n i n && rounds n n j) ≡ true) → ((a b : ℕ) → rounds n a b ≡ true → Chain n (Yes R) a b)
+          → Chain (suc n) (Yes R) i j
       go (inl d) ih = chain-wider (omega arith) (ih i j d)
-      go (inr d) ih = via {m = n} (omega arith) (chain-wider (omega arith) (ih i n (and-l _ d))) (chain-wider (omega arith) (ih n j (and-r (rounds n i n) d)))
+      go (inr d) ih = via {m = n} (omega arith) (chain-wider (omega arith) (ih i n (and-l _ d)))
+          (chain-wider (omega arith) (ih n j (and-r (rounds n i n) d)))
 
   chain-rounds : (n i j : ℕ) → Chain n (Yes R) i j → rounds n i j ≡ true
   chain-rounds zero i j c = chain-step c
   chain-rounds (suc n) i j c = go (chain-split n (suc n) (omega arith) c) (λ a b. chain-rounds n a b)
     where
-      go : Chain n (Yes R) i j ⊎ (Chain n (Yes R) i n × Chain n (Yes R) n j) → ((a b : ℕ) → Chain n (Yes R) a b → rounds n a b ≡ true) → rounds (suc n) i j ≡ true
+      go : Chain n (Yes R) i j ⊎ (Chain n (Yes R) i n × Chain n (Yes R) n j) → ((a b : ℕ) → Chain n (Yes R) a b → rounds n a b ≡ true)
+          → rounds (suc n) i j ≡ true
       go (inl d) ih = or-l _ (ih i j d)
       go (inr d) ih = or-r (rounds n i j) (both (ih i n (d .0)) (ih n j (d .1)))
 
@@ -59,7 +62,8 @@ through-at k m i j =
     rw (List·getD-map (λ row. cond (getD row k false) (ors row (getD m k [])) row) m i [])
     (row-at (cell m i k) (getD m i []) (getD m k []) j)
 
-close-from : (R : ℕ → ℕ → Bool) (n c : ℕ) (m : Square) → ((i j : ℕ) → cell m i j ≡ rounds R c i j) → (i j : ℕ) → cell (close (range c n) m) i j ≡ rounds R (c + n) i j
+close-from : (R : ℕ → ℕ → Bool) (n c : ℕ) (m : Square) → ((i j : ℕ) → cell m i j ≡ rounds R c i j) → (i j : ℕ)
+    → cell (close (range c n) m) i j ≡ rounds R (c + n) i j
 close-from R zero c m h i j = rw add-zero (h i j)
 close-from R (suc n) c m h i j =
     let e : c + suc n ≡ suc c + n = omega arith in
@@ -73,21 +77,25 @@ pub close-chain : (n : ℕ) (m : Square) (i j : ℕ) → (cell (close (range 0 n
 close-chain n m i j = (λ e. rounds-chain (cell m) n i j (sym (close-at n m i j) ∙ e), λ c. close-at n m i j ∙ chain-rounds (cell m) n i j c)
 
 -- what stands in a list that is made of each
-on-yes {κ} : {A : Type 0} {C : Type κ} (f : A → Bool) (s : List A) (j : ℕ) → getD (map f s) j false ≡ true → ((x : A) → getElem? s j ≡ some x → f x ≡ true → C) → C
+on-yes {κ} : {A : Type 0} {C : Type κ} (f : A → Bool) (s : List A) (j : ℕ) → getD (map f s) j false ≡ true
+    → ((x : A) → getElem? s j ≡ some x → f x ≡ true → C) → C
 on-yes f [] j e k = absurd (false≢true e)
 on-yes f (x ∷ s) zero e k = k x refl e
 on-yes f (x ∷ s) (suc j) e k = on-yes f s j e k
 
-on-row {κ} : {A : Type 0} {C : Type κ} (f : A → List Bool) (s : List A) (i j : ℕ) → cell (map f s) i j ≡ true → ((x : A) → getElem? s i ≡ some x → getD (f x) j false ≡ true → C) → C
+on-row {κ} : {A : Type 0} {C : Type κ} (f : A → List Bool) (s : List A) (i j : ℕ) → cell (map f s) i j ≡ true
+    → ((x : A) → getElem? s i ≡ some x → getD (f x) j false ≡ true → C) → C
 on-row f [] i j e k = absurd (false≢true e)
 on-row f (x ∷ s) zero j e k = k x refl e
 on-row f (x ∷ s) (suc i) j e k = on-row f s i j e k
 
 module _ {O : Type 0} (K : Calculus O) where
-  pub on-square {κ} : {C : Type κ} (s : State O) (i j : ℕ) → cell (square K s) i j ≡ true → ((g h : Goal O) → getElem? s i ≡ some g → getElem? s j ≡ some h → dep K g h ≡ true → C) → C
+  pub on-square {κ} : {C : Type κ} (s : State O) (i j : ℕ) → cell (square K s) i j ≡ true
+      → ((g h : Goal O) → getElem? s i ≡ some g → getElem? s j ≡ some h → dep K g h ≡ true → C) → C
   on-square s i j e k = on-row (λ g. map (dep K g) s) s i j e λ g a t. on-yes (dep K g) s j t λ h b u. k g h a b u
 
-  pub square-of : (s : State O) (i j : ℕ) {g h : Goal O} → getElem? s i ≡ some g → getElem? s j ≡ some h → dep K g h ≡ true → cell (square K s) i j ≡ true
+  pub square-of : (s : State O) (i j : ℕ) {g h : Goal O} → getElem? s i ≡ some g → getElem? s j ≡ some h → dep K g h ≡ true
+      → cell (square K s) i j ≡ true
   square-of s i j {g} a b t =
       let row : getD (square K s) i [] ≡ map (dep K g) s = getD-at (square K s) i [] (at-map (λ x. map (dep K x) s) s i a) in
       ap (λ r. getD r j false) row ∙ getD-at (map (dep K g) s) j false (at-map (dep K g) s j b) ∙ t

@@ -34,11 +34,13 @@ use Rattle.automaton.proofs.ReadOnce.{looks-sees}
 use Rattle.automaton.proofs.Invariant.{Invariant, some-sum}
 
 -- where one test passes only if another does
-sum-under : {A : Type 0} (F G : A → Bool) (xs : List A) → ((x : A) → x ∈ xs → F x ≡ true → G x ≡ true) → sum (map (λ x. one (F x)) xs) ≤ sum (map (λ x. one (G x)) xs)
+sum-under : {A : Type 0} (F G : A → Bool) (xs : List A) → ((x : A) → x ∈ xs → F x ≡ true → G x ≡ true)
+    → sum (map (λ x. one (F x)) xs) ≤ sum (map (λ x. one (G x)) xs)
 sum-under F G [] h = omega arith
 sum-under F G (x ∷ xs) h = go (F x) refl (G x) refl (sum-under F G xs (λ y m. h y (there m)))
   where
-    go : (a : Bool) → F x ≡ a → (b : Bool) → G x ≡ b → sum (map (λ y. one (F y)) xs) ≤ sum (map (λ y. one (G y)) xs) → one a + sum (map (λ y. one (F y)) xs) ≤ one b + sum (map (λ y. one (G y)) xs)
+    go : (a : Bool) → F x ≡ a → (b : Bool) → G x ≡ b → sum (map (λ y. one (F y)) xs) ≤ sum (map (λ y. one (G y)) xs)
+        → one a + sum (map (λ y. one (F y)) xs) ≤ one b + sum (map (λ y. one (G y)) xs)
     go true e true d ih = omega arith
     go true e false d ih = absurd (false≢true (sym d ∙ h x (here refl) e))
     go false e b d ih = omega arith
@@ -74,12 +76,15 @@ module _ (C : Scored) where
       let n = whole-at (C .score) (C .whole) (looks S it) (u .0) (u .1) in
       (n .0, n .1, rw (← (n .2)) (u .1))
 
-  pub goes-self : (it : Item) → Reachable S (it .state) → (f : ℕ) (ts : Terms) → sub (C .score) (looks S it) ≡ some (node f ts) → Goes S (follows S it f (count ts)) (follows S it f (count ts))
+  pub goes-self : (it : Item) → Reachable S (it .state) → (f : ℕ) (ts : Terms) → sub (C .score) (looks S it) ≡ some (node f ts)
+      → Goes S (follows S it f (count ts)) (follows S it f (count ts))
   goes-self it r f ts e = go (classes K (deriv K (it .state) f (count ts))) (λ k m. m)
     where
       go : (ks : List (State Pos)) → ks ⊆ classes K (deriv K (it .state) f (count ts)) → Goes S (map (goesOn S it) ks) (map (goesOn S it) ks)
       go [] h = none-go
-      go (k ∷ ks) h = one-goes refl (alike-refl _) (next f (count ts) r (fits-at (S .counts) (C .score-blanks) (C .score) (C .score-fits) (looks S it) f ts e) (h k (here refl))) (go ks (λ y m. h y (there m)))
+      go (k ∷ ks) h = one-goes refl (alike-refl _)
+          (next f (count ts) r (fits-at (S .counts) (C .score-blanks) (C .score) (C .score-fits) (looks S it) f ts e) (h k (here refl)))
+          (go ks (λ y m. h y (there m)))
 
   abbrev pub steps : {items : List Item} {R : List Pos} {told : List Announcement} → Walked C items R told → ℕ
   steps begin = 0
@@ -89,23 +94,28 @@ module _ (C : Scored) where
   read-steps begin = refl
   read-steps (step before after R told it f ts js w e g) = rw (length-append, read-steps w) (omega arith)
 
-  looked : {items : List Item} {R : List Pos} {told : List Announcement} → Invariant C items R told → (q : Pos) → q ∈ (map (looks S) items ++ R) → (u : Term) × (sub (C .score) q ≡ some u)
-  looked {items} {R} inv q m = ⊎-elim (λ i. on-map (looks S) items i λ it j e. let n = can-look inv it j in rw e (node (n .0) (n .1), n .2)) (λ i. inv .read-inside q i) (∈-append (map (looks S) items) m)
+  looked : {items : List Item} {R : List Pos} {told : List Announcement} → Invariant C items R told → (q : Pos) → q ∈ (map (looks S) items ++ R)
+      → (u : Term) × (sub (C .score) q ≡ some u)
+  looked {items} {R} inv q m = ⊎-elim (λ i. on-map (looks S) items i λ it j e. let n = can-look inv it j in rw e (node (n .0) (n .1), n .2))
+      (λ i. inv .read-inside q i) (∈-append (map (looks S) items) m)
 
   pub looks-distinct : {items : List Item} {R : List Pos} {told : List Announcement} → Invariant C items R told → Distinct (map (looks S) items ++ R)
   looks-distinct {items} {R} inv = distinct-of (map (looks S) items ++ R) (λ q m.
       let u = looked inv q m in
       let h = inv .once q (u .0) (u .1) in
-      let a = sum-under (λ it. same (looks S it) q) (λ it. sees it q) items (λ it i e. rw (← (same-is (looks S it) q e)) (looks-sees S it (reachable-sound S (inv .reach it i)))) in
+      let a = sum-under (λ it. same (looks S it) q) (λ it. sees it q) items
+      (λ it i e. rw (← (same-is (looks S it) q e)) (looks-sees S it (reachable-sound S (inv .reach it i)))) in
       let b = sum-map (λ p. one (same p q)) (looks S) items in
       rw (sum-append (λ p. one (same p q)) (map (looks S) items) R) (omega arith))
 
   pub read-distinct : {items : List Item} {R : List Pos} {told : List Announcement} → Invariant C items R told → Distinct R
   read-distinct {items} {R} inv = distinct-of R (λ q m. let u = inv .read-inside q m in let h = inv .once q (u .0) (u .1) in omega arith)
 
-  pub waiting-unread : {items : List Item} {R : List Pos} {told : List Announcement} → Invariant C items R told → length items + length R ≤ span (C .score)
+  pub waiting-unread : {items : List Item} {R : List Pos} {told : List Announcement} → Invariant C items R told
+      → length items + length R ≤ span (C .score)
   waiting-unread {items} {R} inv =
-      let h = distinct-le (map (looks S) items ++ R) (dom (C .score)) (looks-distinct inv) (λ q m. let u = looked inv q m in dom-in q (C .score) (u .1)) in
+      let h = distinct-le (map (looks S) items ++ R) (dom (C .score)) (looks-distinct inv)
+      (λ q m. let u = looked inv q m in dom-in q (C .score) (u .1)) in
       let a = length-append (map (looks S) items) R in
       let b = length-map items (looks S) in
       let c = length-dom (C .score) in
@@ -114,7 +124,8 @@ module _ (C : Scored) where
   pub read-all : {R : List Pos} {told : List Announcement} → Invariant C [] R told → (q : Pos) (u : Term) → sub (C .score) q ≡ some u → q ∈ R
   read-all {R} inv q u e = in-times q R (let h = inv .once q u e in omega arith)
 
-  pub none-waits : {items : List Item} {R : List Pos} {told : List Announcement} → Invariant C items R told → (items ≡ []) ↔ (length R ≡ span (C .score))
+  pub none-waits : {items : List Item} {R : List Pos} {told : List Announcement} → Invariant C items R told
+      → (items ≡ []) ↔ (length R ≡ span (C .score))
   none-waits {items} {R} {told} inv = (all-read, λ e. none-left items (let h = waiting-unread inv in omega arith))
     where
       all-read : items ≡ [] → length R ≡ span (C .score)

@@ -60,7 +60,8 @@ module _ (S : Setting) where
           classes-one K (λ x. covers x q) d k c (covered k q (owes (class-has K d k c j aj dj) b) h) (only g o b h j aj k c dj)
         where
           -- another class that covers q owes at the same position
-          only : (g : Goal Pos) (o : Pos) → o ∈ g .obs → q ≼ o → (j : ℕ) → getElem? d j ≡ some g → (k : State Pos) (c : Class K d k) → Dependent K d (c .lead) j
+          only : (g : Goal Pos) (o : Pos) → o ∈ g .obs → q ≼ o → (j : ℕ) → getElem? d j ≡ some g → (k : State Pos) (c : Class K d k)
+              → Dependent K d (c .lead) j
               → (k′ : State Pos) (c′ : Class K d k′) → covers k′ q ≡ true → c′ .lead ≡ c .lead
           only g o b h j aj k c dj k′ c′ p =
               on-covers k′ q p λ g′ o′ a′ b′ h′.
@@ -103,9 +104,11 @@ module _ (S : Setting) where
             where
               at : (x : Bool) → same L o ≡ x → covers D q ≡ true
               at true e = ⊎-elim (λ (z : q ≡ L). absurd (ne z))
-                  (λ i. by-fresh (L ++ (i .0 ∷ [])) (i .1) (new-in S s f n (i .0) 0 ((fits (i .0) (i .1)) .0) ((fits (i .0) (i .1)) .1) (S .some-shape)))
+                  (λ i. by-fresh (L ++ (i .0 ∷ [])) (i .1)
+                  (new-in S s f n (i .0) 0 ((fits (i .0) (i .1)) .0) ((fits (i .0) (i .1)) .1) (S .some-shape)))
                   (below-cases (rw (← (same-is L o e)) at h))
-              at false e = by-fresh o h (fresh-stays S s f n o 0 (w .goals .fresh o (owes a b) 0 (S .some-shape)) (λ z. false≢true (sym e ∙ rw z (same-refl L))))
+              at false e = by-fresh o h (fresh-stays S s f n o 0 (w .goals .fresh o (owes a b) 0 (S .some-shape))
+                  (λ z. false≢true (sym e ∙ rw z (same-refl L))))
 
       off : covers D q ≡ true → covers s q ≡ true
       off c = on-covers D q c λ g o a b h. go o h (from S s f n g o a b)

@@ -44,7 +44,8 @@ pub on-owes {κ} : {C : Type κ} (s : State Pos) {o : Pos} → Owes s o → ((g 
 on-owes s m k = on-gather (λ g. g .obs) s m k
 
 -- ---- what is put in the place of a position
-pub on-inPlace {κ} : {C : Type κ} (p : Pos) (new os : List Pos) {o : Pos} → o ∈ gather (inPlace p new) os → (o ∈ os → same p o ≡ false → C) → (p ∈ os → o ∈ new → C) → C
+pub on-inPlace {κ} : {C : Type κ} (p : Pos) (new os : List Pos) {o : Pos} → o ∈ gather (inPlace p new) os → (o ∈ os → same p o ≡ false → C)
+    → (p ∈ os → o ∈ new → C) → C
 on-inPlace {C = C} p new os {o} m kept put = on-gather (inPlace p new) os m λ q i j. go q i (same p q) refl j
   where
     go : (q : Pos) → q ∈ os → (b : Bool) → same p q ≡ b → o ∈ cond b new (q ∷ []) → C
@@ -57,10 +58,13 @@ inPlace-kept p new {os} {o} m e = let z : o ∈ inPlace p new o = rw e (here ref
 pub inPlace-put : (p : Pos) (new : List Pos) {os : List Pos} {o : Pos} → p ∈ os → o ∈ new → o ∈ gather (inPlace p new) os
 inPlace-put p new {os} {o} m i = let z : o ∈ inPlace p new p = rw (same-refl p) i in gather-in (inPlace p new) m z
 
-pub on-args {κ} : {C : Type κ} (p : Pos) (c n : ℕ) (us : Terms) {o : Pos} → o ∈ args p c n us → ((j h : ℕ) (vs : Terms) → j < n → o ≡ p ++ ((c + j) ∷ []) → nth us j ≡ some (node h vs) → C) → C
-on-args p c (suc n) (tcons (blank w) us) m k = on-args p (suc c) n us m (λ j h vs l e d. let z : suc c + j ≡ c + suc j = omega arith in k (suc j) h vs (omega arith) (rw z at e) d)
+pub on-args {κ} : {C : Type κ} (p : Pos) (c n : ℕ) (us : Terms) {o : Pos} → o ∈ args p c n us
+    → ((j h : ℕ) (vs : Terms) → j < n → o ≡ p ++ ((c + j) ∷ []) → nth us j ≡ some (node h vs) → C) → C
+on-args p c (suc n) (tcons (blank w) us) m k =
+    on-args p (suc c) n us m (λ j h vs l e d. let z : suc c + j ≡ c + suc j = omega arith in k (suc j) h vs (omega arith) (rw z at e) d)
 on-args p c (suc n) (tcons (node g ws) us) (here e) k = let z : c + 0 ≡ c = omega arith in k 0 g ws (omega arith) (rw z e) refl
-on-args p c (suc n) (tcons (node g ws) us) (there m) k = on-args p (suc c) n us m (λ j h vs l e d. let z : suc c + j ≡ c + suc j = omega arith in k (suc j) h vs (omega arith) (rw z at e) d)
+on-args p c (suc n) (tcons (node g ws) us) (there m) k =
+    on-args p (suc c) n us m (λ j h vs l e d. let z : suc c + j ≡ c + suc j = omega arith in k (suc j) h vs (omega arith) (rw z at e) d)
 
 pub args-in : (p : Pos) (us : Terms) (c n j : ℕ) {h : ℕ} {vs : Terms} → nth us j ≡ some (node h vs) → j < n → (p ++ ((c + j) ∷ [])) ∈ args p c n us
 args-in p tnil c n j e l = none-not e
@@ -71,13 +75,16 @@ args-in p (tcons (blank w) us) c (suc n) zero {h} {vs} e l = absurd (no-blank e)
     no-blank e = let z : _≡_ {A = ℕ} 0 1 = cc in omega arith
 args-in p (tcons (node g ws) us) c (suc n) zero e l = rw add-zero (here refl)
 args-in p (tcons (blank w) us) c (suc n) (suc j) e l = let z : c + suc j ≡ suc c + j = omega arith in rw z (args-in p us (suc c) n j e (omega arith))
-args-in p (tcons (node g ws) us) c (suc n) (suc j) e l = let z : c + suc j ≡ suc c + j = omega arith in rw z (there (args-in p us (suc c) n j e (omega arith)))
+args-in p (tcons (node g ws) us) c (suc n) (suc j) e l = let z : c + suc j ≡ suc c + j = omega arith in
+    rw z (there (args-in p us (suc c) n j e (omega arith)))
 
-pub on-argsOf {κ} : {C : Type κ} (p : Pos) (n : ℕ) (t : Option Term) {o : Pos} → o ∈ argsOf p n t → ((f : ℕ) (us : Terms) → t ≡ some (node f us) → o ∈ args p 1 n us → C) → C
+pub on-argsOf {κ} : {C : Type κ} (p : Pos) (n : ℕ) (t : Option Term) {o : Pos} → o ∈ argsOf p n t
+    → ((f : ℕ) (us : Terms) → t ≡ some (node f us) → o ∈ args p 1 n us → C) → C
 on-argsOf p n (some (node f us)) m k = k f us refl m
 
 -- child numbers of p, from 1 to n
-pub args-under {κ} : {C : Type κ} (p : Pos) (n : ℕ) (t : Option Term) {o : Pos} → o ∈ argsOf p n t → ((i : ℕ) → 1 ≤ i → i ≤ n → o ≡ p ++ (i ∷ []) → C) → C
+pub args-under {κ} : {C : Type κ} (p : Pos) (n : ℕ) (t : Option Term) {o : Pos} → o ∈ argsOf p n t → ((i : ℕ) → 1 ≤ i → i ≤ n → o ≡ p ++ (i ∷ []) → C)
+    → C
 args-under p n t m k = on-argsOf p n t m λ f us e a. on-args p 1 n us a λ j h vs l d x. k (1 + j) (omega arith) (omega arith) d
 
 on-headsOf {κ} : {C : Type κ} (f : ℕ) (o : Option Term) → headsOf f o ≡ true → ((us : Terms) → o ≡ some (node f us) → C) → C
@@ -102,7 +109,8 @@ module _ {O : Type 0} (K : Calculus O) where
   pub first-in : (os : List O) {o : O} → o ∈ os → (x : O) × (x ∈ os) × (K .at x ≡ first K os)
   first-in (o ∷ os) m = go (firstFrom-in (K .at o) os)
     where
-      go : (firstFrom K (K .at o) os ≡ K .at o) ⊎ ((x : O) × (x ∈ os) × (K .at x ≡ firstFrom K (K .at o) os)) → (x : O) × (x ∈ (o ∷ os)) × (K .at x ≡ firstFrom K (K .at o) os)
+      go : (firstFrom K (K .at o) os ≡ K .at o) ⊎ ((x : O) × (x ∈ os) × (K .at x ≡ firstFrom K (K .at o) os)) → (x : O) × (x ∈ (o ∷ os))
+          × (K .at x ≡ firstFrom K (K .at o) os)
       go (inl e) = (o, here refl, sym e)
       go (inr e) = (e .0, there (e .1), e .2)
 
@@ -111,7 +119,8 @@ module _ (S : Setting) where
   K = calculus S
 
   -- where some root goal owes something, the label is what a root goal owes
-  pub on-label {κ} : {C : Type κ} (s : State Pos) (r : Goal Pos) (o : Pos) → r ∈ s → r .ann ≡ [] → o ∈ r .obs → ((g : Goal Pos) → g ∈ s → g .ann ≡ [] → label K s ∈ g .obs → C) → C
+  pub on-label {κ} : {C : Type κ} (s : State Pos) (r : Goal Pos) (o : Pos) → r ∈ s → r .ann ≡ [] → o ∈ r .obs
+      → ((g : Goal Pos) → g ∈ s → g .ann ≡ [] → label K s ∈ g .obs → C) → C
   on-label s r o i e j k =
       let x = first-in K (allObs (filter (λ g. isRoot (g .ann)) s)) (gather-in (λ g. g .obs) (filter-in (λ g. isRoot (g .ann)) i (rw e)) j) in
       on-gather (λ g. g .obs) (filter (λ g. isRoot (g .ann)) s) (x .1) λ g a b.
@@ -126,7 +135,8 @@ module _ (S : Setting) where
   pub expects-owes : (f : ℕ) (p : Pos) (g : Goal Pos) → K .expects f p g ≡ true → p ∈ g .obs
   expects-owes f p g e = on-any (same p) (g .obs) (and-l _ e) λ o m t. rw (same-is p o t) m
 
-  pub on-expects {κ} : {C : Type κ} (f : ℕ) (p : Pos) (g : Goal Pos) → K .expects f p g ≡ true → ((us : Terms) → owed (S .shapes) g p ≡ some (node f us) → C) → C
+  pub on-expects {κ} : {C : Type κ} (f : ℕ) (p : Pos) (g : Goal Pos) → K .expects f p g ≡ true
+      → ((us : Terms) → owed (S .shapes) g p ≡ some (node f us) → C) → C
   on-expects f p g e k = on-headsOf f (owed (S .shapes) g p) (and-r (any (same p) (g .obs)) e) k
 
   pub expects-of : (f : ℕ) (p : Pos) (g : Goal Pos) (us : Terms) → p ∈ g .obs → owed (S .shapes) g p ≡ some (node f us) → K .expects f p g ≡ true
@@ -144,7 +154,8 @@ module _ (S : Setting) where
     cut : (h : Goal Pos) → h ∈ s → K .expects f (label K s) h ≡ true → g ≡ reduced K (label K s) n h → (o : Pos) → o ∈ g .obs → Derived s f n g
     new : (i j : ℕ) → 1 ≤ i → i ≤ n → j < length (S .shapes) → g ≡ fresh (label K s ++ (i ∷ [])) j → Derived s f n g
 
-  pub on-met {κ} : {C : Type κ} (s : State Pos) (f n : ℕ) {g : Goal Pos} → g ∈ met K s f n → ((h : Goal Pos) → h ∈ s → K .expects f (label K s) h ≡ true → g ≡ reduced K (label K s) n h → C) → C
+  pub on-met {κ} : {C : Type κ} (s : State Pos) (f n : ℕ) {g : Goal Pos} → g ∈ met K s f n
+      → ((h : Goal Pos) → h ∈ s → K .expects f (label K s) h ≡ true → g ≡ reduced K (label K s) n h → C) → C
   on-met s f n m k = on-map (reduced K (label K s) n) (filter (K .expects f (label K s)) s) m λ h i e.
       let w = in-filter (K .expects f (label K s)) s i in
       k h (w .0) (w .1) e
@@ -153,7 +164,8 @@ module _ (S : Setting) where
   met-in s f n h m e = map-in (reduced K (label K s) n) (filter-in (K .expects f (label K s)) m e)
 
   pub derived : (s : State Pos) (f n : ℕ) (g : Goal Pos) → g ∈ deriv K s f n → Derived s f n g
-  derived s f n g m = ⊎-elim old (λ i. ⊎-elim less fresh-one (∈-append (filter (λ x. not (isNil (x .obs))) (met K s f n)) i)) (∈-append (filter (λ x. not (has K (label K s) (x .obs))) s) m)
+  derived s f n g m = ⊎-elim old (λ i. ⊎-elim less fresh-one (∈-append (filter (λ x. not (isNil (x .obs))) (met K s f n)) i))
+      (∈-append (filter (λ x. not (has K (label K s) (x .obs))) s) m)
     where
       old : g ∈ filter (λ x. not (has K (label K s) (x .obs))) s → Derived s f n g
       old i = let w = in-filter (λ x. not (has K (label K s) (x .obs))) s i in kept (w .0) (of-not _ (w .1))
@@ -181,13 +193,15 @@ module _ (S : Setting) where
 
   pub cut-in : (s : State Pos) (f n : ℕ) (h : Goal Pos) → h ∈ s → K .expects f (label K s) h ≡ true → isNil ((reduced K (label K s) n h) .obs) ≡ false
       → reduced K (label K s) n h ∈ deriv K s f n
-  cut-in s f n h m e d = ∈-right (filter (λ x. not (has K (label K s) (x .obs))) s) (∈-left _ (filter-in (λ x. not (isNil (x .obs))) (met-in s f n h m e) (rw d)))
+  cut-in s f n h m e d = ∈-right (filter (λ x. not (has K (label K s) (x .obs))) s)
+      (∈-left _ (filter-in (λ x. not (isNil (x .obs))) (met-in s f n h m e) (rw d)))
 
   pub new-in : (s : State Pos) (f n i j : ℕ) → 1 ≤ i → i ≤ n → j < length (S .shapes) → fresh (label K s ++ (i ∷ [])) j ∈ deriv K s f n
   new-in s f n i j l u h =
       ∈-right (filter (λ x. not (has K (label K s) (x .obs))) s)
       (∈-right (filter (λ x. not (isNil (x .obs))) (met K s f n))
-      (gather-in (λ c. K .fresh (label K s ++ (c ∷ []))) (range-in n 1 i l (omega arith)) (map-in (fresh (label K s ++ (i ∷ []))) (range-in (length (S .shapes)) 0 j (omega arith) (omega arith)))))
+      (gather-in (λ c. K .fresh (label K s ++ (c ∷ []))) (range-in n 1 i l (omega arith))
+      (map-in (fresh (label K s ++ (i ∷ []))) (range-in (length (S .shapes)) 0 j (omega arith) (omega arith)))))
 
   pub on-initial {κ} : {C : Type κ} {g : Goal Pos} → g ∈ initial K → ((j : ℕ) → j < length (S .shapes) → g ≡ fresh [] j → C) → C
   on-initial m k = on-map (fresh []) (range 0 (length (S .shapes))) m λ j d e. let v = in-range (length (S .shapes)) 0 j d in k j (omega arith) e
@@ -217,7 +231,8 @@ module _ (S : Setting) where
       go (new c j l u h d) = under c l u (only (rw d at i))
 
   -- ---- lifting
-  pub on-lifted {κ} : {C : Type κ} (k : State Pos) (o : Pos) → Owes (lift K k) o → ((x : Pos) (g : Goal Pos) → g ∈ k → x ∈ g .obs → o ≡ strip (gcp k) x → C) → C
+  pub on-lifted {κ} : {C : Type κ} (k : State Pos) (o : Pos) → Owes (lift K k) o
+      → ((x : Pos) (g : Goal Pos) → g ∈ k → x ∈ g .obs → o ≡ strip (gcp k) x → C) → C
   on-lifted k o m c =
       on-gather (λ g. g .obs) (lift K k) m λ g i j.
       on-map (liftGoal K (gcp k)) k i λ h a e.

@@ -34,13 +34,15 @@ module _ (S : Setting) where
   abbrev K : Calculus Pos
   K = calculus S
 
-  pub explored-numbered : (ss : List (State Pos)) (bs : List Block) → explored (construction K) (S .counts) ≡ made ss bs → Numbered K (S .counts) ss bs
+  pub explored-numbered : (ss : List (State Pos)) (bs : List Block) → explored (construction K) (S .counts) ≡ made ss bs
+      → Numbered K (S .counts) ss bs
   explored-numbered ss bs e = numbered K same-refl (S .counts) ss bs e
 
   pub label-small : (s : State Pos) → SoundState S s → Small (label K s)
   label-small s w = w .goals .small (label K s) (label-owes S s w)
 
-  pub out-small : (s : State Pos) → SoundState S s → (f n : ℕ) (a : Announcement) → a ∈ outputs K s f n → (a .shape < length (S .shapes)) × Small (a .at)
+  pub out-small : (s : State Pos) → SoundState S s → (f n : ℕ) (a : Announcement) → a ∈ outputs K s f n → (a .shape < length (S .shapes))
+      × Small (a .at)
   out-small s w f n a m = on-outputs S s f n m λ g j x z d.
       let o = w .goals .owing g j in
       let r = w .goals .real g j (o .0) (o .1) in
@@ -54,13 +56,15 @@ module _ (S : Setting) where
     numbered-few s m = ⊎-elim (λ (e : s ≡ initial K). let z = first-few in rw e (omega arith)) (λ h. h) (num .small s m)
       where
         first-few : length (initial K) ≤ 16
-        first-few = let a = length-map (range 0 (length (S .shapes))) (fresh []) in let b = length-range 0 (length (S .shapes)) in let c = S .few-shapes in omega arith
+        first-few = let a = length-map (range 0 (length (S .shapes))) (fresh []) in let b = length-range 0 (length (S .shapes)) in let c =
+            S .few-shapes in omega arith
 
     abbrev pub named : Item → Succ → Item
     named it x = record { state = getD ss (x .to) []; at = it .at ++ x .by }
 
     module _ (s : State Pos) (w : SoundState S s) (f n : ℕ) (arity : getElem? (S .counts) f ≡ some n) where
-      links-small : (ks : List (State Pos)) (xs : List Succ) → ks ⊆ classes K (deriv K s f n) → Links K ss ks xs → (x : Succ) → x ∈ xs → (x .to < length ss) × Small (x .by)
+      links-small : (ks : List (State Pos)) (xs : List Succ) → ks ⊆ classes K (deriv K s f n) → Links K ss ks xs → (x : Succ) → x ∈ xs
+          → (x .to < length ss) × Small (x .by)
       links-small [] [] h no-link x m = elim m [ ]
       links-small (k ∷ ks) (y ∷ xs) h (link few a b c l) x (here e) =
           let d = deriv-sound S s w f n arity in

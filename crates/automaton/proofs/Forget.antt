@@ -45,7 +45,8 @@ pub record Carries {O P : Type 0} (K : Calculus O) (J : Calculus P) (h : O → P
   pub expects : (f : ℕ) (p : Pos) (g : Goal O) → Right g → J .expects f p (forget h g) ≡ K .expects f p g
   pub reduce : (p : Pos) (n : ℕ) (g : Goal O) → Right g → map h (K .reduce p n g) ≡ J .reduce p n (forget h g)
   pub lifted : (c : Pos) (o : O) → h (K .lifted c o) ≡ J .lifted c (h o)
-  pub alike : (g g′ : Goal O) → Right g → Right g′ → g .shape ≡ g′ .shape → g .ann ≡ g′ .ann → (o x : O) → o ∈ g .obs → x ∈ g′ .obs → K .alike o x ≡ J .alike (h o) (h x)
+  pub alike : (g g′ : Goal O) → Right g → Right g′ → g .shape ≡ g′ .shape → g .ann ≡ g′ .ann → (o x : O) → o ∈ g .obs → x ∈ g′ .obs
+      → K .alike o x ≡ J .alike (h o) (h x)
   pub fresh-right : (p : Pos) (g : Goal O) → g ∈ K .fresh p → Right g
   pub reduced-right : (p : Pos) (n : ℕ) (g : Goal O) → Right g → Right (reduced K p n g)
   pub lifted-right : (c : Pos) (g : Goal O) → g .ann ≼ c → Right g → Right (liftGoal K c g)
@@ -64,7 +65,8 @@ module _ {O P : Type 0} (K : Calculus O) (J : Calculus P) (h : O → P) (Right :
 
   firstFrom-same : (p : Pos) (os : List O) → firstFrom J p (map h os) ≡ firstFrom K p os
   firstFrom-same p [] = refl
-  firstFrom-same p (o ∷ os) = ap (λ a. firstFrom J (cond (before a p) a p) (map h os)) (carries .at o) ∙ firstFrom-same (cond (before (K .at o) p) (K .at o) p) os
+  firstFrom-same p (o ∷ os) = ap (λ a. firstFrom J (cond (before a p) a p) (map h os)) (carries .at o)
+      ∙ firstFrom-same (cond (before (K .at o) p) (K .at o) p) os
 
   first-same : (os : List O) → first J (map h os) ≡ first K os
   first-same [] = refl
@@ -74,18 +76,21 @@ module _ {O P : Type 0} (K : Calculus O) (J : Calculus P) (h : O → P) (Right :
   obs-same s = gather-map (λ g. g .obs) (forget h) s ∙ sym (map-gather h (λ g. g .obs) s)
 
   pub label-same : (s : State O) → label J (forgets h s) ≡ label K s
-  label-same s = ap (λ l. first J (allObs l)) (filter-map (forget h) (λ g. isRoot (g .ann)) s) ∙ ap (first J) (obs-same roots) ∙ first-same (allObs roots)
+  label-same s = ap (λ l. first J (allObs l)) (filter-map (forget h) (λ g. isRoot (g .ann)) s) ∙ ap (first J) (obs-same roots)
+      ∙ first-same (allObs roots)
     where
       roots : State O
       roots = filter (λ g. isRoot (g .ann)) s
 
   -- ---- derivatives
-  met-same : (s : State O) → AllRight s → (f n : ℕ) (p : Pos) → forgets h (map (reduced K p n) (filter (K .expects f p) s)) ≡ map (reduced J p n) (filter (J .expects f p) (forgets h s))
+  met-same : (s : State O) → AllRight s → (f n : ℕ) (p : Pos)
+      → forgets h (map (reduced K p n) (filter (K .expects f p) s)) ≡ map (reduced J p n) (filter (J .expects f p) (forgets h s))
   met-same s r f n p =
       map-map (forget h) (reduced K p n) kept
       ∙ map-same _ _ kept (λ g m. one g (r g ((in-filter (K .expects f p) s m) .0)))
       ∙ sym (map-map (reduced J p n) (forget h) kept)
-      ∙ ap (map (reduced J p n)) (ap (forgets h) (sym (filter-same _ _ s (λ g m. carries .expects f p g (r g m)))) ∙ sym (filter-map (forget h) (J .expects f p) s))
+      ∙ ap (map (reduced J p n)) (ap (forgets h) (sym (filter-same _ _ s (λ g m. carries .expects f p g (r g m))))
+      ∙ sym (filter-map (forget h) (J .expects f p) s))
     where
       kept : State O
       kept = filter (K .expects f p) s
@@ -94,12 +99,14 @@ module _ {O P : Type 0} (K : Calculus O) (J : Calculus P) (h : O → P) (Right :
       one g rg = ap (λ os. record { shape = g .shape; ann = g .ann; obs = os }) (carries .reduce p n g rg)
 
   -- those that pass a test of their obligations
-  left-same : (q : List P → Bool) (q′ : List O → Bool) → ((os : List O) → q (map h os) ≡ q′ os) → (s : State O) → forgets h (filter (λ g. q′ (g .obs)) s) ≡ filter (λ g. q (g .obs)) (forgets h s)
+  left-same : (q : List P → Bool) (q′ : List O → Bool) → ((os : List O) → q (map h os) ≡ q′ os) → (s : State O)
+      → forgets h (filter (λ g. q′ (g .obs)) s) ≡ filter (λ g. q (g .obs)) (forgets h s)
   left-same q q′ e s = sym (filter-map (forget h) (λ g. q (g .obs)) s ∙ ap (forgets h) (filter-same _ _ s (λ g m. e (g .obs))))
 
   pub outputs-same : (s : State O) → AllRight s → (f n : ℕ) → outputs J (forgets h s) f n ≡ outputs K s f n
   outputs-same s r f n =
-      ap (λ p. sort annBefore (map announcement (filter (λ g. isNil (g .obs)) (map (reduced J p n) (filter (J .expects f p) (forgets h s)))))) (label-same s)
+      ap (λ p. sort annBefore (map announcement (filter (λ g. isNil (g .obs)) (map (reduced J p n) (filter (J .expects f p) (forgets h s))))))
+      (label-same s)
       ∙ ap (λ l. sort annBefore (map announcement (filter (λ g. isNil (g .obs)) l))) (sym (met-same s r f n (label K s)))
       ∙ ap (λ l. sort annBefore (map announcement l)) (sym (left-same isNil isNil (nil-same h) (met K s f n)))
       ∙ ap (sort annBefore) (map-map announcement (forget h) (filter (λ g. isNil (g .obs)) (met K s f n)))
@@ -108,7 +115,9 @@ module _ {O P : Type 0} (K : Calculus O) (J : Calculus P) (h : O → P) (Right :
   deriv-same s r f n =
       map-append (forget h) A (B ++ C)
       ∙ ap₂ _++_ (left-same (λ os. not (has J p os)) (λ os. not (has K p os)) (λ os. ap not (has-same p os)) s)
-      (map-append (forget h) B C ∙ ap₂ _++_ (left-same (λ os. not (isNil os)) (λ os. not (isNil os)) (λ os. ap not (nil-same h os)) (met K s f n) ∙ ap (filter (λ g. not (isNil (g .obs)))) (met-same s r f n p)) c)
+      (map-append (forget h) B C ∙ ap₂ _++_
+      (left-same (λ os. not (isNil os)) (λ os. not (isNil os)) (λ os. ap not (nil-same h os)) (met K s f n)
+      ∙ ap (filter (λ g. not (isNil (g .obs)))) (met-same s r f n p)) c)
       ∙ ap (λ q. filter (λ g. not (has J q (g .obs))) (forgets h s)
       ++ (filter (λ g. not (isNil (g .obs))) (map (reduced J q n) (filter (J .expects f q) (forgets h s)))
       ++ gather (λ i. J .fresh (q ++ (i ∷ []))) (range 1 n))) (sym (label-same s))
@@ -129,13 +138,15 @@ module _ {O P : Type 0} (K : Calculus O) (J : Calculus P) (h : O → P) (Right :
       c = map-gather (forget h) (λ i. K .fresh (p ++ (i ∷ []))) (range 1 n) ∙ gather-same _ _ (range 1 n) (λ i m. carries .fresh (p ++ (i ∷ [])))
 
   deriv-right : (s : State O) → AllRight s → (f n : ℕ) → AllRight (deriv K s f n)
-  deriv-right s r f n g m = ⊎-elim old (λ i. ⊎-elim less new (∈-append (filter (λ x. not (isNil (x .obs))) (met K s f n)) i)) (∈-append (filter (λ x. not (has K (label K s) (x .obs))) s) m)
+  deriv-right s r f n g m = ⊎-elim old (λ i. ⊎-elim less new (∈-append (filter (λ x. not (isNil (x .obs))) (met K s f n)) i))
+      (∈-append (filter (λ x. not (has K (label K s) (x .obs))) s) m)
     where
       old : g ∈ filter (λ x. not (has K (label K s) (x .obs))) s → Right g
       old i = r g ((in-filter (λ x. not (has K (label K s) (x .obs))) s i) .0)
 
       less : g ∈ filter (λ x. not (isNil (x .obs))) (met K s f n) → Right g
-      less i = on-map (reduced K (label K s) n) (filter (K .expects f (label K s)) s) ((in-filter (λ x. not (isNil (x .obs))) (met K s f n) i) .0) λ x j e.
+      less i = on-map (reduced K (label K s) n) (filter (K .expects f (label K s)) s) ((in-filter (λ x. not (isNil (x .obs))) (met K s f n) i) .0) λ x
+          j e.
           rw e (carries .reduced-right (label K s) n x (r x ((in-filter (K .expects f (label K s)) s j) .0)))
 
       new : g ∈ gather (λ i. K .fresh (label K s ++ (i ∷ []))) (range 1 n) → Right g
@@ -143,18 +154,23 @@ module _ {O P : Type 0} (K : Calculus O) (J : Calculus P) (h : O → P) (Right :
 
   -- ---- classes
   dep-same : (g g′ : Goal O) → dep J (forget h g) (forget h g′) ≡ dep K g g′
-  dep-same g g′ = any-map h (λ o. has J (J .at o) (map h (g′ .obs))) (g .obs) ∙ any-same _ _ (g .obs) (λ o m. ap (λ a. has J a (map h (g′ .obs))) (carries .at o) ∙ has-same (K .at o) (g′ .obs))
+  dep-same g g′ = any-map h (λ o. has J (J .at o) (map h (g′ .obs))) (g .obs)
+      ∙ any-same _ _ (g .obs) (λ o m. ap (λ a. has J a (map h (g′ .obs))) (carries .at o) ∙ has-same (K .at o) (g′ .obs))
 
   square-same : (s : State O) → square J (forgets h s) ≡ square K s
-  square-same s = map-map (λ g. map (dep J g) (forgets h s)) (forget h) s ∙ map-same _ _ s (λ g m. map-map (dep J (forget h g)) (forget h) s ∙ map-same _ _ s (λ x i. dep-same g x))
+  square-same s = map-map (λ g. map (dep J g) (forgets h s)) (forget h) s
+      ∙ map-same _ _ s (λ g m. map-map (dep J (forget h g)) (forget h) s ∙ map-same _ _ s (λ x i. dep-same g x))
 
   closed-same : (s : State O) → closed J (forgets h s) ≡ closed K s
   closed-same s = rw (square-same s, length-map s (forget h))
 
   pub classes-same : (s : State O) → map (forgets h) (classes K s) ≡ classes J (forgets h s)
   classes-same s =
-      sort-map (forgets h) (classBefore K) (classBefore J) (λ a b. sym (ap₂ before (first-of a) (first-of b))) (map (λ r. picked r s) (rowsFrom 0 (closed K s)))
-      ∙ ap (sort (classBefore J)) (map-map (forgets h) (λ r. picked r s) (rowsFrom 0 (closed K s)) ∙ map-same _ _ (rowsFrom 0 (closed K s)) (λ r m. picked-map (forget h) r s) ∙ ap (λ c. map (λ r. picked r (forgets h s)) (rowsFrom 0 c)) (sym (closed-same s)))
+      sort-map (forgets h) (classBefore K) (classBefore J) (λ a b. sym (ap₂ before (first-of a) (first-of b)))
+      (map (λ r. picked r s) (rowsFrom 0 (closed K s)))
+      ∙ ap (sort (classBefore J)) (map-map (forgets h) (λ r. picked r s) (rowsFrom 0 (closed K s))
+      ∙ map-same _ _ (rowsFrom 0 (closed K s)) (λ r m. picked-map (forget h) r s)
+      ∙ ap (λ c. map (λ r. picked r (forgets h s)) (rowsFrom 0 c)) (sym (closed-same s)))
     where
       first-of : (a : State O) → first J (allObs (forgets h a)) ≡ first K (allObs a)
       first-of a = ap (first J) (obs-same a) ∙ first-same (allObs a)
@@ -168,11 +184,13 @@ module _ {O P : Type 0} (K : Calculus O) (J : Calculus P) (h : O → P) (Right :
   gcp-same (g ∷ s) = gcpFrom-same (g .ann) s
 
   pub lift-same : (k : State O) → forgets h (lift K k) ≡ lift J (forgets h k)
-  lift-same k = map-map (forget h) (liftGoal K (gcp k)) k ∙ map-same _ _ k (λ g m. one g) ∙ sym (map-map (liftGoal J (gcp k)) (forget h) k) ∙ ap (λ c. map (liftGoal J c) (forgets h k)) (sym (gcp-same k))
+  lift-same k = map-map (forget h) (liftGoal K (gcp k)) k ∙ map-same _ _ k (λ g m. one g) ∙ sym (map-map (liftGoal J (gcp k)) (forget h) k)
+      ∙ ap (λ c. map (liftGoal J c) (forgets h k)) (sym (gcp-same k))
     where
       one : (g : Goal O) → forget h (liftGoal K (gcp k) g) ≡ liftGoal J (gcp k) (forget h g)
       one g = ap (λ os. record { shape = g .shape; ann = strip (gcp k) (g .ann); obs = os })
-          (map-map h (K .lifted (gcp k)) (g .obs) ∙ map-same _ _ (g .obs) (λ o m. carries .lifted (gcp k) o) ∙ sym (map-map (J .lifted (gcp k)) h (g .obs)))
+          (map-map h (K .lifted (gcp k)) (g .obs) ∙ map-same _ _ (g .obs) (λ o m. carries .lifted (gcp k) o)
+          ∙ sym (map-map (J .lifted (gcp k)) h (g .obs)))
 
   lift-right : (k : State O) → AllRight k → AllRight (lift K k)
   lift-right k r g m = on-map (liftGoal K (gcp k)) k m λ y i e. rw e (carries .lifted-right (gcp k) y (gcp-below k y i) (r y i))
@@ -183,7 +201,8 @@ module _ {O P : Type 0} (K : Calculus O) (J : Calculus P) (h : O → P) (Right :
   reach-same ar (next {s} {k} f n r a m) =
       let ih = reach-same ar r in
       let right : AllRight k = λ g i. deriv-right s (ih .0) f n g (class-sub K (deriv K s f n) k m g i) in
-      let e : map (forgets h) (classes K (deriv K s f n)) ≡ classes J (deriv J (forgets h s) f n) = classes-same (deriv K s f n) ∙ ap (classes J) (deriv-same s (ih .0) f n) in
+      let e : map (forgets h) (classes K (deriv K s f n)) ≡ classes J (deriv J (forgets h s) f n) =
+      classes-same (deriv K s f n) ∙ ap (classes J) (deriv-same s (ih .0) f n) in
       let inside : forgets h k ∈ classes J (deriv J (forgets h s) f n) = subst (λ l. forgets h k ∈ l) e (map-in (forgets h) m) in
       (lift-right k right, subst (Reach J ar) (sym (lift-same k)) (next f n (ih .1) a inside))
 
@@ -191,7 +210,8 @@ module _ {O P : Type 0} (K : Calculus O) (J : Calculus P) (h : O → P) (Right :
   inside-same : (g g′ : Goal O) → Right g → Right g′ → g .shape ≡ g′ .shape → g .ann ≡ g′ .ann
       → all (λ o. any (K .alike o) (g′ .obs)) (g .obs) ≡ all (λ o. any (J .alike o) (map h (g′ .obs))) (map h (g .obs))
   inside-same g g′ rg rg′ es ea =
-      all-same _ _ (g .obs) (λ o i. any-same _ _ (g′ .obs) (λ x j. carries .alike g g′ rg rg′ es ea o x i j) ∙ sym (any-map h (J .alike (h o)) (g′ .obs)))
+      all-same _ _ (g .obs) (λ o i. any-same _ _ (g′ .obs) (λ x j. carries .alike g g′ rg rg′ es ea o x i j)
+      ∙ sym (any-map h (J .alike (h o)) (g′ .obs)))
       ∙ sym (all-map h (λ o. any (J .alike o) (map h (g′ .obs))) (g .obs))
 
   sameGoal-same : (g g′ : Goal O) → Right g → Right g′ → sameGoal K g g′ ≡ sameGoal J (forget h g) (forget h g′)
@@ -202,7 +222,8 @@ module _ {O P : Type 0} (K : Calculus O) (J : Calculus P) (h : O → P) (Right :
       key : (eqb (g .shape) (g′ .shape) && same (g .ann) (g′ .ann)) ≡ true → (g .shape ≡ g′ .shape) × (g .ann ≡ g′ .ann)
       key e = (eqb-is (g .shape) (g′ .shape) (and-l (same (g .ann) (g′ .ann)) e), same-is (g .ann) (g′ .ann) (and-r (eqb (g .shape) (g′ .shape)) e))
 
-  half-same : (s t : State O) → AllRight s → AllRight t → all (λ g. any (sameGoal K g) t) s ≡ all (λ g. any (sameGoal J g) (forgets h t)) (forgets h s)
+  half-same : (s t : State O) → AllRight s → AllRight t
+      → all (λ g. any (sameGoal K g) t) s ≡ all (λ g. any (sameGoal J g) (forgets h t)) (forgets h s)
   half-same s t rs rt =
       all-same _ _ s (λ g i. any-same _ _ t (λ x j. sameGoal-same g x (rs g i) (rt x j)) ∙ sym (any-map (forget h) (sameGoal J (forget h g)) t))
       ∙ sym (all-map (forget h) (λ g. any (sameGoal J g) (forgets h t)) s)

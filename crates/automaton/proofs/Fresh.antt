@@ -25,14 +25,16 @@ module _ (S : Setting) where
   pub fresh-stays : (s : State Pos) (f n : ℕ) (p : Pos) (i : ℕ) → fresh p i ∈ s → (p ≡ label K s → ⊥) → fresh p i ∈ deriv K s f n
   fresh-stays s f n p i m h = kept-in S s f n (fresh p i) m (rw (not-true (same (label K s) p) (λ e. h (sym (same-is (label K s) p e)))))
 
-  pub deriv-fresh : (s : State Pos) → SoundState S s → (f n : ℕ) (o : Pos) → Owes (deriv K s f n) o → (i : ℕ) → i < length (S .shapes) → fresh o i ∈ deriv K s f n
+  pub deriv-fresh : (s : State Pos) → SoundState S s → (f n : ℕ) (o : Pos) → Owes (deriv K s f n) o → (i : ℕ) → i < length (S .shapes)
+      → fresh o i ∈ deriv K s f n
   deriv-fresh s w f n o m i h = on-owes (deriv K s f n) m λ g a b. go (from S s f n g o a b)
     where
       go : From S s n o → fresh o i ∈ deriv K s f n
       go (old a na) = fresh-stays s f n o i (w .goals .fresh o a i h) na
       go (under j l u d) = rw d (new-in S s f n j i l u h)
 
-  pub class-fresh : (d : State Pos) → Sound S d → (k : State Pos) → k ∈ classes K d → (o : Pos) → Owes k o → (i : ℕ) → i < length (S .shapes) → fresh o i ∈ k
+  pub class-fresh : (d : State Pos) → Sound S d → (k : State Pos) → k ∈ classes K d → (o : Pos) → Owes k o → (i : ℕ) → i < length (S .shapes)
+      → fresh o i ∈ k
   class-fresh d w k m o x i h =
       on-owes k x λ g a b.
       class-closed K d k m g (fresh o i) a (w .fresh o (owes (class-sub K d k m g a) b) i h)

@@ -43,9 +43,12 @@ module _ (C : Scored) where
   known-fresh R a p i x gx r k e = inl (record { at = p; in-obs = here refl; over = ≼-snoc r (≼-refl p) })
 
   pub known-alike : (R : List Pos) (a : Pos) (s : State Pos) (g : Goal Pos) → Partner s g → ((h : Goal Pos) → h ∈ s → Known C R a h) → Known C R a g
-  known-alike R a s g p h x gx r k e = rw (← (p .ann)) (⊎-elim (λ o. inl (record { at = o .at; in-obs = p .less (o .at) (o .in-obs); over = o .over })) (λ z. inr z) (h (p .goal) (p .inside) x (rw (p .shape) gx) r k e))
+  known-alike R a s g p h x gx r k e =
+      rw (← (p .ann)) (⊎-elim (λ o. inl (record { at = o .at; in-obs = p .less (o .at) (o .in-obs); over = o .over })) (λ z. inr z)
+      (h (p .goal) (p .inside) x (rw (p .shape) gx) r k e))
 
-  pub known-lifted : (R : List Pos) (a : Pos) (k : State Pos) → Sound S k → ((g : Goal Pos) → g ∈ k → Known C R a g) → (g : Goal Pos) → g ∈ lift K k → Known C R (a ++ gcp k) g
+  pub known-lifted : (R : List Pos) (a : Pos) (k : State Pos) → Sound S k → ((g : Goal Pos) → g ∈ k → Known C R a g) → (g : Goal Pos) → g ∈ lift K k
+      → Known C R (a ++ gcp k) g
   known-lifted R a k w his g m = on-map (liftGoal K (gcp k)) k m λ y i e. rw e (go y i)
     where
       go : (y : Goal Pos) → y ∈ k → Known C R (a ++ gcp k) (liftGoal K (gcp k) y)
@@ -54,39 +57,51 @@ module _ (C : Scored) where
           up : y .ann ≼ gcp k
           up = gcp-below k y i
 
-          is-open : Open y (y .ann ++ r) → Open (liftGoal K (gcp k) y) (strip (gcp k) (y .ann) ++ r) ⊎ Seen (C .score) R (((a ++ gcp k) ++ strip (gcp k) (y .ann)) ++ r) n
+          is-open : Open y (y .ann ++ r) → Open (liftGoal K (gcp k) y) (strip (gcp k) (y .ann) ++ r)
+              ⊎ Seen (C .score) R (((a ++ gcp k) ++ strip (gcp k) (y .ann)) ++ r) n
           is-open o = inl (record {
             at = strip (gcp k) (o .at);
             in-obs = map-in (strip (gcp k)) (o .in-obs);
-            over = rw (← (strip-more (gcp k) (y .ann) r up)) (strip-below (gcp k) (y .ann ++ r) (o .at) (o .over) (below-gcp S k w y i (o .at) (o .in-obs)));
+            over = rw (← (strip-more (gcp k) (y .ann) r up))
+                (strip-below (gcp k) (y .ann ++ r) (o .at) (o .over) (below-gcp S k w y i (o .at) (o .in-obs)));
           })
 
-          is-seen : Seen (C .score) R ((a ++ y .ann) ++ r) n → Open (liftGoal K (gcp k) y) (strip (gcp k) (y .ann) ++ r) ⊎ Seen (C .score) R (((a ++ gcp k) ++ strip (gcp k) (y .ann)) ++ r) n
+          is-seen : Seen (C .score) R ((a ++ y .ann) ++ r) n → Open (liftGoal K (gcp k) y) (strip (gcp k) (y .ann) ++ r)
+              ⊎ Seen (C .score) R (((a ++ gcp k) ++ strip (gcp k) (y .ann)) ++ r) n
           is-seen z = let p : (a ++ gcp k) ++ strip (gcp k) (y .ann) ≡ a ++ y .ann = rw (append-assoc, strip-join (gcp k) (y .ann) up) in inr (rw p z)
 
   -- the symbol at L is read
   module _ (R : List Pos) (a L : Pos) (f : ℕ) (ts : Terms) (node-is : sub (C .score) (a ++ L) ≡ some (node f ts)) (read : (a ++ L) ∈ R) where
     -- the part of the shape that is owed at L
-    at-label : (g : Goal Pos) (v : Pos) → L ≡ g .ann ++ v → K .expects f L g ≡ true → (x : Term) → getElem? (S .shapes) (g .shape) ≡ some x → (b : Pos) (k : ℕ) → headAt x (v ++ b) ≡ some k
+    at-label : (g : Goal Pos) (v : Pos) → L ≡ g .ann ++ v → K .expects f L g ≡ true → (x : Term) → getElem? (S .shapes) (g .shape) ≡ some x
+        → (b : Pos) (k : ℕ) → headAt x (v ++ b) ≡ some k
         → Open (reduced K L (count ts) g) (L ++ b) ⊎ Seen (C .score) R (a ++ (L ++ b)) k
     at-label g v lv ex x gx b k e = on-expects S f L g ex λ us ow. go us (sym is-owed ∙ ow) b e
       where
         is-owed : owed (S .shapes) g L ≡ sub x v
         is-owed = rw (gx, lv, strip-append)
 
-        go : (us : Terms) → sub x v ≡ some (node f us) → (b : Pos) → headAt x (v ++ b) ≡ some k → Open (reduced K L (count ts) g) (L ++ b) ⊎ Seen (C .score) R (a ++ (L ++ b)) k
+        go : (us : Terms) → sub x v ≡ some (node f us) → (b : Pos) → headAt x (v ++ b) ≡ some k → Open (reduced K L (count ts) g) (L ++ b)
+            ⊎ Seen (C .score) R (a ++ (L ++ b)) k
         go us sx [] e = inr (record { is = rw (append-nil L, node-is) (rw (append-nil v, sx) at e); read = rw (append-nil L) read })
         go us sx (i ∷ b) e = on-child f us i b (rw (sub-append v (i ∷ b) x, sx) at e) λ j h vs ij nj.
-            let same-count : count us ≡ count ts = cc (fits-at (S .counts) (S .blanks) x (S .fits (g .shape) x gx) v f us sx, fits-at (S .counts) (C .score-blanks) (C .score) (C .score-fits) (a ++ L) f ts node-is) in
+            let same-count : count us ≡ count ts =
+            cc (
+              fits-at (S .counts) (S .blanks) x (S .fits (g .shape) x gx) v f us sx,
+              fits-at (S .counts) (C .score-blanks) (C .score)
+                  (C .score-fits) (a ++ L) f ts node-is,
+            ) in
             let few : j < count ts = rw same-count at (nth-below us j nj) in
             let add : 1 + j ≡ suc j = omega arith in
             inl (record {
               at = L ++ (i ∷ []);
-              in-obs = rw (ij, ← add, is-owed, sx) (inPlace-put L (args L 1 (count ts) us) (expects-owes S f L g ex) (args-in L us 1 (count ts) j nj few));
+              in-obs = rw (ij, ← add, is-owed, sx)
+                  (inPlace-put L (args L 1 (count ts) us) (expects-owes S f L g ex) (args-in L us 1 (count ts) j nj few));
               over = record { by = b; eq = simp append-assoc };
             })
 
-    pub known-cut : (g : Goal Pos) → ((o : Pos) → o ∈ g .obs → o ≼ g .ann) → K .expects f L g ≡ true → Known C R a g → Known C R a (reduced K L (count ts) g)
+    pub known-cut : (g : Goal Pos) → ((o : Pos) → o ∈ g .obs → o ≼ g .ann) → K .expects f L g ≡ true → Known C R a g
+        → Known C R a (reduced K L (count ts) g)
     known-cut g low ex h x gx r k e = ⊎-elim is-open (λ m. inr m) (h x gx r k e)
       where
         Result : Type 0
@@ -103,7 +118,8 @@ module _ (C : Scored) where
               where
                 turn-back : L ≼ g .ann → (g .ann ++ r) ≼ L → Result
                 turn-back u v =
-                    let r-is : r ≡ u .by ++ v .by = sym (strip-append (g .ann) r) ∙ ap (strip (g .ann)) (v .eq) ∙ rw (u .eq, append-assoc, strip-append) in
+                    let r-is : r ≡ u .by ++ v .by =
+                    sym (strip-append (g .ann) r) ∙ ap (strip (g .ann)) (v .eq) ∙ rw (u .eq, append-assoc, strip-append) in
                     let e′ : headAt x (u .by ++ v .by) ≡ some k = rw r-is at e in
                     let back : a ++ (L ++ v .by) ≡ (a ++ g .ann) ++ r = rw (← (v .eq), append-assoc) in
                     rw (v .eq, ← back) (at-label g (u .by) (u .eq) ex x gx (v .by) k e′)

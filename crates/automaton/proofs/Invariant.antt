@@ -14,8 +14,7 @@ use lib.ListN.{getElem?}
 use Rattle.kinds.specs.Lists.{same, sum}
 use Rattle.kinds.specs.Positions.{Pos, prefix}
 use Rattle.kinds.proofs.Members.{any-of, same-refl}
-use Rattle.kinds.specs.Members.{_∈_, here, there}
-use Rattle.kinds.proofs.Pairwise.{Pairwise}
+use Rattle.kinds.specs.Members.{_∈_, here, there, Pairwise}
 use Rattle.kinds.proofs.Prefixes.{_≼_, ≼-refl, below-prefix, prefix-append}
 use Rattle.term.specs.Terms.{Term}
 use Rattle.term.specs.Places.{sub, headAt}
@@ -36,7 +35,8 @@ pub record Seen (t : Term) (R : List Pos) (q : Pos) (k : ℕ) : Type 0 where
 
 -- a goal of an item at a: each node of its shape that is no blank is open or seen
 abbrev pub Known : Scored → List Pos → Pos → Goal Pos → Type 0
-Known C R a g = (x : Term) → getElem? (C .setting .shapes) (g .shape) ≡ some x → (r : Pos) (k : ℕ) → headAt x r ≡ some k → Open g (g .ann ++ r) ⊎ Seen (C .score) R ((a ++ g .ann) ++ r) k
+Known C R a g = (x : Term) → getElem? (C .setting .shapes) (g .shape) ≡ some x → (r : Pos) (k : ℕ) → headAt x r ≡ some k → Open g (g .ann ++ r)
+    ⊎ Seen (C .score) R ((a ++ g .ann) ++ r) k
 
 abbrev pub announced : ℕ → Pos → Announcement
 announced i q = record { shape = i; at = q }
@@ -60,7 +60,8 @@ pub record Invariant (C : Scored) (items : List Item) (R : List Pos) (told : Lis
   pub due : (q : Pos) → q ∈ R → (i : ℕ) (x : Term) → getElem? (C .setting .shapes) i ≡ some x → Due (C .score) items R told i x q
   -- W4, from left to right: what is announced is a shape that matches, all of it read; and nothing is announced twice
   pub shape : (a : Announcement) → a ∈ told → (x : Term) × (getElem? (C .setting .shapes) (a .shape) ≡ some x)
-  pub seen : (a : Announcement) → a ∈ told → (x : Term) → getElem? (C .setting .shapes) (a .shape) ≡ some x → (r : Pos) (k : ℕ) → headAt x r ≡ some k → Seen (C .score) R (a .at ++ r) k
+  pub seen : (a : Announcement) → a ∈ told → (x : Term) → getElem? (C .setting .shapes) (a .shape) ≡ some x → (r : Pos) (k : ℕ) → headAt x r ≡ some k
+      → Seen (C .score) R (a .at ++ r) k
   pub differ : Pairwise (λ a b. a ≡ b → ⊥) told
 
 -- an element that passes counts
@@ -68,7 +69,8 @@ pub some-sum : {A : Type 0} (F : A → Bool) {x : A} {xs : List A} → x ∈ xs 
 some-sum F {x} (here {x = y} e) t = let z : F y ≡ true = rw e at t in rw z (omega arith)
 some-sum F (there m) t = let h = some-sum F m t in omega arith
 
-sees-unread : {C : Scored} {items : List Item} {R : List Pos} {told : List Announcement} → Invariant C items R told → (it : Item) → it ∈ items → (q : Pos) → sees it q ≡ true → q ∈ R → ⊥
+sees-unread : {C : Scored} {items : List Item} {R : List Pos} {told : List Announcement} → Invariant C items R told → (it : Item) → it ∈ items
+    → (q : Pos) → sees it q ≡ true → q ∈ R → ⊥
 sees-unread inv it m q e l =
     let u = inv .read-inside q l in
     let h = inv .once q (u .0) (u .1) in
@@ -76,12 +78,16 @@ sees-unread inv it m q e l =
     let c = some-sum (λ p. same p q) l (same-refl q) in
     omega arith
 
-pub unread : {C : Scored} {items : List Item} {R : List Pos} {told : List Announcement} → Invariant C items R told → (it : Item) → it ∈ items → (o : Pos) → Owes (it .state) o → (it .at ++ o) ∈ R → ⊥
-unread inv it m o b l = sees-unread inv it m (it .at ++ o) (any-of (λ y. prefix (it .at ++ y) (it .at ++ o)) b (below-prefix (≼-refl (it .at ++ o)))) l
+pub unread : {C : Scored} {items : List Item} {R : List Pos} {told : List Announcement} → Invariant C items R told → (it : Item) → it ∈ items
+    → (o : Pos) → Owes (it .state) o → (it .at ++ o) ∈ R → ⊥
+unread inv it m o b l = sees-unread inv it m (it .at ++ o) (any-of (λ y. prefix (it .at ++ y) (it .at ++ o)) b (below-prefix (≼-refl (it .at ++ o))))
+    l
 
 -- W2: a node that is open was not read
 pub open-unread : {C : Scored} {items : List Item} {R : List Pos} {told : List Announcement} → Invariant C items R told
     → (it : Item) → it ∈ items → (g : Goal Pos) → g ∈ it .state → (r : Pos) → Open g (g .ann ++ r) → ((it .at ++ g .ann) ++ r) ∈ R → ⊥
 open-unread inv it m g k r o l =
     let e : (it .at ++ g .ann) ++ r ≡ it .at ++ (g .ann ++ r) = append-assoc (it .at) (g .ann) r in
-    sees-unread inv it m (it .at ++ (g .ann ++ r)) (any-of (λ y. prefix (it .at ++ y) (it .at ++ (g .ann ++ r))) (owes k (o .in-obs)) (prefix-append (it .at) (o .at) (g .ann ++ r) ∙ below-prefix (o .over))) (rw e at l)
+    sees-unread inv it m (it .at ++ (g .ann ++ r))
+    (any-of (λ y. prefix (it .at ++ y) (it .at ++ (g .ann ++ r))) (owes k (o .in-obs))
+    (prefix-append (it .at) (o .at) (g .ann ++ r) ∙ below-prefix (o .over))) (rw e at l)

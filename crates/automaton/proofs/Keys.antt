@@ -12,8 +12,8 @@ use Rattle.kinds.specs.Lists.{filter, gather, range, isNil}
 use Rattle.kinds.specs.Positions.{Pos}
 use Rattle.kinds.proofs.Bools.{and-l}
 use Rattle.kinds.proofs.Members.{∈-append, in-filter, on-map, on-gather, Distinct}
-use Rattle.kinds.specs.Members.{_∈_}
-use Rattle.kinds.proofs.Pairwise.{Pairwise, pairwise-append, pairwise-filter, pairwise-two, pairwise-distinct, pairwise-map, pairwise-gather, pairwise-range}
+use Rattle.kinds.specs.Members.{_∈_, Pairwise}
+use Rattle.kinds.proofs.Pairwise.{pairwise-append, pairwise-filter, pairwise-two, pairwise-distinct, pairwise-map, pairwise-gather, pairwise-range}
 use Rattle.kinds.proofs.ListLaws.{append-same}
 use Rattle.kinds.proofs.Prefixes.{_≼_, ≼-trans, ≼-length, strip-join}
 use Rattle.automaton.specs.Goals.{Calculus, Goal, State, has, label, reduced, met, deriv}
@@ -27,7 +27,8 @@ use Rattle.automaton.proofs.Sound.{SameKey, Other, SoundState}
 use Rattle.automaton.proofs.Apart.{label-owes, child-below}
 
 pub keyed-one : (s : State Pos) → Pairwise Other s → (g h : Goal Pos) → g ∈ s → h ∈ s → SameKey g h → g ≡ h
-keyed-one s a g h i j k = ⊎-elim (λ (e : g ≡ h). e) (λ (o : Other g h). absurd (o k)) (pairwise-two Other (λ x y o e. o (sym (e .0), sym (e .1))) s a g h i j)
+keyed-one s a g h i j k = ⊎-elim (λ (e : g ≡ h). e) (λ (o : Other g h). absurd (o k))
+    (pairwise-two Other (λ x y o e. o (sym (e .0), sym (e .1))) s a g h i j)
 
 pub keyed-distinct : (s : State Pos) → Pairwise Other s → Distinct s
 keyed-distinct s a = pairwise-distinct Other (λ g o. o (refl, refl)) s a
@@ -40,7 +41,8 @@ module _ (S : Setting) where
   K = calculus S
 
   pub freshes-keyed : (p : Pos) → Pairwise Other (K .fresh p)
-  freshes-keyed p = pairwise-map _<_ Other (fresh p) (range 0 (length (S .shapes))) (λ x y i j l e. let z : x ≡ y = e .0 in omega arith) (pairwise-range 0 (length (S .shapes)))
+  freshes-keyed p = pairwise-map _<_ Other (fresh p) (range 0 (length (S .shapes))) (λ x y i j l e. let z : x ≡ y = e .0 in omega arith)
+      (pairwise-range 0 (length (S .shapes)))
 
   fresh-ann : (p : Pos) (g : Goal Pos) → g ∈ K .fresh p → g .ann ≡ p
   fresh-ann p g m = on-map (fresh p) (range 0 (length (S .shapes))) m λ i a e. rw e
@@ -70,11 +72,13 @@ module _ (S : Setting) where
 
     new-keyed : Pairwise Other (gather (λ i. K .fresh (L ++ (i ∷ []))) (range 1 n))
     new-keyed = pairwise-gather _<_ Other (λ i. K .fresh (L ++ (i ∷ []))) (range 1 n) (λ i m. freshes-keyed (L ++ (i ∷ [])))
-        (λ i j a b l g h c d e. let z : i ≡ j = last-same L i j (sym (fresh-ann (L ++ (i ∷ [])) g c) ∙ e .1 ∙ fresh-ann (L ++ (j ∷ [])) h d) in omega arith)
+        (λ i j a b l g h c d e. let z : i ≡ j = last-same L i j (sym (fresh-ann (L ++ (i ∷ [])) g c) ∙ e .1 ∙ fresh-ann (L ++ (j ∷ [])) h d) in
+        omega arith)
         (pairwise-range 1 n)
 
     old-new : (g h x : Goal Pos) → x ∈ s → SameKey x g → h ∈ gather (λ i. K .fresh (L ++ (i ∷ []))) (range 1 n) → Other g h
-    old-new g h x i k m e = on-gather (λ c. K .fresh (L ++ (c ∷ []))) (range 1 n) m λ c a b. not-below-label x i c (k .1 ∙ e .1 ∙ fresh-ann (L ++ (c ∷ [])) h b)
+    old-new g h x i k m e = on-gather (λ c. K .fresh (L ++ (c ∷ []))) (range 1 n) m λ c a b. not-below-label x i c
+        (k .1 ∙ e .1 ∙ fresh-ann (L ++ (c ∷ [])) h b)
 
     pub deriv-keyed : Pairwise Other D
     deriv-keyed = pairwise-append Other A (B ++ C) (pairwise-filter Other (λ g. not (has K L (g .obs))) s (w .goals .keyed))
@@ -102,4 +106,9 @@ module _ (S : Setting) where
   class-keyed d k a m = let c = class-is K d k m in rw (c .is) (pairwise-picked Other (c .row) d a)
 
   pub lift-keyed : (k : State Pos) → Pairwise Other k → Pairwise Other (lift K k)
-  lift-keyed k a = pairwise-map Other Other (liftGoal K (gcp k)) k (λ g h i j o e. o (e .0, sym (strip-join (gcp k) (g .ann) (gcp-below k g i)) ∙ ap (λ x. gcp k ++ x) (e .1) ∙ strip-join (gcp k) (h .ann) (gcp-below k h j))) a
+  lift-keyed k a = pairwise-map Other Other (liftGoal K (gcp k)) k
+      (λ g h i j o e. o (
+        e .0,
+        sym (strip-join (gcp k) (g .ann) (gcp-below k g i)) ∙ ap (λ x. gcp k ++ x) (e .1)
+            ∙ strip-join (gcp k) (h .ann) (gcp-below k h j),
+      )) a

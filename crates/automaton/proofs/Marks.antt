@@ -30,9 +30,11 @@ module _ (C : Scored) where
   abbrev S : Setting
   S = C .setting
 
-  pub told-exactly : {items : List Item} {R : List Pos} {told : List Announcement} → Invariant C items R told → (i : ℕ) (x : Term) → getElem? (S .shapes) i ≡ some x → (q : Pos)
+  pub told-exactly : {items : List Item} {R : List Pos} {told : List Announcement} → Invariant C items R told → (i : ℕ) (x : Term)
+      → getElem? (S .shapes) i ≡ some x → (q : Pos)
       → (announced i q ∈ told) ↔ (Matches x (C .score) q × ReadWhole x q R)
-  told-exactly {items} {R} {told} inv i x gx q = (λ m. (λ r k e. (inv .seen (announced i q) m x gx r k e) .is, λ r k e. (inv .seen (announced i q) m x gx r k e) .read), λ h. back (h .0) (h .1))
+  told-exactly {items} {R} {told} inv i x gx q =
+      (λ m. (λ r k e. (inv .seen (announced i q) m x gx r k e) .is, λ r k e. (inv .seen (announced i q) m x gx r k e) .read), λ h. back (h .0) (h .1))
     where
       back : Matches x (C .score) q → ReadWhole x q R → announced i q ∈ told
       back mt rd = let so = S .solid i x gx in go (inv .due q (root (so .0) (so .1) (so .2)) i x gx)
@@ -41,7 +43,8 @@ module _ (C : Scored) where
           root f us e = rw append-nil at (rd [] f (rw e))
 
           -- a goal that waits owes at a node of the shape that was not read
-          unmet : (it : Item) (g : Goal Pos) → it ∈ items → g ∈ it .state → g .shape ≡ i → it .at ++ g .ann ≡ q → (o : Pos) → o ∈ g .obs → o ≼ g .ann → Real S g o → ⊥
+          unmet : (it : Item) (g : Goal Pos) → it ∈ items → g ∈ it .state → g .shape ≡ i → it .at ++ g .ann ≡ q → (o : Pos) → o ∈ g .obs → o ≼ g .ann
+              → Real S g o → ⊥
           unmet it g m k es eq o j low r =
               let gx′ : getElem? (S .shapes) (g .shape) ≡ some x = rw es gx in
               let same-shape : r .shape ≡ x = cc (r .is-shape, gx′) in
@@ -60,7 +63,9 @@ module _ (C : Scored) where
   -- none waits: all of the score is read
   pub told-matches : {R : List Pos} {told : List Announcement} → Invariant C [] R told → (i : ℕ) (x : Term)
       → getElem? (S .shapes) i ≡ some x → (q : Pos) → (announced i q ∈ told) ↔ Matches x (C .score) q
-  told-matches {R} inv i x gx q = let e = told-exactly inv i x gx q in (λ m. (e .0 m) .0, λ mt. e .1 (mt, λ r k h. on-bind (sub (C .score) (q ++ r)) hd (mt r k h) λ u eu d. read-all C inv (q ++ r) u eu))
+  told-matches {R} inv i x gx q = let e = told-exactly inv i x gx q in
+      (λ m. (e .0 m) .0, λ mt. e .1 (mt, λ r k h. on-bind (sub (C .score) (q ++ r)) hd (mt r k h) λ u eu d. read-all C inv (q ++ r) u eu))
 
   pub same-told : {R₁ R₂ : List Pos} {told₁ told₂ : List Announcement} → Invariant C [] R₁ told₁ → Invariant C [] R₂ told₂ → told₁ ⊆ told₂
-  same-told v w a m = let x = v .shape a m in (told-matches w (a .shape) (x .0) (x .1) (a .at)) .1 ((told-matches v (a .shape) (x .0) (x .1) (a .at)) .0 m)
+  same-told v w a m = let x = v .shape a m in
+      (told-matches w (a .shape) (x .0) (x .1) (a .at)) .1 ((told-matches v (a .shape) (x .0) (x .1) (a .at)) .0 m)

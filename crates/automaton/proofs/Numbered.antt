@@ -22,8 +22,8 @@ use Rattle.kinds.specs.declared.Reason.the-variants.{ManyGoals, ManyStates}
 use Rattle.kinds.proofs.Bools.{both, is-eqb, ltb-is, ltb-not, leb-not}
 use Rattle.kinds.proofs.Options.{none-not}
 use Rattle.kinds.proofs.Members.{∈-append, all-of, any-of, same-refl}
-use Rattle.kinds.specs.Members.{_∈_, here, there}
-use Rattle.kinds.proofs.Pairwise.{Pairwise, pairwise-append}
+use Rattle.kinds.specs.Members.{_∈_, here, there, Pairwise}
+use Rattle.kinds.proofs.Pairwise.{pairwise-append}
 use Rattle.kinds.proofs.ListLaws.{map-append, gather-append}
 use Rattle.kinds.proofs.Places.{at-below, at-left, at-right, at-end, getD-in, find-at, find-none, Ext, ext-refl, ext-trans, at-ext, ext-length, getD-ext}
 use Rattle.automaton.specs.Goals.{Goal, State, Calculus, initial, deriv, outputs}
@@ -101,13 +101,16 @@ module _ {O : Type 0} (K : Calculus O) where
       → (g n : ℕ) → getElem? ns g ≡ some n → (b : Block) × (getElem? bs g ≡ some b) × Says ss s (f + g) n b
   rows-at no-row g n e = none-not e
   rows-at {ss} {s} {f} (add-row {n = m} {b = b} h r) zero n e = let z : m ≡ n = cc in (b, refl, rw (add-zero, ← z) h)
-  rows-at {ss} {s} {f} (add-row h r) (suc g) n e = let u = rows-at r g n e in let z : suc f + g ≡ f + suc g = omega arith in (u .0, u .1, rw (← z) (u .2))
+  rows-at {ss} {s} {f} (add-row h r) (suc g) n e = let u = rows-at r g n e in let z : suc f + g ≡ f + suc g = omega arith in
+      (u .0, u .1, rw (← z) (u .2))
 
   table-length : {ar : List ℕ} {ss sts : List (State O)} {bs : List Block} → Table ar ss sts bs → length bs ≡ length sts * length ar
   table-length {ar} no-state = sym (zero-mul (length ar))
-  table-length {ar} (add-state {sts = sts} {rs = rs} {bs = bs} r t) = let a = rows-length r in let b = table-length t in let c = length-append rs bs in let d = suc-mul (length sts) (length ar) in omega arith
+  table-length {ar} (add-state {sts = sts} {rs = rs} {bs = bs} r t) = let a = rows-length r in let b = table-length t in let c =
+      length-append rs bs in let d = suc-mul (length sts) (length ar) in omega arith
 
-  table-at : {ar : List ℕ} {ss sts : List (State O)} {bs : List Block} → Table ar ss sts bs → (i f : ℕ) (s : State O) (n : ℕ) → getElem? sts i ≡ some s → getElem? ar f ≡ some n
+  table-at : {ar : List ℕ} {ss sts : List (State O)} {bs : List Block} → Table ar ss sts bs → (i f : ℕ) (s : State O) (n : ℕ)
+      → getElem? sts i ≡ some s → getElem? ar f ≡ some n
       → (b : Block) × (getElem? bs (i * length ar + f) ≡ some b) × Says ss s f n b
   table-at no-state i f s n e a = none-not e
   table-at {ar} (add-state {s = x} {rs = rs} {bs = bs} r t) zero f s n e a =
@@ -153,11 +156,13 @@ module _ {O : Type 0} (K : Calculus O) (alike-self : (o : O) → K .alike o o �
     pub differ : Pairwise (Unlike K) ss → Pairwise (Unlike K) ss′
     pub order : Firsts (length ss) (targets xs) (length ss′)
 
-  meet-ok : (ss : List (State O)) (k : State O) (ss′ : List (State O)) (xs : List Succ) → meet (construction K) ss k ≡ found ss′ xs → Met-ok ss (k ∷ []) ss′ xs
+  meet-ok : (ss : List (State O)) (k : State O) (ss′ : List (State O)) (xs : List Succ) → meet (construction K) ss k ≡ found ss′ xs
+      → Met-ok ss (k ∷ []) ss′ xs
   meet-ok ss k ss′ xs e = big (ltb 32 (length k)) refl e
     where
       new : length k ≤ 32 → find (sameState K (lift K k)) ss 0 ≡ none → (b : Bool) → leb 128 (length ss) ≡ b
-          → cond b (stopped ManyStates) (found (ss ++ (lift K k ∷ [])) (record { to = length ss; by = gcp k } ∷ [])) ≡ found ss′ xs → Met-ok ss (k ∷ []) ss′ xs
+          → cond b (stopped ManyStates) (found (ss ++ (lift K k ∷ [])) (record { to = length ss; by = gcp k } ∷ [])) ≡ found ss′ xs
+          → Met-ok ss (k ∷ []) ss′ xs
       new small none-is true h d = never d
       new small none-is false h d =
           let a : ss ++ (lift K k ∷ []) ≡ ss′ = cc in
@@ -167,7 +172,8 @@ module _ {O : Type 0} (K : Calculus O) (alike-self : (o : O) → K .alike o o �
             links = link small (at-end ss (lift K k)) (sameState-refl (lift K k)) refl no-link;
             from = λ s m. ⊎-elim inl (λ i. inr (k, here refl, single i, small)) (∈-append ss m);
             few = λ l. rw length-append (let z = leb-not 128 (length ss) h in omega arith);
-            differ = λ p. pairwise-append (Unlike K) ss (lift K k ∷ []) p (λ y m. elim m [ ], tt) (λ x y i j. rw (single j) (sameState-sym K x (lift K k) ∙ find-none (sameState K (lift K k)) ss 0 none-is x i));
+            differ = λ p. pairwise-append (Unlike K) ss (lift K k ∷ []) p (λ y m. elim m [ ], tt)
+                (λ x y i j. rw (single j) (sameState-sym K x (lift K k) ∙ find-none (sameState K (lift K k)) ss 0 none-is x i));
             order = rw one-more (first-met no-more);
           })
         where
@@ -177,7 +183,8 @@ module _ {O : Type 0} (K : Calculus O) (alike-self : (o : O) → K .alike o o �
           one-more : length (ss ++ (lift K k ∷ [])) ≡ suc (length ss)
           one-more = let z = length-append ss (lift K k ∷ []) in omega arith
 
-      place : length k ≤ 32 → (o : Option ℕ) → find (sameState K (lift K k)) ss 0 ≡ o → placed o ss (lift K k) (gcp k) ≡ found ss′ xs → Met-ok ss (k ∷ []) ss′ xs
+      place : length k ≤ 32 → (o : Option ℕ) → find (sameState K (lift K k)) ss 0 ≡ o → placed o ss (lift K k) (gcp k) ≡ found ss′ xs
+          → Met-ok ss (k ∷ []) ss′ xs
       place small none h d = new small h (leb 128 (length ss)) refl d
       place small (some i) h d =
           let f = find-at (sameState K (lift K k)) ss 0 i h in
@@ -189,9 +196,18 @@ module _ {O : Type 0} (K : Calculus O) (alike-self : (o : O) → K .alike o o �
               let b : record { to = i; by = gcp k } ∷ [] ≡ xs = cc in
               let ij′ : i ≡ j = omega arith in
               let es′ : getElem? ss i ≡ some s = rw ij′ es in
-              rw (← a, ← b) (record { ext = ext-refl ss; links = link small es′ t refl no-link; from = λ y m. inl m; few = λ l. l; differ = λ p. p; order = known (at-below ss i es′) no-more })
+              rw (← a, ← b) (record {
+                ext = ext-refl ss;
+                links = link small es′ t refl no-link;
+                from = λ y m. inl m;
+                few = λ l. l;
+                differ =
+                    λ p. p;
+                order = known (at-below ss i es′) no-more;
+              })
 
-      big : (b : Bool) → ltb 32 (length k) ≡ b → cond b (stopped ManyGoals) (placed (find (sameState K (lift K k)) ss 0) ss (lift K k) (gcp k)) ≡ found ss′ xs → Met-ok ss (k ∷ []) ss′ xs
+      big : (b : Bool) → ltb 32 (length k) ≡ b
+          → cond b (stopped ManyGoals) (placed (find (sameState K (lift K k)) ss 0) ss (lift K k) (gcp k)) ≡ found ss′ xs → Met-ok ss (k ∷ []) ss′ xs
       big true h d = never d
       big false h d = place (ltb-not 32 (length k) h) (find (sameState K (lift K k)) ss 0) refl d
 
@@ -210,7 +226,8 @@ module _ {O : Type 0} (K : Calculus O) (alike-self : (o : O) → K .alike o o �
       rw (← u, ← v) (record {
         ext = ext-trans (r₁ .ext) (r₂ .ext);
         links = links-append K (links-ext K (r₂ .ext) (r₁ .links)) (r₂ .links);
-        from = λ s m. ⊎-elim (λ i. ⊎-elim inl (λ w. inr (w .0, first (w .1), w .2, w .3)) (r₁ .from s i)) (λ w. inr (w .0, there (w .1), w .2, w .3)) (r₂ .from s m);
+        from = λ s m. ⊎-elim (λ i. ⊎-elim inl (λ w. inr (w .0, first (w .1), w .2, w .3)) (r₁ .from s i)) (λ w. inr (w .0, there (w .1), w .2, w .3))
+            (r₂ .from s m);
         few = λ l. r₂ .few (r₁ .few l);
         differ = λ p. r₂ .differ (r₁ .differ p);
         order = rw (map-append (λ x. x .to) b b₂) (firsts-append (r₁ .order) (r₂ .order));
@@ -224,7 +241,8 @@ module _ {O : Type 0} (K : Calculus O) (alike-self : (o : O) → K .alike o o �
   Fine ar s = Reach K ar s × ((s ≡ initial K) ⊎ (length s ≤ 32))
 
   -- what going over the symbols of a state adds
-  record Row-ok (ar : List ℕ) (s : State O) (f : ℕ) (ns : List ℕ) (ss : List (State O)) (bs : List Block) (ss′ : List (State O)) (bs′ : List Block) : Type 0 where
+  record Row-ok (ar : List ℕ) (s : State O) (f : ℕ) (ns : List ℕ) (ss : List (State O)) (bs : List Block) (ss′ : List (State O)) (bs′ : List Block) :
+      Type 0 where
     pub more : List Block
     pub blocks : bs′ ≡ bs ++ more
     pub rows : Rows K ss′ s f ns more
@@ -234,24 +252,40 @@ module _ {O : Type 0} (K : Calculus O) (alike-self : (o : O) → K .alike o o �
     pub differ : Pairwise (Unlike K) ss → Pairwise (Unlike K) ss′
     pub order : Firsts (length ss) (targets (allSuccs more)) (length ss′)
 
-  row-ok : (ar : List ℕ) (i : ℕ) (s : State O) → Reach K ar s → (f : ℕ) (ns : List ℕ) → ((g n : ℕ) → getElem? ns g ≡ some n → getElem? ar (f + g) ≡ some n)
-      → (ss : List (State O)) (bs : List Block) (ss′ : List (State O)) (bs′ : List Block) → row (construction K) i s f ns ss bs ≡ made ss′ bs′ → Row-ok ar s f ns ss bs ss′ bs′
+  row-ok : (ar : List ℕ) (i : ℕ) (s : State O) → Reach K ar s → (f : ℕ) (ns : List ℕ)
+      → ((g n : ℕ) → getElem? ns g ≡ some n → getElem? ar (f + g) ≡ some n)
+      → (ss : List (State O)) (bs : List Block) (ss′ : List (State O)) (bs′ : List Block) → row (construction K) i s f ns ss bs ≡ made ss′ bs′
+      → Row-ok ar s f ns ss bs ss′ bs′
   row-ok ar i s rs f [] h ss bs ss′ bs′ e =
       let a : ss ≡ ss′ = cc in
       let b : bs ≡ bs′ = cc in
-      rw (← a, ← b) (record { more = []; blocks = sym (append-nil bs); rows = no-row; ext = ext-refl ss; few = λ l. l; fine = λ r. r; differ = λ p. p; order = no-more })
+      rw (← a, ← b) (record {
+        more = [];
+        blocks = sym (append-nil bs);
+        rows = no-row;
+        ext = ext-refl ss;
+        few = λ l. l;
+        fine = λ r. r;
+        differ =
+            λ p. p;
+        order = no-more;
+      })
   row-ok ar i s rs f (n ∷ ns) h ss bs ss′ bs′ e =
-      go (meets (construction K) ss (classes K (deriv K s f n))) refl e (λ ss₁ bs₁ d. row-ok ar i s rs (suc f) ns (λ g m a. let z : suc f + g ≡ f + suc g = omega arith in rw z (h (suc g) m a)) ss₁ bs₁ ss′ bs′ d)
+      go (meets (construction K) ss (classes K (deriv K s f n))) refl e
+      (λ ss₁ bs₁ d. row-ok ar i s rs (suc f) ns (λ g m a. let z : suc f + g ≡ f + suc g = omega arith in rw z (h (suc g) m a)) ss₁ bs₁ ss′ bs′ d)
     where
-      go : (m : Met (State O)) → meets (construction K) ss (classes K (deriv K s f n)) ≡ m → thenBlock i (outputs K s f n) bs m (λ ss₁ bs₁. row (construction K) i s (suc f) ns ss₁ bs₁) ≡ made ss′ bs′
-          → ((ss₁ : List (State O)) (bs₁ : List Block) → row (construction K) i s (suc f) ns ss₁ bs₁ ≡ made ss′ bs′ → Row-ok ar s (suc f) ns ss₁ bs₁ ss′ bs′) → Row-ok ar s f (n ∷ ns) ss bs ss′ bs′
+      go : (m : Met (State O)) → meets (construction K) ss (classes K (deriv K s f n)) ≡ m
+          → thenBlock i (outputs K s f n) bs m (λ ss₁ bs₁. row (construction K) i s (suc f) ns ss₁ bs₁) ≡ made ss′ bs′
+          → ((ss₁ : List (State O)) (bs₁ : List Block) → row (construction K) i s (suc f) ns ss₁ bs₁ ≡ made ss′ bs′
+          → Row-ok ar s (suc f) ns ss₁ bs₁ ss′ bs′) → Row-ok ar s f (n ∷ ns) ss bs ss′ bs′
       go (stopped c) em d ih = never-made d
       go (found ss₁ xs) em d ih = both-of (meets-ok (classes K (deriv K s f n)) ss ss₁ xs em) (ih ss₁ _ d)
         where
           b : Block
           b = record { out = outputs K s f n; succs = xs }
 
-          both-of : Met-ok ss (classes K (deriv K s f n)) ss₁ xs → Row-ok ar s (suc f) ns ss₁ (bs ++ (b ∷ [])) ss′ bs′ → Row-ok ar s f (n ∷ ns) ss bs ss′ bs′
+          both-of : Met-ok ss (classes K (deriv K s f n)) ss₁ xs → Row-ok ar s (suc f) ns ss₁ (bs ++ (b ∷ [])) ss′ bs′
+              → Row-ok ar s f (n ∷ ns) ss bs ss′ bs′
           both-of o r = record {
             more = b ∷ r .more;
             blocks = r .blocks ∙ simp append-assoc;
@@ -277,45 +311,74 @@ module _ {O : Type 0} (K : Calculus O) (alike-self : (o : O) → K .alike o o �
     pub order : Firsts (length ss) (targets (allSuccs more)) (length ss′)
 
   run-ok : (ar : List ℕ) (fuel i : ℕ) (ss : List (State O)) (bs : List Block) (ss′ : List (State O)) (bs′ : List Block)
-      → fuel + i ≡ 128 → length ss ≤ 128 → ((y : State O) → y ∈ ss → Fine ar y) → Pairwise (Unlike K) ss → run (construction K) ar fuel i ss bs ≡ made ss′ bs′ → Run-ok ar i ss bs ss′ bs′
+      → fuel + i ≡ 128 → length ss ≤ 128 → ((y : State O) → y ∈ ss → Fine ar y) → Pairwise (Unlike K) ss
+      → run (construction K) ar fuel i ss bs ≡ made ss′ bs′ → Run-ok ar i ss bs ss′ bs′
   run-ok ar zero i ss bs ss′ bs′ fi few fine differ e =
       let a : ss ≡ ss′ = cc in
       let b : bs ≡ bs′ = cc in
-      rw (← a, ← b) (record { more = []; blocks = sym (append-nil bs); table = rw (drop-of-length-le ss {i = i} (omega arith)) no-state; ext = ext-refl ss; few = few; fine = fine; differ = differ; order = no-more })
+      rw (← a, ← b) (record {
+        more = [];
+        blocks = sym (append-nil bs);
+        table = rw (drop-of-length-le ss {i = i} (omega arith)) no-state;
+        ext =
+            ext-refl ss;
+        few = few;
+        fine = fine;
+        differ = differ;
+        order = no-more;
+      })
   run-ok ar (suc fuel) i ss bs ss′ bs′ fi few fine differ e =
       go (ltb i (length ss)) refl e (λ ss₁ bs₁ l r q d. run-ok ar fuel (suc i) ss₁ bs₁ ss′ bs′ (omega arith) l r q d)
     where
       Rest : Type 0
-      Rest = (ss₁ : List (State O)) (bs₁ : List Block) → length ss₁ ≤ 128 → ((y : State O) → y ∈ ss₁ → Fine ar y) → Pairwise (Unlike K) ss₁ → run (construction K) ar fuel (suc i) ss₁ bs₁ ≡ made ss′ bs′ → Run-ok ar (suc i) ss₁ bs₁ ss′ bs′
+      Rest = (ss₁ : List (State O)) (bs₁ : List Block) → length ss₁ ≤ 128 → ((y : State O) → y ∈ ss₁ → Fine ar y) → Pairwise (Unlike K) ss₁
+          → run (construction K) ar fuel (suc i) ss₁ bs₁ ≡ made ss′ bs′ → Run-ok ar (suc i) ss₁ bs₁ ss′ bs′
 
-      both-of : i < length ss → (ss₁ : List (State O)) (bs₁ : List Block) → Row-ok ar (getD ss i (initial K)) 0 ar ss bs ss₁ bs₁ → Run-ok ar (suc i) ss₁ bs₁ ss′ bs′ → Run-ok ar i ss bs ss′ bs′
+      both-of : i < length ss → (ss₁ : List (State O)) (bs₁ : List Block) → Row-ok ar (getD ss i (initial K)) 0 ar ss bs ss₁ bs₁
+          → Run-ok ar (suc i) ss₁ bs₁ ss′ bs′ → Run-ok ar i ss bs ss′ bs′
       both-of h ss₁ bs₁ o r = record {
         more = o .more ++ r .more;
         blocks = r .blocks ∙ rw (o .blocks, append-assoc);
-        table = rw (drop-cons ss′ i (initial K) (omega (arith, ext-length whole)), getD-ext whole i (initial K) h) (add-state (rows-ext K (r .ext) (o .rows)) (r .table));
+        table = rw (drop-cons ss′ i (initial K) (omega (arith, ext-length whole)), getD-ext whole i (initial K) h)
+            (add-state (rows-ext K (r .ext) (o .rows)) (r .table));
         ext = whole;
         few = r .few;
         fine = r .fine;
         differ = r .differ;
-        order = rw (gather-append (λ b. b .succs) (o .more) (r .more), map-append (λ x. x .to) (allSuccs (o .more)) (allSuccs (r .more))) (firsts-append (o .order) (r .order));
+        order = rw (gather-append (λ b. b .succs) (o .more) (r .more), map-append (λ x. x .to) (allSuccs (o .more)) (allSuccs (r .more)))
+            (firsts-append (o .order) (r .order));
       }
         where
           whole : Ext ss ss′
           whole = ext-trans (o .ext) (r .ext)
 
-      inner : i < length ss → (m : Made (State O)) → row (construction K) i (getD ss i (initial K)) 0 ar ss bs ≡ m → thenMore m (λ ss₁ bs₁. run (construction K) ar fuel (suc i) ss₁ bs₁) ≡ made ss′ bs′ → Rest → Run-ok ar i ss bs ss′ bs′
+      inner : i < length ss → (m : Made (State O)) → row (construction K) i (getD ss i (initial K)) 0 ar ss bs ≡ m
+          → thenMore m (λ ss₁ bs₁. run (construction K) ar fuel (suc i) ss₁ bs₁) ≡ made ss′ bs′ → Rest → Run-ok ar i ss bs ss′ bs′
       inner h (refused c p) em d rest = never-made d
       inner h (made ss₁ bs₁) em d rest =
-          let o = row-ok ar i (getD ss i (initial K)) ((fine (getD ss i (initial K)) (getD-in ss i (initial K) h)) .0) 0 ar (λ g n a. rw zero-add a) ss bs ss₁ bs₁ em in
+          let o = row-ok ar i (getD ss i (initial K)) ((fine (getD ss i (initial K)) (getD-in ss i (initial K) h)) .0) 0 ar (λ g n a. rw zero-add a)
+          ss bs ss₁ bs₁ em in
           both-of h ss₁ bs₁ o (rest ss₁ bs₁ (o .few few) (o .fine fine) (o .differ differ) d)
 
       go : (b : Bool) → ltb i (length ss) ≡ b
-          → cond b (thenMore (row (construction K) i (getD ss i (initial K)) 0 ar ss bs) (λ ss₁ bs₁. run (construction K) ar fuel (suc i) ss₁ bs₁)) (made ss bs) ≡ made ss′ bs′ → Rest → Run-ok ar i ss bs ss′ bs′
+          → cond b (thenMore (row (construction K) i (getD ss i (initial K)) 0 ar ss bs) (λ ss₁ bs₁. run (construction K) ar fuel (suc i) ss₁ bs₁))
+          (made ss bs) ≡ made ss′ bs′ → Rest → Run-ok ar i ss bs ss′ bs′
       go true h d rest = inner (ltb-is i (length ss) h) (row (construction K) i (getD ss i (initial K)) 0 ar ss bs) refl d rest
       go false h d rest =
           let a : ss ≡ ss′ = cc in
           let b : bs ≡ bs′ = cc in
-          rw (← a, ← b) (record { more = []; blocks = sym (append-nil bs); table = rw (drop-of-length-le ss {i = i} (ltb-not i (length ss) h)) no-state; ext = ext-refl ss; few = few; fine = fine; differ = differ; order = no-more })
+          rw (← a, ← b) (record {
+            more = [];
+            blocks = sym (append-nil bs);
+            table =
+                rw (drop-of-length-le ss {i = i} (ltb-not i (length ss) h)) no-state;
+            ext = ext-refl ss;
+            few = few;
+            fine = fine;
+            differ =
+                differ;
+            order = no-more;
+          })
 
 -- what is explored: m states and their blocks
 pub record Numbered {O : Type 0} (K : Calculus O) (ar : List ℕ) (ss : List (State O)) (bs : List Block) : Type 0 where
@@ -330,9 +393,11 @@ pub record Numbered {O : Type 0} (K : Calculus O) (ar : List ℕ) (ss : List (St
   pub order : Firsts 1 (targets (allSuccs bs)) (length ss)
   -- one block for each state and symbol, by state then symbol
   pub blocks : length bs ≡ length ss * length ar
-  pub block : (i f : ℕ) (s : State O) (n : ℕ) → getElem? ss i ≡ some s → getElem? ar f ≡ some n → (b : Block) × (getElem? bs (i * length ar + f) ≡ some b) × Says K ss s f n b
+  pub block : (i f : ℕ) (s : State O) (n : ℕ) → getElem? ss i ≡ some s → getElem? ar f ≡ some n → (b : Block)
+      × (getElem? bs (i * length ar + f) ≡ some b) × Says K ss s f n b
 
-pub numbered : {O : Type 0} (K : Calculus O) → ((o : O) → K .alike o o ≡ true) → (ar : List ℕ) (ss : List (State O)) (bs : List Block) → explored (construction K) ar ≡ made ss bs → Numbered K ar ss bs
+pub numbered : {O : Type 0} (K : Calculus O) → ((o : O) → K .alike o o ≡ true) → (ar : List ℕ) (ss : List (State O)) (bs : List Block)
+    → explored (construction K) ar ≡ made ss bs → Numbered K ar ss bs
 numbered {O} K alike-self ar ss bs e =
     let r = run-ok K alike-self ar 128 0 (initial K ∷ []) [] ss bs (omega arith) (omega arith) only (λ y m. elim m [ ], tt) e in
     let t : Table K ar ss ss bs = rw (r .blocks) (r .table) in

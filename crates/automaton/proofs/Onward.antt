@@ -42,7 +42,8 @@ module _ (C : Scored) (it : Item) where
   abbrev L : Pos
   L = label (calculus S) (it .state)
 
-  module _ (w : SoundState S (it .state)) (f : ℕ) (ts : Terms) (node-is : sub (C .score) (looks S it) ≡ some (node f ts)) (d : Sound S (deriv (calculus S) (it .state) f (count ts))) where
+  module _ (w : SoundState S (it .state)) (f : ℕ) (ts : Terms) (node-is : sub (C .score) (looks S it) ≡ some (node f ts))
+      (d : Sound S (deriv (calculus S) (it .state) f (count ts))) where
     pub onward {κ} : {X : Type κ} (g : Goal Pos) → g ∈ it .state → (x : Term) → getElem? (C .setting .shapes) (g .shape) ≡ some x
         → (announced (g .shape) (it .at ++ g .ann) ∈ announces S it f (count ts) → X)
         → ((j : Item) (h : Goal Pos) → j ∈ follows S it f (count ts) → h ∈ j .state → h .shape ≡ g .shape → j .at ++ h .ann ≡ it .at ++ g .ann → X)
@@ -71,7 +72,8 @@ module _ (C : Scored) (it : Item) where
                 place = rw (append-assoc, strip-join (g .ann) L (w .goals .low g m L i))
 
                 by-head : Dec (r .head ≡ f) → X
-                by-head (no ne) = refuted (strip (g .ann) L) (r .head) (rw sx) place (λ h. let z : some f ≡ some (r .head) = rw node-is at h in ne (sym (cc)))
+                by-head (no ne) = refuted (strip (g .ann) L) (r .head) (rw sx) place
+                    (λ h. let z : some f ≡ some (r .head) = rw node-is at h in ne (sym (cc)))
                 by-head (yes hf) = emptied (isNil ((reduced (calculus S) L (count ts) g) .obs)) refl
                   where
                     ex : (calculus S) .expects f L g ≡ true
@@ -79,4 +81,5 @@ module _ (C : Scored) (it : Item) where
 
                     emptied : (b : Bool) → isNil ((reduced (calculus S) L (count ts) g) .obs) ≡ b → X
                     emptied true z = told (announces-in S it f (count ts) g m ex z)
-                    emptied false z = goes-on S it f (count ts) d (reduced (calculus S) L (count ts) g) (cut-in S (it .state) f (count ts) g m ex z) on
+                    emptied false z = goes-on S it f (count ts) d (reduced (calculus S) L (count ts) g) (cut-in S (it .state) f (count ts) g m ex z)
+                        on

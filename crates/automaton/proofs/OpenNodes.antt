@@ -28,10 +28,12 @@ module _ (S : Setting) (g : Goal Pos) (x : Term) where
   abbrev pub isOpen : Pos → Bool
   isOpen r = has K (g .ann ++ r) (g .obs)
 
-  pub open-nodes : (s : State Pos) → Sound S s → g ∈ s → getElem? (S .shapes) (g .shape) ≡ some x → g .obs ≡ map (λ r. g .ann ++ r) (filter isOpen (dom x))
+  pub open-nodes : (s : State Pos) → Sound S s → g ∈ s → getElem? (S .shapes) (g .shape) ≡ some x
+      → g .obs ≡ map (λ r. g .ann ++ r) (filter isOpen (dom x))
   open-nodes s w m gx =
       ordered-unique (g .obs) (map (λ r. g .ann ++ r) (filter isOpen (dom x))) (w .ordered g m)
-      (pairwise-map Before Before (λ r. g .ann ++ r) (filter isOpen (dom x)) (λ a b i j l. before-append (g .ann) a b ∙ l) (pairwise-filter Before isOpen (dom x) (dom-ordered x)))
+      (pairwise-map Before Before (λ r. g .ann ++ r) (filter isOpen (dom x)) (λ a b i j l. before-append (g .ann) a b ∙ l)
+      (pairwise-filter Before isOpen (dom x) (dom-ordered x)))
       (λ o i. into o i (w .low g m o i) (w .real g m o i))
       (λ o i. on-map (λ r. g .ann ++ r) (filter isOpen (dom x)) i λ r j e. rw e (owes-has S (g .ann ++ r) (g .obs) ((in-filter isOpen (dom x) j) .1)))
     where
@@ -41,5 +43,6 @@ module _ (S : Setting) (g : Goal Pos) (x : Term) where
           let e : g .ann ++ strip (g .ann) o ≡ o = strip-join (g .ann) o low in
           let sx : sub x (strip (g .ann) o) ≡ some (node (r .head) (r .kids)) = rw (← same-shape) (r .is) in
           let h : has K (g .ann ++ strip (g .ann) o) (g .obs) ≡ true = rw e (has-owes S o (g .obs) i) in
-          let z : (g .ann ++ strip (g .ann) o) ∈ map (λ r. g .ann ++ r) (filter isOpen (dom x)) = map-in (λ r. g .ann ++ r) (filter-in isOpen (dom-in (strip (g .ann) o) x sx) h) in
+          let z : (g .ann ++ strip (g .ann) o) ∈ map (λ r. g .ann ++ r) (filter isOpen (dom x)) =
+          map-in (λ r. g .ann ++ r) (filter-in isOpen (dom-in (strip (g .ann) o) x sx) h) in
           rw e at z

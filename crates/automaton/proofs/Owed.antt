@@ -12,8 +12,8 @@ use lib.ListN.{length, getElem?}
 use Rattle.kinds.specs.Lists.{same, gather}
 use Rattle.kinds.specs.Positions.{Pos, strip}
 use Rattle.kinds.proofs.Members.{on-map, same-is, same-refl, Distinct}
-use Rattle.kinds.specs.Members.{_∈_, here, there}
-use Rattle.kinds.proofs.Pairwise.{Pairwise, pairwise-append, pairwise-map, pairwise-distinct}
+use Rattle.kinds.specs.Members.{_∈_, here, there, Pairwise}
+use Rattle.kinds.proofs.Pairwise.{pairwise-append, pairwise-map, pairwise-distinct}
 use Rattle.kinds.proofs.Places.{at-some}
 use Rattle.kinds.proofs.Prefixes.{_≼_, ≼-trans, strip-self, strip-more, strip-strip, strip-join}
 use Rattle.kinds.proofs.Ordered.{Before, before-irrefl, before-more, more-before, before-append, child-before}
@@ -34,7 +34,8 @@ args-ordered : (p : Pos) (c n : ℕ) (ts : Terms) → Pairwise Before (args p c 
 args-ordered p c zero ts = tt
 args-ordered p c (suc n) tnil = tt
 args-ordered p c (suc n) (tcons (blank w) ts) = args-ordered p (suc c) n ts
-args-ordered p c (suc n) (tcons (node f us) ts) = (λ y m. on-args p (suc c) n ts m (λ j h vs l e x. rw e (child-before p c (suc c + j) (omega arith))), args-ordered p (suc c) n ts)
+args-ordered p c (suc n) (tcons (node f us) ts) =
+    (λ y m. on-args p (suc c) n ts m (λ j h vs l e x. rw e (child-before p c (suc c + j) (omega arith))), args-ordered p (suc c) n ts)
 
 argsOf-ordered : (p : Pos) (n : ℕ) (t : Option Term) → Pairwise Before (argsOf p n t)
 argsOf-ordered p n none = tt
@@ -90,7 +91,8 @@ module _ (S : Setting) where
         go (cut h a e d x j) = rw d (on-inPlace L (argsOf L n (owed (S .shapes) h L)) (h .obs) (rw d at i) (λ b ne. stays b) made)
           where
             stays : o ∈ h .obs → Real S (reduced K L n h) o
-            stays b = let r = w .goals .real h a o b in record { shape = r .shape; is-shape = r .is-shape; head = r .head; kids = r .kids; is = r .is }
+            stays b = let r = w .goals .real h a o b in
+                record { shape = r .shape; is-shape = r .is-shape; head = r .head; kids = r .kids; is = r .is }
 
             made : L ∈ h .obs → o ∈ argsOf L n (owed (S .shapes) h L) → Real S (reduced K L n h) o
             made b c =
@@ -99,7 +101,21 @@ module _ (S : Setting) where
                 on-args L 1 n us v λ t y vs l eo nw.
                 let su : sub (r .shape) (strip (h .ann) L) ≡ some (node k us) = rw (r .is-shape) at eu in
                 let one : 1 + t ≡ suc t = omega arith in
-                record { shape = r .shape; is-shape = r .is-shape; head = y; kids = vs; is = rw (eo, strip-more (h .ann) L ((1 + t) ∷ []) (w .goals .low h a L b), sub-append (strip (h .ann) L) ((1 + t) ∷ []) (r .shape), su, one, nw) }
+                record {
+                  shape = r .shape;
+                  is-shape = r .is-shape;
+                  head = y;
+                  kids = vs;
+                  is =
+                      rw (
+                        eo,
+                        strip-more (h .ann) L ((1 + t) ∷ []) (w .goals .low h a L b),
+                        sub-append (strip (h .ann) L) ((1 + t) ∷ []) (r .shape),
+                        su,
+                        one,
+                        nw,
+                      );
+                }
 
     pub deriv-ordered : (g : Goal Pos) → g ∈ D → Pairwise Before (g .obs)
     deriv-ordered g m = go (derived S s f n g m)
@@ -122,7 +138,14 @@ module _ (S : Setting) where
         go : (y : Goal Pos) → y ∈ k → (x : Pos) → x ∈ y .obs → Real S (liftGoal K (gcp k) y) (strip (gcp k) x)
         go y a x b =
             let r = w .real y a x b in
-            record { shape = r .shape; is-shape = r .is-shape; head = r .head; kids = r .kids; is = rw (strip-strip (gcp k) (y .ann) x (gcp-below k y a) (w .low y a x b)) (r .is) }
+            record {
+              shape = r .shape;
+              is-shape = r .is-shape;
+              head = r .head;
+              kids = r .kids;
+              is =
+                  rw (strip-strip (gcp k) (y .ann) x (gcp-below k y a) (w .low y a x b)) (r .is);
+            }
 
     pub lift-ordered : (g : Goal Pos) → g ∈ lift K k → Pairwise Before (g .obs)
     lift-ordered g m = on-map (liftGoal K (gcp k)) k m λ y i e. rw e (pairwise-map Before Before (strip (gcp k)) (y .obs) (keep y i) (w .ordered y i))

@@ -19,12 +19,12 @@ use native.Mathlib.Nat.{add-zero, zero-add}
 use lib.ListN.{getElem?}
 use Rattle.kinds.specs.Lists.{same}
 use Rattle.kinds.specs.Positions.{Pos, before}
-use Rattle.kinds.specs.Members.{_∈_, here, there}
+use Rattle.kinds.specs.Members.{_∈_, here, there, Pairwise}
 use Rattle.kinds.proofs.Bools.{not-true, false-true, Order, less, equal, more, order}
 use Rattle.kinds.proofs.Members.{any-of, same-refl, on-map, map-in, on-gather, gather-in, sort-perm}
 use Rattle.kinds.proofs.Options.{none-not}
 use Rattle.kinds.proofs.Ordered.{before-irrefl, before-total, before-asym, before-pass}
-use Rattle.kinds.proofs.Pairwise.{Pairwise, pairwise-map, pairwise-perm}
+use Rattle.kinds.proofs.Pairwise.{pairwise-map, pairwise-perm}
 use Rattle.kinds.proofs.Places.{at-in, on-in}
 use Rattle.term.specs.Terms.{Term}
 use Rattle.automaton.specs.Goals.{Goal, State, Calculus, has, firstFrom, first, allObs, deriv}
@@ -66,7 +66,8 @@ rows-pairwise : (R : List Bool → List Bool → Type 0) (m : Square) (i : ℕ)
     → Pairwise R (rowsFrom i m)
 rows-pairwise R [] i h = tt
 rows-pairwise R (x ∷ m) i h =
-    go (leads i x) refl (rows-pairwise R m (suc i) (λ k l a b u e t d v. h (suc k) (suc l) a b (omega arith) e (rw (shift k) at t) d (rw (shift l) at v)))
+    go (leads i x) refl (rows-pairwise R m (suc i)
+    (λ k l a b u e t d v. h (suc k) (suc l) a b (omega arith) e (rw (shift k) at t) d (rw (shift l) at v)))
   where
     shift : (c : ℕ) → suc i + c ≡ i + suc c
     shift c = omega arith
@@ -77,14 +78,16 @@ rows-pairwise R (x ∷ m) i h =
 
 -- ---- the first position
 module _ {O : Type 0} (K : Calculus O) where
-  firstFrom-not-after : (p : Pos) (os : List O) → (before p (firstFrom K p os) ≡ false) × ((o : O) → o ∈ os → before (K .at o) (firstFrom K p os) ≡ false)
+  firstFrom-not-after : (p : Pos) (os : List O) → (before p (firstFrom K p os) ≡ false)
+      × ((o : O) → o ∈ os → before (K .at o) (firstFrom K p os) ≡ false)
   firstFrom-not-after p [] = (not-true (before p p) (before-irrefl p), λ o m. elim m [ ])
   firstFrom-not-after p (x ∷ os) = go (before (K .at x) p) refl (firstFrom-not-after (K .at x) os) (firstFrom-not-after p os)
     where
       go : (b : Bool) → before (K .at x) p ≡ b
           → (before (K .at x) (firstFrom K (K .at x) os) ≡ false) × ((o : O) → o ∈ os → before (K .at o) (firstFrom K (K .at x) os) ≡ false)
           → (before p (firstFrom K p os) ≡ false) × ((o : O) → o ∈ os → before (K .at o) (firstFrom K p os) ≡ false)
-          → (before p (firstFrom K (cond b (K .at x) p) os) ≡ false) × ((o : O) → o ∈ (x ∷ os) → before (K .at o) (firstFrom K (cond b (K .at x) p) os) ≡ false)
+          → (before p (firstFrom K (cond b (K .at x) p) os) ≡ false)
+          × ((o : O) → o ∈ (x ∷ os) → before (K .at o) (firstFrom K (cond b (K .at x) p) os) ≡ false)
       go true e a b = (before-pass (firstFrom K (K .at x) os) (K .at x) p (a .0) (before-asym (K .at x) p e), all)
         where
           all : (o : O) → o ∈ (x ∷ os) → before (K .at o) (firstFrom K (K .at x) os) ≡ false
@@ -110,7 +113,8 @@ module _ {O : Type 0} (K : Calculus O) where
   module _ (d : State O) where
     pub classes-apart : Pairwise Apart (classes K d)
     classes-apart =
-        pairwise-perm Apart (λ a b o g h i j t. o h g j i (dep-sym K g h t)) (sort-perm (classBefore K) (map (λ r. picked r d) (rowsFrom 0 (closed K d))))
+        pairwise-perm Apart (λ a b o g h i j t. o h g j i (dep-sym K g h t))
+        (sort-perm (classBefore K) (map (λ r. picked r d) (rowsFrom 0 (closed K d))))
         (pairwise-map (λ x y. Apart (picked x d) (picked y d)) Apart (λ r. picked r d) (rowsFrom 0 (closed K d)) (λ x y i j a. a)
         (rows-pairwise (λ x y. Apart (picked x d) (picked y d)) (closed K d) 0 two))
       where
@@ -185,7 +189,8 @@ module _ {O : Type 0} (K : Calculus O) where
         some-goal = λ k m. class-some K d k (class-is K d k m);
         first-is = firsts;
         in-order =
-            pairwise-both Apart (λ a b. before (first K (allObs b)) (first K (allObs a)) ≡ false) _ (classes K d) strict classes-apart (classes-in-order K d);
+            pairwise-both Apart (λ a b. before (first K (allObs b)) (first K (allObs a)) ≡ false) _ (classes K d) strict classes-apart
+            (classes-in-order K d);
         once = once;
         once-in = λ k m. let c = class-is K d k m in rw (c .is) (pairwise-picked (λ g h. SameAnnouncement g h → ⊥) (c .row) d once);
       }
@@ -222,8 +227,10 @@ module _ (S : Setting) where
       d-owing g m = let o = d-sound .owing (forget position g) (map-in (forget position) m) in on-map position (g .obs) (o .1) λ x i e. (x, i)
 
       pub paper-parted : Parted P (deriv P s f n)
-      paper-parted = parted P (deriv P s f n) d-owing (pairwise-back (λ g h. SameAnnouncement g h → ⊥) (forget position) (deriv P s f n) (d-sound .keyed))
+      paper-parted = parted P (deriv P s f n) d-owing
+          (pairwise-back (λ g h. SameAnnouncement g h → ⊥) (forget position) (deriv P s f n) (d-sound .keyed))
 
-pub plan-reachable : (shapes : List Term) (ar : List ℕ) (ss : List (State Ob)) (bs : List Block) → explored (construction (paper shapes)) ar ≡ made ss bs
+pub plan-reachable : (shapes : List Term) (ar : List ℕ) (ss : List (State Ob)) (bs : List Block)
+    → explored (construction (paper shapes)) ar ≡ made ss bs
     → (s : State Ob) → s ∈ ss → Reach (paper shapes) ar s
 plan-reachable shapes ar ss bs e = numbered (paper shapes) alike-refl ar ss bs e .reach

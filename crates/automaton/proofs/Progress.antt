@@ -49,7 +49,8 @@ at-middle (y ∷ a) x b = at-middle a x b
 find-some : {A : Type 0} (p : A → Bool) (s : List A) (c : ℕ) {x : A} → x ∈ s → p x ≡ true → (j : ℕ) × (find p s c ≡ some j)
 find-some p (y ∷ s) c {x} m e = go (p y) refl m (λ i. find-some p s (suc c) i e)
   where
-    go : (b : Bool) → p y ≡ b → x ∈ (y ∷ s) → (x ∈ s → (j : ℕ) × (find p s (suc c) ≡ some j)) → (j : ℕ) × (cond b (some c) (find p s (suc c)) ≡ some j)
+    go : (b : Bool) → p y ≡ b → x ∈ (y ∷ s) → (x ∈ s → (j : ℕ) × (find p s (suc c) ≡ some j)) → (j : ℕ)
+        × (cond b (some c) (find p s (suc c)) ≡ some j)
     go true d i ih = (c, refl)
     go false d (here z) ih = false-true (sym d ∙ rw (← z) e)
     go false d (there i) ih = ih i
@@ -70,12 +71,14 @@ module _ {S : Type 0} (C : Construction S) where
     pub meet-full : C .size k ≤ 32 → New C ss k → length ss ≡ 128 → meet C ss k ≡ stopped ManyStates
     meet-full h n l = rw (small h, find-absent (C .same (C .lift k)) ss 0 n, is-leb 128 (length ss) (omega arith))
 
-    pub meet-new : C .size k ≤ 32 → New C ss k → length ss < 128 → meet C ss k ≡ met (ss ++ (C .lift k ∷ [])) (record { to = length ss; by = C .gcp k } ∷ [])
+    pub meet-new : C .size k ≤ 32 → New C ss k → length ss < 128
+        → meet C ss k ≡ met (ss ++ (C .lift k ∷ [])) (record { to = length ss; by = C .gcp k } ∷ [])
     meet-new h n l =
         rw (small h, find-absent (C .same (C .lift k)) ss 0 n, not-true (leb 128 (length ss)) (λ e. let z = leb-is 128 (length ss) e in omega arith))
 
     pub meet-known : C .size k ≤ 32 → Known C ss k → (xs : List Succ) × (meet C ss k ≡ met ss xs)
-    meet-known h n = let j = find-some (C .same (C .lift k)) ss 0 (n .met) (n .equal) in (record { to = j .0; by = C .gcp k } ∷ [], rw (small h, j .1))
+    meet-known h n = let j = find-some (C .same (C .lift k)) ss 0 (n .met) (n .equal) in
+        (record { to = j .0; by = C .gcp k } ∷ [], rw (small h, j .1))
 
   abbrev pub after : List Succ → Met S → Met S
   after xs m = andThen m (λ ss ys. met ss (xs ++ ys))
@@ -154,7 +157,8 @@ module _ {S : Type 0} (C : Construction S) where
         let y : n′ ≡ n = cc in
         rw (z, y) at o
 
-    from-class : {ss : List S} {i f c : ℕ} {k : S} → length ss ≤ 128 → Rest ss i f c → (a : ClassAt C ar ss i f c k) → OnClass ss i f c (a .state) (a .children)
+    from-class : {ss : List S} {i f c : ℕ} {k : S} → length ss ≤ 128 → Rest ss i f c → (a : ClassAt C ar ss i f c k)
+        → OnClass ss i f c (a .state) (a .children)
     from-class l x a = to-class l x (a .state) (a .children) (a .state-is) (a .children-are)
 
     class-on : {ss : List S} {i f c : ℕ} (s : S) (n : ℕ) (k : S) (ss′ : List S) (zs : List Succ) → getElem? (C .classes s f n) c ≡ some k
@@ -212,7 +216,8 @@ module _ {S : Type 0} (C : Construction S) where
     pub over-goals : (i : ℕ) → OverGoals C ar i → explored C ar ≡ refused ManyGoals i
     over-goals i o =
         let a = o .is in
-        class-stop (a .state) (a .children) (o .part) ManyGoals (a .class-is) (meet-over (o .states) (o .part) (o .over)) (from-class (few (o .reached)) (rest (o .reached)) a)
+        class-stop (a .state) (a .children) (o .part) ManyGoals (a .class-is) (meet-over (o .states) (o .part) (o .over))
+        (from-class (few (o .reached)) (rest (o .reached)) a)
 
     pub over-states : (i : ℕ) → OverStates C ar i → explored C ar ≡ refused ManyStates i
     over-states i o =
@@ -252,7 +257,8 @@ module _ {S : Type 0} (C : Construction S) where
     meets-end i s f n b [] pre c ss ec e r a = meets-done (ec ∙ ap length (sym (e ∙ append-nil pre))) r a
     meets-end i s f n b (k ∷ ks) pre c ss ec e r a =
         let z = length-append pre (k ∷ []) in
-        goals (decLt 32 (C .size k)) (λ ss′ r′ a′. meets-end i s f n b ks (pre ++ (k ∷ [])) (suc c) ss′ (omega arith) (e ∙ sym (append-assoc pre (k ∷ []) ks)) r′ a′)
+        goals (decLt 32 (C .size k)) (λ ss′ r′ a′. meets-end i s f n b ks (pre ++ (k ∷ [])) (suc c) ss′ (omega arith)
+        (e ∙ sym (append-assoc pre (k ∷ []) ks)) r′ a′)
       where
         at : ClassAt C ar ss i f c k
         at =
@@ -272,7 +278,18 @@ module _ {S : Type 0} (C : Construction S) where
             let z = few r in
             let full : length ss ≡ 128 = omega arith in
             rw (meets-stop ss k ks ManyStates (meet-full ss k h w full))
-            (meets-halt (at-states (record { states = ss; symbol = f; number = c; part = k; reached = r; is = at; few = h; is-new = w; full = full })))
+            (meets-halt (at-states (record {
+              states = ss;
+              symbol = f;
+              number = c;
+              part = k;
+              reached = r;
+              is = at;
+              few = h;
+              is-new = w;
+              full =
+                  full;
+            })))
 
         placed : C .size k ≤ 32 → (o : Option ℕ) → find (C .same (C .lift k)) ss 0 ≡ o
             → ((ss′ : List S) → Reached C ar ss′ i f (suc c) → getElem? ss′ i ≡ some s → MeetsEnd i s f n (meets C ss′ ks))

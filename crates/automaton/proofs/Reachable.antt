@@ -86,7 +86,8 @@ module _ (S : Setting) where
   pub lift-sound : (k : State Pos) → Sound S k → Sound S (lift K k)
   lift-sound k w = record {
     owing = λ g i. on-map (liftGoal K (gcp k)) k i λ h a e. rw e (lifted h (w .owing h a));
-    low = λ g m o j. on-map (liftGoal K (gcp k)) k m λ x i e. on-map (strip (gcp k)) (x .obs) (rw e at j) λ y l d. rw (e, d) (strip-below (gcp k) y (x .ann) (w .low x i y l) (gcp-below k x i));
+    low = λ g m o j. on-map (liftGoal K (gcp k)) k m λ x i e. on-map (strip (gcp k)) (x .obs) (rw e at j) λ y l d. rw (e, d)
+        (strip-below (gcp k) y (x .ann) (w .low x i y l) (gcp-below k x i));
     real = lift-real S k w;
     ordered = lift-ordered S k w;
     apart = λ o x mo mx h.
@@ -105,11 +106,13 @@ module _ (S : Setting) where
   pub class-announces : (d : State Pos) → Sound S d → (k : State Pos) → k ∈ classes K d → Top k
   class-announces d w k m = class-top K d (w .low) k m
 
-  pub next-sound : (s : State Pos) → SoundState S s → (f n : ℕ) → getElem? (S .counts) f ≡ some n → (k : State Pos) → k ∈ classes K (deriv K s f n) → SoundState S (lift K k)
+  pub next-sound : (s : State Pos) → SoundState S s → (f n : ℕ) → getElem? (S .counts) f ≡ some n → (k : State Pos) → k ∈ classes K (deriv K s f n)
+      → SoundState S (lift K k)
   next-sound s w f n a k m =
       let d = deriv-sound s w f n a in
       let t = class-announces (deriv K s f n) d k m in
-      root-label S (lift K k) (lift-sound k (class-sound (deriv K s f n) d k m)) (liftGoal K (gcp k) (t .goal)) (map-in (liftGoal K (gcp k)) (t .inside)) (rw (← (t .at)) (strip-self (gcp k)))
+      root-label S (lift K k) (lift-sound k (class-sound (deriv K s f n) d k m)) (liftGoal K (gcp k) (t .goal))
+      (map-in (liftGoal K (gcp k)) (t .inside)) (rw (← (t .at)) (strip-self (gcp k)))
 
   pub reachable-sound : {s : State Pos} → Reachable S s → SoundState S s
   reachable-sound init = initial-sound

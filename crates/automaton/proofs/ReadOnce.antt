@@ -35,7 +35,8 @@ sees-covers it q = any-same _ _ (allObs (it .state)) (λ o m. prefix-append (it 
 
 -- what an item sees lies below it
 sees-below : (it : Item) (q : Pos) → sees it q ≡ true → q ≼ it .at
-sees-below it q e = on-any (λ o. prefix (it .at ++ o) q) (allObs (it .state)) e λ o m t. ≼-trans (prefix-is (it .at ++ o) q t) (record { by = o; eq = refl })
+sees-below it q e = on-any (λ o. prefix (it .at ++ o) q) (allObs (it .state)) e λ o m t. ≼-trans (prefix-is (it .at ++ o) q t)
+    (record { by = o; eq = refl })
 
 module _ (S : Setting) where
   abbrev K : Calculus Pos
@@ -60,12 +61,15 @@ module _ (S : Setting) where
       fro : covers k q ≡ true → any (λ o. prefix ((it .at ++ gcp k) ++ o) (it .at ++ q)) (allObs (lift K k)) ≡ true
       fro e =
           on-covers k q e λ g o i j h.
-          any-of (λ y. prefix ((it .at ++ gcp k) ++ y) (it .at ++ q)) (owes (map-in (liftGoal K (gcp k)) i) (map-in (strip (gcp k)) j)) (same-place o g i j ∙ below-prefix h)
+          any-of (λ y. prefix ((it .at ++ gcp k) ++ y) (it .at ++ q)) (owes (map-in (liftGoal K (gcp k)) i) (map-in (strip (gcp k)) j))
+          (same-place o g i j ∙ below-prefix h)
 
   alike-sees : (j j′ : Item) (q : Pos) → j′ .at ≡ j .at → Alike (j .state) (j′ .state) → sees j q ≡ sees j′ q
   alike-sees j j′ q e a = bool-ext (sees j q) (sees j′ q)
-      (λ h. on-any (λ o. prefix (j .at ++ o) q) (allObs (j .state)) h λ o m t. any-of (λ o. prefix (j′ .at ++ o) q) (alike-owes (j .state) (j′ .state) a o m) (rw e t))
-      (λ h. on-any (λ o. prefix (j′ .at ++ o) q) (allObs (j′ .state)) h λ o m t. any-of (λ o. prefix (j .at ++ o) q) (alike-back (j .state) (j′ .state) a o m) (rw (← e) t))
+      (λ h. on-any (λ o. prefix (j .at ++ o) q) (allObs (j .state)) h λ o m t. any-of (λ o. prefix (j′ .at ++ o) q)
+      (alike-owes (j .state) (j′ .state) a o m) (rw e t))
+      (λ h. on-any (λ o. prefix (j′ .at ++ o) q) (allObs (j′ .state)) h λ o m t. any-of (λ o. prefix (j .at ++ o) q)
+      (alike-back (j .state) (j′ .state) a o m) (rw (← e) t))
 
   pub goes-see : {js js′ : List Item} (q : Pos) → Goes S js js′ → waits q js ≡ waits q js′
   goes-see q none-go = refl
@@ -86,14 +90,22 @@ module _ (C : Scored) (it : Item) where
     sound-d : Sound S D
     sound-d = deriv-sound S (it .state) w f (count ts) (fits-at (S .counts) (C .score-blanks) (C .score) (C .score-fits) (looks S it) f ts node-is)
 
-    below-it : (q : Pos) (u : Term) → sub (C .score) (it .at ++ q) ≡ some u → one (sees it (it .at ++ q)) ≡ one (same (looks S it) (it .at ++ q)) + waits (it .at ++ q) (follows S it f (count ts))
-    below-it q u e = rw (sees-covers it q, same-append (it .at) L q, each, deriv-covers S (it .state) w f (count ts) q fits, parts-cover S D sound-d q)
+    below-it : (q : Pos) (u : Term) → sub (C .score) (it .at ++ q) ≡ some u
+        → one (sees it (it .at ++ q)) ≡ one (same (looks S it) (it .at ++ q)) + waits (it .at ++ q) (follows S it f (count ts))
+    below-it q u e = rw (
+      sees-covers it q,
+      same-append (it .at) L q,
+      each,
+      deriv-covers S (it .state) w f (count ts) q fits,
+      parts-cover S D sound-d q,
+    )
       where
         fits : (i : ℕ) → q ≼ (L ++ (i ∷ [])) → (1 ≤ i) × (i ≤ count ts)
         fits i h =
             let p : it .at ++ q ≡ looks S it ++ (i ∷ h .by) = rw (h .eq) (simp append-assoc) in
             let s₁ : sub (C .score) (looks S it ++ (i ∷ h .by)) ≡ some u = rw p at e in
-            let s₂ : bind (sub (C .score) (looks S it)) (λ v. sub v (i ∷ h .by)) ≡ some u = rw (sub-append (looks S it) (i ∷ h .by) (C .score)) at s₁ in
+            let s₂ : bind (sub (C .score) (looks S it)) (λ v. sub v (i ∷ h .by)) ≡ some u =
+            rw (sub-append (looks S it) (i ∷ h .by) (C .score)) at s₁ in
             let s₃ : sub (node f ts) (i ∷ h .by) ≡ some u = rw node-is at s₂ in
             child-fits f i ts (h .by) s₃
 
@@ -101,7 +113,8 @@ module _ (C : Scored) (it : Item) where
         each = sum-map (λ j. one (sees j (it .at ++ q))) (goesOn S it) (classes (calculus S) D)
             ∙ sum-same _ _ (classes (calculus S) D) (λ k m. ap one (lifted-sees S it k q (class-sound S D sound-d k m)))
 
-    pub follows-see : (q : Pos) (u : Term) → sub (C .score) q ≡ some u → one (sees it q) ≡ one (same (looks S it) q) + waits q (follows S it f (count ts))
+    pub follows-see : (q : Pos) (u : Term) → sub (C .score) q ≡ some u
+        → one (sees it q) ≡ one (same (looks S it) q) + waits q (follows S it f (count ts))
     follows-see q u e = ⊎-elim below apart (test (prefix (it .at) q))
       where
         Claim : Pos → Type 0

@@ -103,7 +103,8 @@ module _ {O : Type 0} (K : Calculus O) where
 
   -- where m is no longer than any announcement that depends on goal i, all these are below m
   all-below : (s : State O) → AllBelow s → (m : Pos) {i j : ℕ} → Dependent K s i j → (g : Goal O) → getElem? s i ≡ some g → g .ann ≼ m
-      → ((y : ℕ) (h : Goal O) → Dependent K s i y → getElem? s y ≡ some h → length m ≤ length (h .ann)) → (h : Goal O) → getElem? s j ≡ some h → h .ann ≼ m
+      → ((y : ℕ) (h : Goal O) → Dependent K s i y → getElem? s y ≡ some h → length m ≤ length (h .ann)) → (h : Goal O) → getElem? s j ≡ some h
+      → h .ann ≼ m
   all-below s low m (one {i} {j} d) g ag u l h ah =
       let xg : d .g ≡ g = cc (d .at-i, ag) in
       let yh : d .h ≡ h = cc (d .at-j, ah) in
@@ -125,7 +126,8 @@ module _ {O : Type 0} (K : Calculus O) where
               all-below s low (b .goal .ann) (dependent-join K s (dependent-sym K s di) dj) (b .goal) ai (≼-refl (b .goal .ann))
               (λ y h d ah. b .least h (class-has K s k c y ah (dependent-join K s di d))) g aj
 
-  pub gcp-shortest : (s : State O) → AllBelow s → (k : State O) → k ∈ classes K s → (g : Goal O) → g ∈ k → ((h : Goal O) → h ∈ k → length (g .ann) ≤ length (h .ann)) → gcp k ≡ g .ann
+  pub gcp-shortest : (s : State O) → AllBelow s → (k : State O) → k ∈ classes K s → (g : Goal O) → g ∈ k
+      → ((h : Goal O) → h ∈ k → length (g .ann) ≤ length (h .ann)) → gcp k ≡ g .ann
   gcp-shortest s low k m g i sh =
       let t = class-top s low k m in
       let l = sh (t .goal) (t .inside) in

@@ -77,12 +77,16 @@ argsOf-same : (p : Pos) (n : ℕ) (t : Term) → map position (argObsOf p n t) �
 argsOf-same p n (blank w) = refl
 argsOf-same p n (node f ts) = args-same p 1 n ts
 
-on-args {κ} : {C : Type κ} (p : Pos) (c n : ℕ) (us : Terms) (o : Ob) → o ∈ argObs p c n us → ((j : ℕ) → o .pos ≡ p ++ ((c + j) ∷ []) → nth us j ≡ some (o .pat) → C) → C
-on-args p c (suc n) (tcons (blank w) us) o m k = on-args p (suc c) n us o m (λ j e d. let z : suc c + j ≡ c + suc j = omega arith in k (suc j) (rw z at e) d)
+on-args {κ} : {C : Type κ} (p : Pos) (c n : ℕ) (us : Terms) (o : Ob) → o ∈ argObs p c n us
+    → ((j : ℕ) → o .pos ≡ p ++ ((c + j) ∷ []) → nth us j ≡ some (o .pat) → C) → C
+on-args p c (suc n) (tcons (blank w) us) o m k =
+    on-args p (suc c) n us o m (λ j e d. let z : suc c + j ≡ c + suc j = omega arith in k (suc j) (rw z at e) d)
 on-args p c (suc n) (tcons (node g ws) us) o (here e) k = let z : c + 0 ≡ c = omega arith in k 0 (rw (z, e)) (rw e)
-on-args p c (suc n) (tcons (node g ws) us) o (there m) k = on-args p (suc c) n us o m (λ j e d. let z : suc c + j ≡ c + suc j = omega arith in k (suc j) (rw z at e) d)
+on-args p c (suc n) (tcons (node g ws) us) o (there m) k =
+    on-args p (suc c) n us o m (λ j e d. let z : suc c + j ≡ c + suc j = omega arith in k (suc j) (rw z at e) d)
 
-on-argsOf {κ} : {C : Type κ} (p : Pos) (n : ℕ) (t : Term) (o : Ob) → o ∈ argObsOf p n t → ((f : ℕ) (us : Terms) → t ≡ node f us → o ∈ argObs p 1 n us → C) → C
+on-argsOf {κ} : {C : Type κ} (p : Pos) (n : ℕ) (t : Term) (o : Ob) → o ∈ argObsOf p n t
+    → ((f : ℕ) (us : Terms) → t ≡ node f us → o ∈ argObs p 1 n us → C) → C
 on-argsOf p n (node f us) o m k = k f us refl m
 
 spread : (b c d : Bool) → ((b || c) && d) ≡ ((b && d) || (c && d))
@@ -94,10 +98,12 @@ spread false c d = refl
 
 module _ (shapes : List Term) where
   expects-same : (f : ℕ) (p : Pos) (g : Goal Ob) → Right shapes g
-      → (any (same p) (map position (g .obs)) && headsOf f (owed shapes (forget position g) p)) ≡ any (λ o. same p (o .pos) && heads f (o .pat)) (g .obs)
+      → (any (same p) (map position (g .obs)) && headsOf f (owed shapes (forget position g) p)) ≡ any (λ o. same p (o .pos) && heads f (o .pat))
+      (g .obs)
   expects-same f p g r = go (g .obs) (λ o m. (r o m) .is)
     where
-      one : (o : Ob) → owed shapes (forget position g) (o .pos) ≡ some (o .pat) → (same p (o .pos) && headsOf f (owed shapes (forget position g) p)) ≡ (same p (o .pos) && heads f (o .pat))
+      one : (o : Ob) → owed shapes (forget position g) (o .pos) ≡ some (o .pat)
+          → (same p (o .pos) && headsOf f (owed shapes (forget position g) p)) ≡ (same p (o .pos) && heads f (o .pat))
       one o e = split (same p (o .pos)) refl
         where
           split : (b : Bool) → same p (o .pos) ≡ b → (b && headsOf f (owed shapes (forget position g) p)) ≡ (b && heads f (o .pat))
@@ -107,7 +113,8 @@ module _ (shapes : List Term) where
       go : (os : List Ob) → ((o : Ob) → o ∈ os → owed shapes (forget position g) (o .pos) ≡ some (o .pat))
           → (any (same p) (map position os) && headsOf f (owed shapes (forget position g) p)) ≡ any (λ o. same p (o .pos) && heads f (o .pat)) os
       go [] h = refl
-      go (o ∷ os) h = spread (same p (o .pos)) (any (same p) (map position os)) (headsOf f (owed shapes (forget position g) p)) ∙ ap₂ _||_ (one o (h o (here refl))) (go os (λ x m. h x (there m)))
+      go (o ∷ os) h = spread (same p (o .pos)) (any (same p) (map position os)) (headsOf f (owed shapes (forget position g) p))
+          ∙ ap₂ _||_ (one o (h o (here refl))) (go os (λ x m. h x (there m)))
 
   reduce-same : (p : Pos) (n : ℕ) (g : Goal Ob) → Right shapes g
       → map position (gather (reduceOb p n) (g .obs)) ≡ gather (inPlace p (argsOf p n (owed shapes (forget position g) p))) (map position (g .obs))
@@ -116,10 +123,12 @@ module _ (shapes : List Term) where
       ∙ gather-same _ _ (g .obs) (λ o m. one o ((r o m) .is))
       ∙ sym (gather-map (inPlace p (argsOf p n (owed shapes (forget position g) p))) position (g .obs))
     where
-      one : (o : Ob) → owed shapes (forget position g) (o .pos) ≡ some (o .pat) → map position (reduceOb p n o) ≡ inPlace p (argsOf p n (owed shapes (forget position g) p)) (o .pos)
+      one : (o : Ob) → owed shapes (forget position g) (o .pos) ≡ some (o .pat)
+          → map position (reduceOb p n o) ≡ inPlace p (argsOf p n (owed shapes (forget position g) p)) (o .pos)
       one o e = split (same p (o .pos)) refl
         where
-          split : (b : Bool) → same p (o .pos) ≡ b → map position (cond b (argObsOf p n (o .pat)) (o ∷ [])) ≡ cond b (argsOf p n (owed shapes (forget position g) p)) (o .pos ∷ [])
+          split : (b : Bool) → same p (o .pos) ≡ b
+              → map position (cond b (argObsOf p n (o .pat)) (o ∷ [])) ≡ cond b (argsOf p n (owed shapes (forget position g) p)) (o .pos ∷ [])
           split true d = argsOf-same p n (o .pat) ∙ ap (argsOf p n) (sym (ap (owed shapes (forget position g)) (same-is p (o .pos) d) ∙ e))
           split false d = refl
 
@@ -133,7 +142,8 @@ module _ (shapes : List Term) where
   reduced-right : (p : Pos) (n : ℕ) (g : Goal Ob) → Right shapes g → Right shapes (reduced (paper shapes) p n g)
   reduced-right p n g r o m = on-gather (reduceOb p n) (g .obs) m λ x i j. go x i (same p (x .pos)) refl j
     where
-      go : (x : Ob) → x ∈ g .obs → (b : Bool) → same p (x .pos) ≡ b → o ∈ cond b (argObsOf p n (x .pat)) (x ∷ []) → RightOb shapes (reduced (paper shapes) p n g) o
+      go : (x : Ob) → x ∈ g .obs → (b : Bool) → same p (x .pos) ≡ b → o ∈ cond b (argObsOf p n (x .pat)) (x ∷ [])
+          → RightOb shapes (reduced (paper shapes) p n g) o
       go x i false e (here d) = rw d (record { low = (r x i) .low; is = (r x i) .is })
       go x i true e j = on-argsOf p n (x .pat) o j λ f us eu k. on-args p 1 n us o k λ c eo nu.
           let z : p ≡ x .pos = same-is p (x .pos) e in
@@ -177,5 +187,6 @@ module _ (shapes : List Term) where
     lifted-right = lifted-right;
   }
 
-pub same-plan : (ar : List ℕ) (shapes : List Term) (n room : ℕ) → planned (construction (paper shapes)) ar n room ≡ planned (construction (bare shapes)) ar n room
+pub same-plan : (ar : List ℕ) (shapes : List Term) (n room : ℕ)
+    → planned (construction (paper shapes)) ar n room ≡ planned (construction (bare shapes)) ar n room
 same-plan ar shapes n room = plan-same (paper shapes) (bare shapes) position (Right shapes) (carries shapes) ar n room

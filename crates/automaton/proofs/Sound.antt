@@ -9,8 +9,7 @@ use mathlib.Core.List.{[]}
 use Prim.Native.Nat.{ℕ, _<_, _≤_}
 use lib.ListN.{length, getElem?}
 use Rattle.kinds.specs.Positions.{Pos, strip}
-use Rattle.kinds.specs.Members.{_∈_}
-use Rattle.kinds.proofs.Pairwise.{Pairwise}
+use Rattle.kinds.specs.Members.{_∈_, Pairwise}
 use Rattle.kinds.proofs.Prefixes.{_≼_}
 use Rattle.kinds.proofs.Ordered.{Before}
 use Rattle.kinds.proofs.Codes.{Small}

@@ -41,11 +41,13 @@ use Rattle.automaton.proofs.Onward.{onward}
 use Rattle.automaton.proofs.Invariant.{Open, Seen, Known, Due, is-told, is-waiting, is-refuted, Invariant, unread}
 
 module _ (S : Setting) where
-  pub on-goes {κ} : {C : Type κ} {js js′ : List Item} → Goes S js js′ → (j′ : Item) → j′ ∈ js′ → ((j : Item) → j ∈ js → j′ .at ≡ j .at → Alike (j .state) (j′ .state) → Reachable S (j′ .state) → C) → C
+  pub on-goes {κ} : {C : Type κ} {js js′ : List Item} → Goes S js js′ → (j′ : Item) → j′ ∈ js′
+      → ((j : Item) → j ∈ js → j′ .at ≡ j .at → Alike (j .state) (j′ .state) → Reachable S (j′ .state) → C) → C
   on-goes (one-goes {j} {j′} a b r n) i (here e) k = k j (here refl) (rw e a) (rw e b) (rw e r)
   on-goes (one-goes a b r n) i (there m) k = on-goes n i m (λ j l. k j (there l))
 
-  pub goes-in {κ} : {C : Type κ} {js js′ : List Item} → Goes S js js′ → (j : Item) → j ∈ js → ((j′ : Item) → j′ ∈ js′ → j′ .at ≡ j .at → Alike (j .state) (j′ .state) → C) → C
+  pub goes-in {κ} : {C : Type κ} {js js′ : List Item} → Goes S js js′ → (j : Item) → j ∈ js
+      → ((j′ : Item) → j′ ∈ js′ → j′ .at ≡ j .at → Alike (j .state) (j′ .state) → C) → C
   goes-in (one-goes {j} {j′} a b r n) i (here e) k = k j′ (here refl) (rw e a) (rw e b)
   goes-in (one-goes a b r n) i (there m) k = goes-in n i m (λ j l. k j (there l))
 
@@ -72,7 +74,8 @@ module _ (C : Scored) where
       only : (it : Item) → it ∈ (record { state = initial K; at = [] } ∷ []) → Reachable S (initial K) → Reachable S (it .state)
       only it (here e) r = rw e r
 
-      at-root : (it : Item) → it ∈ (record { state = initial K; at = [] } ∷ []) → (o : Pos) → Owes (it .state) o → (u : Term) × (sub (C .score) (it .at ++ o) ≡ some u)
+      at-root : (it : Item) → it ∈ (record { state = initial K; at = [] } ∷ []) → (o : Pos) → Owes (it .state) o → (u : Term)
+          × (sub (C .score) (it .at ++ o) ≡ some u)
       at-root it (here e) = rw e (λ o m. (C .score, rw (initial-owes S o m)))
 
       fresh-known : (it : Item) → it ∈ (record { state = initial K; at = [] } ∷ []) → (g : Goal Pos) → g ∈ it .state → Known C [] (it .at) g
@@ -99,7 +102,8 @@ module _ (C : Scored) where
     abbrev told′ : List Announcement
     told′ = told ++ announces S it f (count ts)
 
-    module _ (inv : Invariant C items R told) (node-is : sub (C .score) (looks S it) ≡ some (node f ts)) (goes : Goes S (follows S it f (count ts)) js) where
+    module _ (inv : Invariant C items R told) (node-is : sub (C .score) (looks S it) ≡ some (node f ts))
+        (goes : Goes S (follows S it f (count ts)) js) where
       it-in : it ∈ items
       it-in = ∈-right before (here refl)
 
@@ -114,7 +118,9 @@ module _ (C : Scored) where
 
       -- an item of those after the step was there before, or goes on
       items-after : {X : Type 0} (j : Item) → j ∈ items′ → (j ∈ items → X) → (j ∈ js → X) → X
-      items-after j m there-before goes-on = ⊎-elim (λ l. there-before (∈-left (it ∷ after) l)) (λ l. ⊎-elim (λ k. there-before (∈-right before (there k))) goes-on (∈-append after l)) (∈-append before m)
+      items-after j m there-before goes-on =
+          ⊎-elim (λ l. there-before (∈-left (it ∷ after) l)) (λ l. ⊎-elim (λ k. there-before (∈-right before (there k))) goes-on (∈-append after l))
+          (∈-append before m)
 
       -- and one that was there before is there after it, or is the one taken
       items-before : {X : Type 0} (j : Item) → j ∈ items → (j ∈ items′ → X) → (j ≡ it → X) → X
@@ -128,7 +134,8 @@ module _ (C : Scored) where
       on-follows j m c = on-map (goesOn S it) (classes K D) m c
 
       -- the items that follow owe inside the score
-      follows-inside : (j : Item) → j ∈ follows S it f (count ts) → (o : Pos) → Owes (j .state) o → (u : Term) × (sub (C .score) (j .at ++ o) ≡ some u)
+      follows-inside : (j : Item) → j ∈ follows S it f (count ts) → (o : Pos) → Owes (j .state) o → (u : Term)
+          × (sub (C .score) (j .at ++ o) ≡ some u)
       follows-inside j m = on-follows j m λ k i e. rw e (λ o m. go k i o m)
         where
           from-it : (x : Pos) → From S (it .state) (count ts) x → (u : Term) × (sub (C .score) (it .at ++ x) ≡ some u)
@@ -160,11 +167,13 @@ module _ (C : Scored) where
 
       -- ---- W3
       -- a goal of the item that is taken
-      taken-due : (i : ℕ) (x : Term) → getElem? (S .shapes) i ≡ some x → (q : Pos) (g : Goal Pos) → g ∈ it .state → g .shape ≡ i → it .at ++ g .ann ≡ q
+      taken-due : (i : ℕ) (x : Term) → getElem? (S .shapes) i ≡ some x → (q : Pos) (g : Goal Pos) → g ∈ it .state → g .shape ≡ i
+          → it .at ++ g .ann ≡ q
           → Due (C .score) items′ R′ told′ i x q
       taken-due i x gx q g m es eq = onward C it sound f ts node-is sound-d g m x (rw es gx)
           (λ l. is-told (∈-right told (rw (← es, ← eq) l)))
-          (λ j h l n e d. goes-in S goes j l λ j′ l′ at al. let p = al .to h n in is-waiting j′ (p .goal) (∈-right before (∈-right after l′)) (p .inside) (p .shape ∙ e ∙ es) (rw (at, p .ann) (d ∙ eq)))
+          (λ j h l n e d. goes-in S goes j l λ j′ l′ at al. let p = al .to h n in
+          is-waiting j′ (p .goal) (∈-right before (∈-right after l′)) (p .inside) (p .shape ∙ e ∙ es) (rw (at, p .ann) (d ∙ eq)))
           (λ r k e d n. let z : q ++ r ≡ looks S it = rw (← eq) d in is-refuted r k e (rw z read-this) (rw z n))
 
       due-after : (q : Pos) → q ∈ R′ → (i : ℕ) (x : Term) → getElem? (S .shapes) i ≡ some x
@@ -174,7 +183,8 @@ module _ (C : Scored) where
           was-due : Due (C .score) items R told i x q → Due (C .score) items′ R′ told′ i x q
           was-due (is-told l) = is-told (∈-left _ l)
           was-due (is-refuted r k e l n) = is-refuted r k e (read-more (q ++ r) l) n
-          was-due (is-waiting j g l k es eq) = items-before j l (λ c. is-waiting j g c k es eq) (λ e. taken-due i x gx q g (rw e at k) es (rw e at eq))
+          was-due (is-waiting j g l k es eq) =
+              items-before j l (λ c. is-waiting j g c k es eq) (λ e. taken-due i x gx q g (rw e at k) es (rw e at eq))
 
           -- a position that is read now has the fresh goal of each shape
           is-new : q ∈ (looks S it ∷ []) → Due (C .score) items′ R′ told′ i x q
@@ -190,11 +200,13 @@ module _ (C : Scored) where
           empty : (os : List Pos) → isNil os ≡ true → {o : Pos} → o ∈ os → ⊥
           empty (o ∷ os) e m = false≢true e
 
-          go : (g : Goal Pos) → g ∈ it .state → K .expects f L g ≡ true → isNil ((reduced K L (count ts) g) .obs) ≡ true → a ≡ record { shape = g .shape; at = it .at ++ g .ann }
+          go : (g : Goal Pos) → g ∈ it .state → K .expects f L g ≡ true → isNil ((reduced K L (count ts) g) .obs) ≡ true
+              → a ≡ record { shape = g .shape; at = it .at ++ g .ann }
               → Seen (C .score) R′ (a .at ++ r) k
           go g i ex z d =
               let gx′ : getElem? (S .shapes) (g .shape) ≡ some x = rw d at gx in
-              rw d (⊎-elim (λ (o : Open (reduced K L (count ts) g) (g .ann ++ r)). absurd (empty ((reduced K L (count ts) g) .obs) z (o .in-obs))) (λ y. y)
+              rw d (⊎-elim (λ (o : Open (reduced K L (count ts) g) (g .ann ++ r)). absurd (empty ((reduced K L (count ts) g) .obs) z (o .in-obs)))
+              (λ y. y)
               (known-cut C R′ (it .at) L f ts node-is read-this g (sound .goals .low g i) ex (it-known g i) x gx′ r k e))
 
       new-shape : (a : Announcement) → a ∈ announces S it f (count ts) → (x : Term) × (getElem? (S .shapes) (a .shape) ≡ some x)
@@ -211,24 +223,33 @@ module _ (C : Scored) where
               let r = sound .goals .real g i L j in
               let gx : getElem? (S .shapes) (a .shape) ≡ some (r .shape) = rw d (r .is-shape) in
               let place : a .at ++ strip (g .ann) L ≡ looks S it = rw (d, append-assoc, strip-join (g .ann) L (sound .goals .low g i L j)) in
-              unread inv it it-in L (label-owes S (it .state) sound) (rw place at ((inv .seen a b (r .shape) gx (strip (g .ann) L) (r .head) (rw (r .is))) .read))
+              unread inv it it-in L (label-owes S (it .state) sound)
+              (rw place at ((inv .seen a b (r .shape) gx (strip (g .ann) L) (r .head) (rw (r .is))) .read))
 
       pub step-invariant : Invariant C items′ R′ told′
       step-invariant = record {
         reach = λ j m. items-after j m (λ l. inv .reach j l) (λ l. on-goes S goes j l λ i n at al re. re);
-        inside = λ j m. items-after j m (λ l. inv .inside j l) (λ l. on-goes S goes j l λ i n at al re. λ o b. rw at (follows-inside i n o (alike-back (i .state) (j .state) al o b)));
+        inside = λ j m. items-after j m (λ l. inv .inside j l)
+            (λ l. on-goes S goes j l λ i n at al re. λ o b. rw at (follows-inside i n o (alike-back (i .state) (j .state) al o b)));
         read-inside = λ q m. ⊎-elim (λ l. inv .read-inside q l) (λ l. this-inside q l) (∈-append R m);
         once = λ q u e.
             let ih = rw (sum-append (λ j. one (sees j q)) before (it ∷ after)) at (inv .once q u e) in
             let n = goes-see S q goes in
             let s = follows-see C it sound f ts node-is q u e in
-            rw (sum-append (λ j. one (sees j q)) before (after ++ js), sum-append (λ j. one (sees j q)) after js, sum-append (λ p. one (same p q)) R (looks S it ∷ [])) (omega arith);
+            rw (
+              sum-append (λ j. one (sees j q)) before (after ++ js),
+              sum-append (λ j. one (sees j q)) after js,
+              sum-append (λ p. one (same p q)) R
+                  (looks S it ∷ []),
+            ) (omega arith);
         known = λ j m. items-after j m (λ l g i. known-more C R (looks S it ∷ []) (j .at) g (inv .known j l g i))
             (λ l. on-goes S goes j l λ i n at al re. λ g k. rw at (known-alike C R′ (i .at) (i .state) g (al .fro g k) (follows-known i n)));
         due = due-after;
         shape = λ a m. ⊎-elim (λ l. inv .shape a l) (new-shape a) (∈-append told m);
-        seen = λ a m x gx r k e. ⊎-elim (λ l. let z = inv .seen a l x gx r k e in record { is = z .is; read = read-more (a .at ++ r) (z .read) }) (λ l. new-seen a l x gx r k e) (∈-append told m);
-        differ = pairwise-append (λ a b. a ≡ b → ⊥) told (announces S it f (count ts)) (inv .differ) (announces-differ S it sound f (count ts)) (λ a b i j e. new-only b j (rw e at i));
+        seen = λ a m x gx r k e. ⊎-elim (λ l. let z = inv .seen a l x gx r k e in record { is = z .is; read = read-more (a .at ++ r) (z .read) })
+            (λ l. new-seen a l x gx r k e) (∈-append told m);
+        differ = pairwise-append (λ a b. a ≡ b → ⊥) told (announces S it f (count ts)) (inv .differ) (announces-differ S it sound f (count ts))
+            (λ a b i j e. new-only b j (rw e at i));
       }
         where
           this-inside : (q : Pos) → q ∈ (looks S it ∷ []) → (u : Term) × (sub (C .score) q ≡ some u)
@@ -236,4 +257,5 @@ module _ (C : Scored) where
 
   pub walked-invariant : {items : List Item} {R : List Pos} {told : List Announcement} → Walked C items R told → Invariant C items R told
   walked-invariant begin = begin-invariant
-  walked-invariant (step before after R told it f ts js w node-is goes) = step-invariant before after R told it f ts js (walked-invariant w) node-is goes
+  walked-invariant (step before after R told it f ts js w node-is goes) =
+      step-invariant before after R told it f ts js (walked-invariant w) node-is goes

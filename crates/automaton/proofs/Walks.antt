@@ -15,8 +15,7 @@ use Prim.Native.Nat.{ℕ, _+_, _≤_}
 use lib.ListN.{length, getElem?}
 use Rattle.kinds.specs.Positions.{Pos}
 use Rattle.kinds.proofs.Members.{∈-right, Distinct}
-use Rattle.kinds.specs.Members.{_∈_, here, _⊆_}
-use Rattle.kinds.proofs.Pairwise.{Pairwise}
+use Rattle.kinds.specs.Members.{_∈_, here, _⊆_, Pairwise}
 use Rattle.term.specs.Terms.{Term, Terms, count, span}
 use Rattle.term.specs.Places.{headAt, Matches}
 use Rattle.automaton.specs.Goals.{Announcement}
@@ -45,15 +44,21 @@ module _ (C : Scored) {items : List Item} {read : List Pos} {told : List Announc
 
 module _ (C : Scored) where
   pub can-step : (before after : List Item) (read : List Pos) (told : List Announcement) (it : Item) → Walked C (before ++ (it ∷ after)) read told
-      → (f : ℕ) × (ts : Terms) × Walked C (before ++ (after ++ follows (C .setting) it f (count ts))) (read ++ (looks (C .setting) it ∷ [])) (told ++ announces (C .setting) it f (count ts))
+      → (f : ℕ) × (ts : Terms) × Walked C (before ++ (after ++ follows (C .setting) it f (count ts))) (read ++ (looks (C .setting) it ∷ []))
+      (told ++ announces (C .setting) it f (count ts))
   can-step before after read told it w =
       let inv = walked-invariant C w in
-      let n = counts.can-look C inv it (∈-right before (here refl)) in
-      (n .0, n .1, step before after read told it (n .0) (n .1) (follows (C .setting) it (n .0) (count (n .1))) w (n .2) (counts.goes-self C it (inv .reach it (∈-right before (here refl))) (n .0) (n .1) (n .2)))
+      let n = counts.can-look C inv it (∈-right before (here refl)) in (
+        n .0,
+        n .1,
+        step before after read told it (n .0) (n .1) (follows (C .setting) it (n .0) (count (n .1))) w (n .2)
+            (counts.goes-self C it (inv .reach it (∈-right before (here refl))) (n .0) (n .1) (n .2)),
+      )
 
   pub announced-at-end : {read : List Pos} {told : List Announcement} → Walked C [] read told → (i : ℕ) (x : Term)
       → getElem? (C .setting .shapes) i ≡ some x → (q : Pos) → (announced i q ∈ told) ↔ Matches x (C .score) q
   announced-at-end w = told-matches C (walked-invariant C w)
 
-  pub ends-alike : {read₁ read₂ : List Pos} {told₁ told₂ : List Announcement} → Walked C [] read₁ told₁ → Walked C [] read₂ told₂ → (told₁ ⊆ told₂) × (told₂ ⊆ told₁)
+  pub ends-alike : {read₁ read₂ : List Pos} {told₁ told₂ : List Announcement} → Walked C [] read₁ told₁ → Walked C [] read₂ told₂ → (told₁ ⊆ told₂)
+      × (told₂ ⊆ told₁)
   ends-alike v w = (same-told C (walked-invariant C v) (walked-invariant C w), same-told C (walked-invariant C w) (walked-invariant C v))

@@ -1,4 +1,4 @@
--- Obligations as positions alone, as words hold them: what is owed at a position is the shape's subterm there. Both kinds give the same plan.
+-- Inside: obligations as positions alone, as words hold them: what is owed at a position is the shape's subterm there. Both kinds give the same plan.
 --   owed       what a goal owes at a position
 --   fresh      ℓ@p → ℓ@p, ℓ by its number
 --   args       the positions p.i of the arguments that are no blank

@@ -53,7 +53,8 @@ all-mismatched : deriv K (initial K) 1 1 ≡ goal turned (1 ∷ []) (1 ∷ []) �
 all-mismatched = refl
 
 -- Example 4.3: two classes, in the order of their first obligation positions, 1.1 and 2
-example-4-3 : classes K (deriv K s₁ 1 1) ≡ (goal turned (1 ∷ 1 ∷ []) (1 ∷ 1 ∷ []) ∷ []) ∷ (goal turned (2 ∷ []) (2 ∷ []) ∷ goal (f g ω) (2 ∷ []) [] ∷ []) ∷ []
+example-4-3 : classes K (deriv K s₁ 1 1) ≡ (goal turned (1 ∷ 1 ∷ []) (1 ∷ 1 ∷ []) ∷ []) ∷
+    (goal turned (2 ∷ []) (2 ∷ []) ∷ goal (f g ω) (2 ∷ []) [] ∷ []) ∷ []
 example-4-3 = refl
 
 abbrev s₂ : State Ob

@@ -10,8 +10,7 @@ use mathlib.Core.Option.{some}
 use Prim.Native.Nat.{ℕ}
 use lib.ListN.{getElem?}
 use Rattle.kinds.specs.Positions.{Pos, before}
-use Rattle.kinds.specs.Members.{_∈_, _⊆_}
-use Rattle.kinds.proofs.Pairwise.{Pairwise}
+use Rattle.kinds.specs.Members.{_∈_, _⊆_, Pairwise}
 use Rattle.automaton.specs.Goals.{Goal, State, Calculus, first, allObs}
 use Rattle.automaton.specs.Classes.{cell, closed, Dependent, classes}
 

@@ -110,7 +110,8 @@ module _ (S : Setting) where
 
   pub data Goes : List Item → List Item → Type 0 where
     none-go : Goes [] []
-    one-goes : {j j′ : Item} {js js′ : List Item} → j′ .at ≡ j .at → Alike (j .state) (j′ .state) → Reachable S (j′ .state) → Goes js js′ → Goes (j ∷ js) (j′ ∷ js′)
+    one-goes : {j j′ : Item} {js js′ : List Item} → j′ .at ≡ j .at → Alike (j .state) (j′ .state) → Reachable S (j′ .state) → Goes js js′
+        → Goes (j ∷ js) (j′ ∷ js′)
 
 pub data Walked (C : Scored) : List Item → List Pos → List Announcement → Type 0 where
   begin : Walked C (record { state = initial (calculus (C .setting)); at = [] } ∷ []) [] []

@@ -12,8 +12,7 @@ use native.Mathlib.Omega.{arith}
 use lib.Dec.{eqb, ltb}
 use Rattle.kinds.specs.Positions.{Pos, before}
 use Rattle.kinds.proofs.Bools.{and-l, and-r, both, or-l, or-r, or-case, not-true, eqb-is, is-eqb, ltb-is, is-ltb, ltb-irrefl, Order, less, equal, more, order}
-use Rattle.kinds.specs.Members.{_∈_, here, there, _⊆_}
-use Rattle.kinds.proofs.Pairwise.{Pairwise}
+use Rattle.kinds.specs.Members.{_∈_, here, there, _⊆_, Pairwise}
 use Rattle.kinds.proofs.Prefixes.{_≼_, ≼-cons}
 
 abbrev pub Before : Pos → Pos → Type 0

@@ -1,5 +1,4 @@
 -- Lists whose elements are related pairwise: an earlier one to each later one.
---   Pairwise
 --   pairwise-append pairwise-filter pairwise-map pairwise-gather pairwise-range   how lists are made
 --   pairwise-two pairwise-perm    where the relation is symmetric
 --   pairwise-distinct             where nothing is related to itself
@@ -12,40 +11,36 @@ use Prim.Native.Nat.{ℕ, zero, suc, _<_}
 use native.Mathlib.Omega.{arith}
 use Rattle.kinds.specs.Lists.{filter, gather, range, insert, sort}
 use Rattle.kinds.proofs.Members.{∈-append, in-filter, on-map, on-gather, in-range, Distinct, Perm, done, keep, swap, then, perm-in, perm-sym, insert-perm}
-use Rattle.kinds.specs.Members.{_∈_, here, there}
+use Rattle.kinds.specs.Members.{_∈_, here, there, Pairwise}
 
 module _ {A : Type 0} (R : A → A → Type 0) where
-  abbrev pub Pairwise : List A → Type 0
-  Pairwise [] = Unit {0}
-  Pairwise (x ∷ xs) = ((y : A) → y ∈ xs → R x y) × Pairwise xs
-
-  pub pairwise-append : (xs ys : List A) → Pairwise xs → Pairwise ys → ((x y : A) → x ∈ xs → y ∈ ys → R x y) → Pairwise (xs ++ ys)
+  pub pairwise-append : (xs ys : List A) → Pairwise R xs → Pairwise R ys → ((x y : A) → x ∈ xs → y ∈ ys → R x y) → Pairwise R (xs ++ ys)
   pairwise-append [] ys a b h = b
   pairwise-append (x ∷ xs) ys a b h =
       (λ y m. ⊎-elim (λ i. a .0 y i) (λ i. h x y (here refl) i) (∈-append xs m), pairwise-append xs ys (a .1) b (λ u v i j. h u v (there i) j))
 
-  pub pairwise-filter : (p : A → Bool) (xs : List A) → Pairwise xs → Pairwise (filter p xs)
+  pub pairwise-filter : (p : A → Bool) (xs : List A) → Pairwise R xs → Pairwise R (filter p xs)
   pairwise-filter p [] a = a
   pairwise-filter p (x ∷ xs) a = go (p x) (pairwise-filter p xs (a .1))
     where
-      go : (b : Bool) → Pairwise (filter p xs) → Pairwise (cond b (x ∷ filter p xs) (filter p xs))
+      go : (b : Bool) → Pairwise R (filter p xs) → Pairwise R (cond b (x ∷ filter p xs) (filter p xs))
       go true ih = (λ y m. a .0 y ((in-filter p xs m) .0), ih)
       go false ih = ih
 
   -- where the relation is symmetric: two elements are one, or are related
-  pub pairwise-two : ((x y : A) → R x y → R y x) → (xs : List A) → Pairwise xs → (x y : A) → x ∈ xs → y ∈ xs → (x ≡ y) ⊎ R x y
+  pub pairwise-two : ((x y : A) → R x y → R y x) → (xs : List A) → Pairwise R xs → (x y : A) → x ∈ xs → y ∈ xs → (x ≡ y) ⊎ R x y
   pairwise-two sy (z ∷ xs) a x y (here e) (here d) = inl (e ∙ sym d)
   pairwise-two sy (z ∷ xs) a x y (here e) (there j) = inr (rw e (a .0 y j))
   pairwise-two sy (z ∷ xs) a x y (there i) (here d) = inr (rw d (sy z x (a .0 x i)))
   pairwise-two sy (z ∷ xs) a x y (there i) (there j) = pairwise-two sy xs (a .1) x y i j
 
   -- where nothing is related to itself: no element twice
-  pub pairwise-distinct : ((x : A) → R x x → ⊥) → (xs : List A) → Pairwise xs → Distinct xs
+  pub pairwise-distinct : ((x : A) → R x x → ⊥) → (xs : List A) → Pairwise R xs → Distinct xs
   pairwise-distinct ir [] a = tt
   pairwise-distinct ir (x ∷ xs) a = (λ m. ir x (a .0 x m), pairwise-distinct ir xs (a .1))
 
   -- where the relation is symmetric, the order does not matter
-  pub pairwise-perm : ((x y : A) → R x y → R y x) → {xs ys : List A} → Perm xs ys → Pairwise xs → Pairwise ys
+  pub pairwise-perm : ((x y : A) → R x y → R y x) → {xs ys : List A} → Perm xs ys → Pairwise R xs → Pairwise R ys
   pairwise-perm sy done a = tt
   pairwise-perm sy (keep x p) a = (λ y m. a .0 y (perm-in (perm-sym p) y m), pairwise-perm sy p (a .1))
   pairwise-perm sy (swap x y xs) a = (first, (λ z m. a .0 z (there m), a .1 .1))

@@ -38,17 +38,20 @@ module _ {S : Type 0} (C : Construction S) (ar : List ℕ) (n : ℕ) where
   pub plan-fits : (room m : ℕ) (w : List ℕ) → planned C ar n room ≡ plan-of m w → length w ≤ room
   plan-fits room m w e = go (explored C ar) e
     where
-      fits : (ss : List S) (bs : List Block) (b : Bool) → (ltb room (length (planWords C (length ar) n ss bs)) || ltb 65535 (length (planWords C (length ar) n ss bs))) ≡ b
+      fits : (ss : List S) (bs : List Block) (b : Bool)
+          → (ltb room (length (planWords C (length ar) n ss bs)) || ltb 65535 (length (planWords C (length ar) n ss bs))) ≡ b
           → cond b too-long (plan-of (length ss) (planWords C (length ar) n ss bs)) ≡ plan-of m w → length w ≤ room
       fits ss bs true eb d = let z : _≡_ {A = ℕ} 0 1 = cc in absurd (omega arith)
       fits ss bs false eb d =
           let z : planWords C (length ar) n ss bs ≡ w = cc in
-          let h = ltb-not room (length (planWords C (length ar) n ss bs)) (or-first (ltb room (length (planWords C (length ar) n ss bs))) (ltb 65535 (length (planWords C (length ar) n ss bs))) eb) in
+          let h = ltb-not room (length (planWords C (length ar) n ss bs))
+          (or-first (ltb room (length (planWords C (length ar) n ss bs))) (ltb 65535 (length (planWords C (length ar) n ss bs))) eb) in
           omega (arith, h, ap length z)
 
       go : (x : Made S) → toPlan C room (length ar) n x ≡ plan-of m w → length w ≤ room
       go (refused r p) d = let z : _≡_ {A = ℕ} 0 1 = cc in absurd (omega arith)
-      go (made ss bs) d = fits ss bs (ltb room (length (planWords C (length ar) n ss bs)) || ltb 65535 (length (planWords C (length ar) n ss bs))) refl d
+      go (made ss bs) d = fits ss bs (ltb room (length (planWords C (length ar) n ss bs)) || ltb 65535 (length (planWords C (length ar) n ss bs)))
+          refl d
 
   pub same-planned : (room room′ m m′ : ℕ) (w w′ : List ℕ) → planned C ar n room ≡ plan-of m w → planned C ar n room′ ≡ plan-of m′ w′ → m ≡ m′
   same-planned room room′ m m′ w w′ e e′ = on-planned C ar n room m w e λ ss bs ex em ew.
@@ -67,7 +70,8 @@ module _ (ar ws st plan scratch : List ℕ) (s : Size) where
   not-plan {κ} : {Z : Type κ} {r : Reason} → building.Refused r ≡ building.Plan s → Z
   not-plan e = let z : _≡_ {A = ℕ} 0 1 = cc in absurd (omega arith)
 
-  on : (p : Plan) → planOf ar (shapeTerms ar ws) (length plan) ≡ p → buildOf ar ws st plan scratch ≡ written p plan scratch → written p plan scratch .answer ≡ building.Plan s → BuiltAs
+  on : (p : Plan) → planOf ar (shapeTerms ar ws) (length plan) ≡ p → buildOf ar ws st plan scratch ≡ written p plan scratch
+      → written p plan scratch .answer ≡ building.Plan s → BuiltAs
   on (halted r i) ep eb e = let z : _≡_ {A = ℕ} 0 1 = cc in absurd (omega arith)
   on too-long ep eb e = not-plan e
   on (plan-of m w) ep eb e =
@@ -97,12 +101,15 @@ module _ (ar ws st plan scratch : List ℕ) (s : Size) where
 
 -- ---- starting
 module _ (ar score spans : List ℕ) (w : Walk) (r : Record) where
-  pub started-as : started ar score spans w .answer ≡ walking.On r → (roomFor (length score) w ≡ true) × (started ar score spans w .walk ≡ begun (length score) w)
+  pub started-as : started ar score spans w .answer ≡ walking.On r → (roomFor (length score) w ≡ true)
+      × (started ar score spans w .walk ≡ begun (length score) w)
   unfolding started
   started-as e = go (scoreGood ar score spans) (roomFor (length score) w) e
     where
       tell : Bool → Bool → WalkOutcome
-      tell a b = unless a (record { answer = walking.Refused BadScore; walk = w }) (unless b (record { answer = walking.Refused ShortBuffers; walk = w }) (record { answer = walking.On (begun (length score) w .count); walk = begun (length score) w }))
+      tell a b = unless a (record { answer = walking.Refused BadScore; walk = w })
+          (unless b (record { answer = walking.Refused ShortBuffers; walk = w })
+          (record { answer = walking.On (begun (length score) w .count); walk = begun (length score) w }))
 
       go : (a b : Bool) → tell a b .answer ≡ walking.On r → (b ≡ true) × (tell a b .walk ≡ begun (length score) w)
       go false b d = let z : _≡_ {A = ℕ} 0 1 = cc in absurd (omega arith)

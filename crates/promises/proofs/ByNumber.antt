@@ -10,5 +10,6 @@ pub record RefusedAs {A : Type 0} (refused : Reason → ℕ → A) (computed : A
   pub number : numberOf reason ≡ n
   pub is : computed ≡ refused reason p
 
-pub by-reason : {A : Type 0} (refused : Reason → ℕ → A) {computed : A} {p : ℕ} (r : Reason) → computed ≡ refused r p → RefusedAs refused computed (numberOf r) p
+pub by-reason : {A : Type 0} (refused : Reason → ℕ → A) {computed : A} {p : ℕ} (r : Reason) → computed ≡ refused r p
+    → RefusedAs refused computed (numberOf r) p
 by-reason refused r e = record { reason = r; number = refl; is = e }

@@ -41,56 +41,93 @@ use Rattle.promises.specs.Demand1.{OpenRow, openTold, BuildRow, buildTol
 use Rattle.promises.proofs.Demand1.{demand-1}
 
 pub open-call : (κs : _) (a : _) (r : _) (e : _) → open-folio.Learnt κs a r e → Below 256 (now (a .0))
-    → OpenRow (now (a .0)) (lent (now (a .1 .0)) (now (a .1 .1 .0)) (now (a .1 .1 .1 .0)) (now (a .1 .1 .1 .1 .0))) (told (openedSays r) (lent (now (e .1 .0)) (now (e .1 .1 .0)) (now (e .1 .1 .1 .0)) (now (e .1 .1 .1 .1 .0))))
-open-call κs a r e h small = subst (OpenRow (now (a .0)) (lent (now (a .1 .0)) (now (a .1 .1 .0)) (now (a .1 .1 .1 .0)) (now (a .1 .1 .1 .1 .0)))) (ap openTold (sym h)) (demand-1 .opening _ _ small .0)
+    → OpenRow (now (a .0)) (lent (now (a .1 .0)) (now (a .1 .1 .0)) (now (a .1 .1 .1 .0)) (now (a .1 .1 .1 .1 .0)))
+    (told (openedSays r) (lent (now (e .1 .0)) (now (e .1 .1 .0)) (now (e .1 .1 .1 .0)) (now (e .1 .1 .1 .1 .0))))
+open-call κs a r e h small = subst (OpenRow (now (a .0)) (lent (now (a .1 .0)) (now (a .1 .1 .0)) (now (a .1 .1 .1 .0)) (now (a .1 .1 .1 .1 .0))))
+    (ap openTold (sym h)) (demand-1 .opening _ _ small .0)
 
 pub build-call : (κs : _) (a : _) (r : _) (e : _) → build.Learnt κs a r e
-    → BuildRow (now (a .0)) (now (a .1 .0)) (now (a .1 .1 .0)) (now (a .1 .1 .1 .0)) (now (a .1 .1 .1 .1 .0)) (told (builtSays r) (now (e .1 .1 .1 .0), now (e .1 .1 .1 .1 .0)))
-build-call κs a r e h = subst (BuildRow (now (a .0)) (now (a .1 .0)) (now (a .1 .1 .0)) (now (a .1 .1 .1 .0)) (now (a .1 .1 .1 .1 .0))) (ap buildTold (sym h)) (demand-1 .building _ _ _ _ _ .0)
+    → BuildRow (now (a .0)) (now (a .1 .0)) (now (a .1 .1 .0)) (now (a .1 .1 .1 .0)) (now (a .1 .1 .1 .1 .0))
+    (told (builtSays r) (now (e .1 .1 .1 .0), now (e .1 .1 .1 .1 .0)))
+build-call κs a r e h = subst (BuildRow (now (a .0)) (now (a .1 .0)) (now (a .1 .1 .0)) (now (a .1 .1 .1 .0)) (now (a .1 .1 .1 .1 .0)))
+    (ap buildTold (sym h)) (demand-1 .building _ _ _ _ _ .0)
 
 pub start-call : (κs : _) (a : _) (r : _) (e : _) → start.Learnt κs a r e → Below 65536 (now (a .1 .0))
-    → StartRow (now (a .0)) (now (a .1 .0)) (now (a .1 .1 .0)) (walkOf (now (a .1 .1 .1 .0)) (now (a .1 .1 .1 .1 .0)) (now (a .1 .1 .1 .1 .1 .0)) (counting 0 0)) (told (walkedSays r) (walkOf (now (e .1 .1 .1 .0)) (now (e .1 .1 .1 .1 .0)) (now (e .1 .1 .1 .1 .1 .0)) (recordAfter r (counting 0 0))))
-start-call κs a r e h small = subst (StartRow (now (a .0)) (now (a .1 .0)) (now (a .1 .1 .0)) (walkOf (now (a .1 .1 .1 .0)) (now (a .1 .1 .1 .1 .0)) (now (a .1 .1 .1 .1 .1 .0)) (counting 0 0))) (ap walkTold (sym h)) (demand-1 .starting _ _ _ _ small .0)
+    → StartRow (now (a .0)) (now (a .1 .0)) (now (a .1 .1 .0))
+    (walkOf (now (a .1 .1 .1 .0)) (now (a .1 .1 .1 .1 .0)) (now (a .1 .1 .1 .1 .1 .0)) (counting 0 0))
+    (told (walkedSays r) (walkOf (now (e .1 .1 .1 .0)) (now (e .1 .1 .1 .1 .0)) (now (e .1 .1 .1 .1 .1 .0)) (recordAfter r (counting 0 0))))
+start-call κs a r e h small = subst (StartRow (now (a .0)) (now (a .1 .0)) (now (a .1 .1 .0))
+    (walkOf (now (a .1 .1 .1 .0)) (now (a .1 .1 .1 .1 .0)) (now (a .1 .1 .1 .1 .1 .0)) (counting 0 0))) (ap walkTold (sym h))
+    (demand-1 .starting _ _ _ _ small .0)
 
 pub step-call : (κs : _) (a : _) (r : _) (e : _) → step.Learnt κs a r e
-    → StepRow (now (a .0)) (now (a .1 .0)) (now (a .1 .1 .0)) (a .1 .1 .1 .1 .1 .1 .1 .0) (walkOf (now (a .1 .1 .1 .0)) (now (a .1 .1 .1 .1 .0)) (now (a .1 .1 .1 .1 .1 .0)) (a .1 .1 .1 .1 .1 .1 .0)) (told (walkedSays r) (walkOf (now (e .1 .1 .1 .0)) (now (e .1 .1 .1 .1 .0)) (now (e .1 .1 .1 .1 .1 .0)) (recordAfter r (a .1 .1 .1 .1 .1 .1 .0))))
-step-call κs a r e h = subst (StepRow (now (a .0)) (now (a .1 .0)) (now (a .1 .1 .0)) (a .1 .1 .1 .1 .1 .1 .1 .0) (walkOf (now (a .1 .1 .1 .0)) (now (a .1 .1 .1 .1 .0)) (now (a .1 .1 .1 .1 .1 .0)) (a .1 .1 .1 .1 .1 .1 .0))) (ap walkTold (sym h)) (demand-1 .stepping _ _ _ _ _ .0)
+    → StepRow (now (a .0)) (now (a .1 .0)) (now (a .1 .1 .0)) (a .1 .1 .1 .1 .1 .1 .1 .0)
+    (walkOf (now (a .1 .1 .1 .0)) (now (a .1 .1 .1 .1 .0)) (now (a .1 .1 .1 .1 .1 .0)) (a .1 .1 .1 .1 .1 .1 .0))
+    (told (walkedSays r) (walkOf (now (e .1 .1 .1 .0)) (now (e .1 .1 .1 .1 .0)) (now (e .1 .1 .1 .1 .1 .0)) (recordAfter r (a .1 .1 .1 .1 .1 .1 .0))))
+step-call κs a r e h = subst (StepRow (now (a .0)) (now (a .1 .0)) (now (a .1 .1 .0)) (a .1 .1 .1 .1 .1 .1 .1 .0)
+    (walkOf (now (a .1 .1 .1 .0)) (now (a .1 .1 .1 .1 .0)) (now (a .1 .1 .1 .1 .1 .0)) (a .1 .1 .1 .1 .1 .1 .0))) (ap walkTold (sym h))
+    (demand-1 .stepping _ _ _ _ _ .0)
 
-pub matches-call : (κs : _) (a : _) (r : _) (e : _) → matches.Learnt κs a r e → Below 65536 (now (a .1 .0)) → CountRow (now (a .0)) (now (a .1 .0)) (now (a .1 .1 .0)) total (now (a .1 .1 .1 .0)) (countedSays r)
-matches-call κs a r e h small = subst (CountRow (now (a .0)) (now (a .1 .0)) (now (a .1 .1 .0)) total (now (a .1 .1 .1 .0))) (ap countedSays (sym h)) (demand-1 .matches _ _ _ _ small .0)
+pub matches-call : (κs : _) (a : _) (r : _) (e : _) → matches.Learnt κs a r e → Below 65536 (now (a .1 .0))
+    → CountRow (now (a .0)) (now (a .1 .0)) (now (a .1 .1 .0)) total (now (a .1 .1 .1 .0)) (countedSays r)
+matches-call κs a r e h small = subst (CountRow (now (a .0)) (now (a .1 .0)) (now (a .1 .1 .0)) total (now (a .1 .1 .1 .0))) (ap countedSays (sym h))
+    (demand-1 .matches _ _ _ _ small .0)
 
-pub clashes-call : (κs : _) (a : _) (r : _) (e : _) → clashes.Learnt κs a r e → Below 65536 (now (a .1 .0)) → CountRow (now (a .0)) (now (a .1 .0)) (now (a .1 .1 .0)) (clashNumber (clash (now (a .1 .1 .0)))) (now (a .1 .1 .1 .0)) (countedSays r)
-clashes-call κs a r e h small = subst (CountRow (now (a .0)) (now (a .1 .0)) (now (a .1 .1 .0)) (clashNumber (clash (now (a .1 .1 .0)))) (now (a .1 .1 .1 .0))) (ap countedSays (sym h)) (demand-1 .clashes _ _ _ _ small .0)
+pub clashes-call : (κs : _) (a : _) (r : _) (e : _) → clashes.Learnt κs a r e → Below 65536 (now (a .1 .0))
+    → CountRow (now (a .0)) (now (a .1 .0)) (now (a .1 .1 .0)) (clashNumber (clash (now (a .1 .1 .0)))) (now (a .1 .1 .1 .0)) (countedSays r)
+clashes-call κs a r e h small =
+    subst (CountRow (now (a .0)) (now (a .1 .0)) (now (a .1 .1 .0)) (clashNumber (clash (now (a .1 .1 .0)))) (now (a .1 .1 .1 .0)))
+    (ap countedSays (sym h)) (demand-1 .clashes _ _ _ _ small .0)
 
-pub subtree-call : (κs : _) (a : _) (r : _) (e : _) → subtree.Learnt κs a r e → Below 65536 (now (a .1 .1 .1 .0)) → FoundRow (Standing (now (a .1 .0)) (now (a .1 .1 .0)) (now (a .1 .1 .1 .0)) (a .0)) flatten (partSays (now r))
-subtree-call κs a r e h small = subst (FoundRow (Standing (now (a .1 .0)) (now (a .1 .1 .0)) (now (a .1 .1 .1 .0)) (a .0)) flatten) (ap partSays (sym h)) (demand-1 .subtree _ _ _ _ small .0)
+pub subtree-call : (κs : _) (a : _) (r : _) (e : _) → subtree.Learnt κs a r e → Below 65536 (now (a .1 .1 .1 .0))
+    → FoundRow (Standing (now (a .1 .0)) (now (a .1 .1 .0)) (now (a .1 .1 .1 .0)) (a .0)) flatten (partSays (now r))
+subtree-call κs a r e h small = subst (FoundRow (Standing (now (a .1 .0)) (now (a .1 .1 .0)) (now (a .1 .1 .1 .0)) (a .0)) flatten)
+    (ap partSays (sym h)) (demand-1 .subtree _ _ _ _ small .0)
 
-pub label-of-call : (κs : _) (a : _) (r : _) (e : _) → label-of.Learnt κs a r e → FoundRow (LabelFound (now (a .0)) (a .1 .0) (a .1 .1 .0) (a .1 .1 .1 .0 .0)) (λ c. c ∷ []) (labelSays r)
-label-of-call κs a r e h = subst (FoundRow (LabelFound (now (a .0)) (a .1 .0) (a .1 .1 .0) (a .1 .1 .1 .0 .0)) (λ c. c ∷ [])) (ap labelSays (sym h)) (demand-1 .label _ _ _ _ .0)
+pub label-of-call : (κs : _) (a : _) (r : _) (e : _) → label-of.Learnt κs a r e
+    → FoundRow (LabelFound (now (a .0)) (a .1 .0) (a .1 .1 .0) (a .1 .1 .1 .0 .0)) (λ c. c ∷ []) (labelSays r)
+label-of-call κs a r e h = subst (FoundRow (LabelFound (now (a .0)) (a .1 .0) (a .1 .1 .0) (a .1 .1 .1 .0 .0)) (λ c. c ∷ [])) (ap labelSays (sym h))
+    (demand-1 .label _ _ _ _ .0)
 
-pub label-at-call : (κs : _) (a : _) (r : _) (e : _) → label-at.Learnt κs a r e → FoundRow (LabelFound (now (a .0)) (a .1 .0) (a .1 .1 .0) (a .1 .1 .1 .0 .0)) (λ c. c ∷ []) (labelSays r)
-label-at-call κs a r e h = subst (FoundRow (LabelFound (now (a .0)) (a .1 .0) (a .1 .1 .0) (a .1 .1 .1 .0 .0)) (λ c. c ∷ [])) (ap labelSays (sym h)) (demand-1 .label _ _ _ _ .0)
+pub label-at-call : (κs : _) (a : _) (r : _) (e : _) → label-at.Learnt κs a r e
+    → FoundRow (LabelFound (now (a .0)) (a .1 .0) (a .1 .1 .0) (a .1 .1 .1 .0 .0)) (λ c. c ∷ []) (labelSays r)
+label-at-call κs a r e h = subst (FoundRow (LabelFound (now (a .0)) (a .1 .0) (a .1 .1 .0) (a .1 .1 .1 .0 .0)) (λ c. c ∷ [])) (ap labelSays (sym h))
+    (demand-1 .label _ _ _ _ .0)
 
-pub lengths-of-call : (κs : _) (a : _) (r : _) (e : _) → lengths-of.Learnt κs a r e → FoundRow (BlockFound (now (a .0)) (a .1 .0) (a .1 .1 .0) (a .1 .1 .1 .0 .0) (a .1 .1 .1 .1 .0 .0)) (λ b. getD (now (a .0)) b 0 ∷ getD (now (a .0)) (middle (now (a .0)) b) 0 ∷ []) (blockSays r)
-lengths-of-call κs a r e h = subst (FoundRow (BlockFound (now (a .0)) (a .1 .0) (a .1 .1 .0) (a .1 .1 .1 .0 .0) (a .1 .1 .1 .1 .0 .0)) (λ b. getD (now (a .0)) b 0 ∷ getD (now (a .0)) (middle (now (a .0)) b) 0 ∷ [])) (ap blockSays (sym h)) (demand-1 .lengths _ _ _ _ _ .0)
+pub lengths-of-call : (κs : _) (a : _) (r : _) (e : _) → lengths-of.Learnt κs a r e
+    → FoundRow (BlockFound (now (a .0)) (a .1 .0) (a .1 .1 .0) (a .1 .1 .1 .0 .0) (a .1 .1 .1 .1 .0 .0))
+    (λ b. getD (now (a .0)) b 0 ∷ getD (now (a .0)) (middle (now (a .0)) b) 0 ∷ []) (blockSays r)
+lengths-of-call κs a r e h = subst (FoundRow (BlockFound (now (a .0)) (a .1 .0) (a .1 .1 .0) (a .1 .1 .1 .0 .0) (a .1 .1 .1 .1 .0 .0))
+    (λ b. getD (now (a .0)) b 0 ∷ getD (now (a .0)) (middle (now (a .0)) b) 0 ∷ [])) (ap blockSays (sym h)) (demand-1 .lengths _ _ _ _ _ .0)
 
-pub announcement-of-call : (κs : _) (a : _) (r : _) (e : _) → announcement-of.Learnt κs a r e → FoundRow (AnnouncementFound (now (a .0)) (a .1 .0) (a .1 .1 .0) (a .1 .1 .1 .0 .0) (a .1 .1 .1 .1 .0 .0) (a .1 .1 .1 .1 .1 .0)) pairValues (announcementSays r)
-announcement-of-call κs a r e h = subst (FoundRow (AnnouncementFound (now (a .0)) (a .1 .0) (a .1 .1 .0) (a .1 .1 .1 .0 .0) (a .1 .1 .1 .1 .0 .0) (a .1 .1 .1 .1 .1 .0)) pairValues) (ap announcementSays (sym h)) (demand-1 .announcement _ _ _ _ _ _ .0)
+pub announcement-of-call : (κs : _) (a : _) (r : _) (e : _) → announcement-of.Learnt κs a r e
+    → FoundRow (AnnouncementFound (now (a .0)) (a .1 .0) (a .1 .1 .0) (a .1 .1 .1 .0 .0) (a .1 .1 .1 .1 .0 .0) (a .1 .1 .1 .1 .1 .0)) pairValues
+    (announcementSays r)
+announcement-of-call κs a r e h =
+    subst (FoundRow (AnnouncementFound (now (a .0)) (a .1 .0) (a .1 .1 .0) (a .1 .1 .1 .0 .0) (a .1 .1 .1 .1 .0 .0) (a .1 .1 .1 .1 .1 .0)) pairValues)
+    (ap announcementSays (sym h)) (demand-1 .announcement _ _ _ _ _ _ .0)
 
-pub successor-of-call : (κs : _) (a : _) (r : _) (e : _) → successor-of.Learnt κs a r e → FoundRow (SuccessorFound (now (a .0)) (a .1 .0) (a .1 .1 .0) (a .1 .1 .1 .0 .0) (a .1 .1 .1 .1 .0 .0) (a .1 .1 .1 .1 .1 .0)) pairValues (successorSays r)
-successor-of-call κs a r e h = subst (FoundRow (SuccessorFound (now (a .0)) (a .1 .0) (a .1 .1 .0) (a .1 .1 .1 .0 .0) (a .1 .1 .1 .1 .0 .0) (a .1 .1 .1 .1 .1 .0)) pairValues) (ap successorSays (sym h)) (demand-1 .successor _ _ _ _ _ _ .0)
+pub successor-of-call : (κs : _) (a : _) (r : _) (e : _) → successor-of.Learnt κs a r e
+    → FoundRow (SuccessorFound (now (a .0)) (a .1 .0) (a .1 .1 .0) (a .1 .1 .1 .0 .0) (a .1 .1 .1 .1 .0 .0) (a .1 .1 .1 .1 .1 .0)) pairValues
+    (successorSays r)
+successor-of-call κs a r e h = subst
+    (FoundRow (SuccessorFound (now (a .0)) (a .1 .0) (a .1 .1 .0) (a .1 .1 .1 .0 .0) (a .1 .1 .1 .1 .0 .0) (a .1 .1 .1 .1 .1 .0)) pairValues)
+    (ap successorSays (sym h)) (demand-1 .successor _ _ _ _ _ _ .0)
 
 pub child-call : (κs : _) (a : _) (r : _) (e : _) → child.Learnt κs a r e → FoundRow (ChildFound (a .0) (a .1 .0)) (λ c. c ∷ []) (childSays r)
 child-call κs a r e h = subst (FoundRow (ChildFound (a .0) (a .1 .0)) (λ c. c ∷ [])) (ap childSays (sym h)) (demand-1 .child-of _ _ .0)
 
-pub follow-call : (κs : _) (a : _) (r : _) (e : _) → follow.Learnt κs a r e → FoundRow (Reaches (now (a .0)) (a .1 .0) (a .1 .1 .0 .0) (a .1 .1 .1 .0 .0)) (λ x. x ∷ []) (reachedSays r)
-follow-call κs a r e h = subst (FoundRow (Reaches (now (a .0)) (a .1 .0) (a .1 .1 .0 .0) (a .1 .1 .1 .0 .0)) (λ x. x ∷ [])) (ap reachedSays (sym h)) (demand-1 .following _ _ _ _ .0)
+pub follow-call : (κs : _) (a : _) (r : _) (e : _) → follow.Learnt κs a r e
+    → FoundRow (Reaches (now (a .0)) (a .1 .0) (a .1 .1 .0 .0) (a .1 .1 .1 .0 .0)) (λ x. x ∷ []) (reachedSays r)
+follow-call κs a r e h = subst (FoundRow (Reaches (now (a .0)) (a .1 .0) (a .1 .1 .0 .0) (a .1 .1 .1 .0 .0)) (λ x. x ∷ [])) (ap reachedSays (sym h))
+    (demand-1 .following _ _ _ _ .0)
 
 -- ---- the lines
 pub put-first-call : (κs : _) (a : _) (r : _) (e : _) → put-first.Learnt κs a r e
     → LineRow (firstLine (a .0) (a .1 .0) (a .1 .1 .0) (a .1 .1 .1 .0)) (now (a .1 .1 .1 .1 .0)) (told (writtenSays r) (now (e .1 .1 .1 .1 .0)))
 put-first-call κs a r e h =
-    subst (LineRow (firstLine (a .0) (a .1 .0) (a .1 .1 .0) (a .1 .1 .1 .0)) (now (a .1 .1 .1 .1 .0))) (ap lineTold (sym h)) (demand-1 .first-line _ _ _ _ _ .0)
+    subst (LineRow (firstLine (a .0) (a .1 .0) (a .1 .1 .0) (a .1 .1 .1 .0)) (now (a .1 .1 .1 .1 .0))) (ap lineTold (sym h))
+    (demand-1 .first-line _ _ _ _ _ .0)
 
 pub put-line-call : (κs : _) (a : _) (r : _) (e : _) → put-line.Learnt κs a r e
     → MatchRow (now (a .0)) (a .1 .0 .0) (a .1 .1 .0 .0) (now (a .1 .1 .1 .0)) (told (writtenSays r) (now (e .1 .1 .1 .0)))
@@ -100,4 +137,5 @@ put-line-call κs a r e h =
 pub put-refusal-call : (κs : _) (a : _) (r : _) (e : _) → put-refusal.Learnt κs a r e
     → LineRow (refusalText (a .0) (a .1 .0)) (now (a .1 .1 .0)) (told (writtenSays r) (now (e .1 .1 .0)))
 put-refusal-call κs a r e h =
-    subst (LineRow (refusalText (a .0) (a .1 .0)) (now (a .1 .1 .0))) (ap lineTold (sym h)) (demand-1 .refusal-line (a .0) (a .1 .0) (now (a .1 .1 .0)) .0)
+    subst (LineRow (refusalText (a .0) (a .1 .0)) (now (a .1 .1 .0))) (ap lineTold (sym h))
+    (demand-1 .refusal-line (a .0) (a .1 .0) (now (a .1 .1 .0)) .0)

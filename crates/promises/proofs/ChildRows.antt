@@ -22,21 +22,27 @@ use Rattle.promises.specs.Told.{By}
 use Rattle.promises.proofs.FoundRows.{by-found}
 
 pub by-child : (p : Position) (i : ℕ) → By (FoundRow (ChildFound p i) (λ c. c ∷ [])) (childSays (childOf p i))
-by-child p i = by-found (ChildFound p i) (λ c. c ∷ []) childSays Beyond (λ c. At (position c)) (childOf p i) refl (λ c. refl) is (either (test (codeGood (p .0))) (decLt i 1) (decLt 4 i) (decLt largest (5 * p .0 + i)))
+by-child p i = by-found (ChildFound p i) (λ c. c ∷ []) childSays Beyond (λ c. At (position c)) (childOf p i) refl (λ c. refl) is
+    (either (test (codeGood (p .0))) (decLt i 1) (decLt 4 i) (decLt largest (5 * p .0 + i)))
   where
     is : (c : ℕ) → ChildFound p i c → childOf p i ≡ At (position c)
-    is c f = let e = f .code in let u = f .in-use in child-at p i (f .position) (f .number .0) (f .number .1) (omega arith) ∙ ap (λ x. At (position x)) (sym e)
+    is c f = let e = f .code in let u = f .in-use in
+        child-at p i (f .position) (f .number .0) (f .number .1) (omega arith) ∙ ap (λ x. At (position x)) (sym e)
 
-    either : (codeGood (p .0) ≡ true) ⊎ (codeGood (p .0) ≡ false) → Dec (i < 1) → Dec (4 < i) → Dec (largest < 5 * p .0 + i) → ((c : ℕ) × ChildFound p i c) ⊎ (childOf p i ≡ Beyond)
+    either : (codeGood (p .0) ≡ true) ⊎ (codeGood (p .0) ≡ false) → Dec (i < 1) → Dec (4 < i) → Dec (largest < 5 * p .0 + i)
+        → ((c : ℕ) × ChildFound p i c) ⊎ (childOf p i ≡ Beyond)
     either (inr n) a b c = inr (child-bad p i n)
     either (inl g) (yes a) b c = inr (child-none p i g a)
     either (inl g) (no a) (yes b) c = inr (child-many p i g b)
     either (inl g) (no a) (no b) (yes c) = inr (child-far p i g (omega arith) (omega arith) c)
-    either (inl g) (no a) (no b) (no c) = inl (5 * p .0 + i, record { position = g; number = (omega arith, omega arith); code = refl; in-use = omega arith })
+    either (inl g) (no a) (no b) (no c) =
+        inl (5 * p .0 + i, record { position = g; number = (omega arith, omega arith); code = refl; in-use = omega arith })
 
-pub by-follow : (spans : List ℕ) (n from by : ℕ) → By (FoundRow (Reaches spans n from by) (λ x. x ∷ [])) (reachedSays (reached (target n spans from by)))
+pub by-follow : (spans : List ℕ) (n from by : ℕ)
+    → By (FoundRow (Reaches spans n from by) (λ x. x ∷ [])) (reachedSays (reached (target n spans from by)))
 unfolding target
-by-follow spans n from by = by-found (Reaches spans n from by) (λ x. x ∷ []) (λ o. reachedSays (reached o)) none some (target n spans from by) refl (λ x. refl) is (either (target n spans from by) refl)
+by-follow spans n from by = by-found (Reaches spans n from by) (λ x. x ∷ []) (λ o. reachedSays (reached o)) none some (target n spans from by) refl
+    (λ x. refl) is (either (target n spans from by) refl)
   where
     is : (x : ℕ) → Reaches spans n from by x → target n spans from by ≡ some x
     is x f = rw (f .code-in, f .way, lt-ltb x n (f .node-in .0), lt-ltb x 65536 (f .node-in .1)) refl

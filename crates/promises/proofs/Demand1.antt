@@ -35,7 +35,8 @@ module _ (file : List ℕ) (l : Lent) (small : Below 256 file) where
   open-row = go (opened file l .answer) refl
     where
       means : Accepted file l → OpenRow file l (openTold (opened file l))
-      means a = rw (a .is) (rows.opens (a .places) (trailer-framed file (a .places) (sections-in file (a .places) (a .placed) .0)) (a .meaning) (a .room))
+      means a = rw (a .is) (rows.opens (a .places) (trailer-framed file (a .places) (sections-in file (a .places) (a .placed) .0)) (a .meaning)
+          (a .room))
 
       go : (x : Opened) → opened file l .answer ≡ x → OpenRow file l (openTold (opened file l))
       go (opening.Refused r p) e =

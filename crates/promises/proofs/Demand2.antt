@@ -16,8 +16,8 @@ use Rattle.kinds.specs.Positions.{Pos}
 use Rattle.kinds.proofs.Bools.{bool-ext, eqb-is, is-eqb, not-true}
 use Rattle.kinds.proofs.Places.{at-below}
 use Rattle.term.specs.Terms.{Term, span}
-use Rattle.term.specs.Places.{Matches, number}
-use Rattle.term.proofs.MatchTest.{matches-of, matches-is}
+use Rattle.term.specs.Places.{Matches, sub, number}
+use Rattle.term.proofs.MatchTest.{agreesAt, matches-of, matches-is}
 use Rattle.term.proofs.Numbers.{number-place, number-below, node-at, dom-place}
 use Rattle.counting.specs.Counting.{matchAt, found}
 use Rattle.report.specs.Paths.{pathOf}
@@ -28,6 +28,7 @@ use Rattle.promises.specs.OneFile.{OneFile, symbolsIn, spansIn, shapesIn
 use Rattle.promises.specs.Reported.{reportIn}
 use Rattle.promises.specs.Demand2.{Demand2, Says}
 use Rattle.promises.proofs.Setting.{is-folio, shape-words, score-words, score-spans, plan-is, told}
+use Rattle.promises.proofs.Construction.{paper-says}
 use Rattle.promises.proofs.ScorePaths.{score-path}
 use Rattle.promises.proofs.Reported.{Right, report-right}
 
@@ -70,7 +71,8 @@ module _ {file : List ℕ} (S : OneFile file) where
           exactly = λ j ℓ g n p e.
               let x = exactly j ℓ g n p e in
               bit-first j n (number-below p (scoreIn S) n e)
-              ∙ bool-ext (eqb (bit (mark n) j) 1) (test ℓ p) (λ b. says ℓ p .1 (x .0 (eqb-is _ 1 b))) (λ b. is-eqb (bit (mark n) j) 1 (x .1 (says ℓ p .0 b)));
+              ∙ bool-ext (eqb (bit (mark n) j) 1) (test ℓ p) (λ b. says ℓ p .1 (x .0 (eqb-is _ 1 b)))
+              (λ b. is-eqb (bit (mark n) j) 1 (x .1 (says ℓ p .0 b)));
           no-other = λ j n h l.
               bit-first j n h ∙ not-true (eqb (bit (mark n) j) 1) (λ b. omega (arith, at-below (shapesIn S) j (no-other j n h (eqb-is _ 1 b) .1)));
         }
@@ -88,6 +90,7 @@ demand-2 S = record {
   score-words = score-words S;
   score-spans = score-spans S;
   plan = plan-is S;
+  construction = paper-says (let F = is-folio S in record { symbols = F .symbols; some-shape = F .some-shape; few-shapes = F .few-shapes; are-shapes = F .are-shapes });
   exactly = exactly S;
   no-other = no-other S;
   path = λ n j h.
@@ -95,5 +98,5 @@ demand-2 S = record {
       (w .0, w .1, ap (Option·map (matchLine (matchAt n j))) (path S (w .0) n (w .1)));
   order = λ p n e. dom-place (scoreIn S) n ∙ number-place p (scoreIn S) n e;
   text = λ test says choices done. text S choices done test says;
-  tested = λ ℓ p. (matches-of ℓ (scoreIn S) p, matches-is ℓ (scoreIn S) p);
+  tested = (λ ℓ p. agreesAt ℓ (sub (scoreIn S) p), λ ℓ p. (matches-of ℓ (scoreIn S) p, matches-is ℓ (scoreIn S) p));
 }

@@ -76,13 +76,16 @@ module _ {file : List ℕ} (S : OneFile file) (choices : List ℕ) where
       ∙ ap (refuseWalk NoSuchItem) (sym is))
 
   taken : (i : ℕ) → i < after S choices .count .waiting
-      → (walkedSays (stepAfter S choices i .answer) ≡ gives (stepAfter S choices i .walk .count .waiting ∷ stepAfter S choices i .walk .count .logged ∷ []))
+      → (walkedSays (stepAfter S choices i .answer) ≡ gives
+      (stepAfter S choices i .walk .count .waiting ∷ stepAfter S choices i .walk .count .logged ∷ []))
       × (stepAfter S choices i .walk .count .logged ≡ suc (after S choices .count .logged))
   taken i h =
       let d = told S .step-is choices i in
       let l = rw waiting-is at h in (
-        ap walkedSays (ap (λ (o : WalkOutcome). o .answer) d ∙ any-walk.taken (told S .folio) (S .walk) (told S .lent) choices i l ∙ ap (λ (o : WalkOutcome). On (o .walk .count)) (sym d)),
-        ap (λ (o : WalkOutcome). o .walk .count .logged) d ∙ any-walk.one-logged (told S .folio) (S .walk) (told S .lent) choices i l ∙ ap suc (sym logged-is),
+        ap walkedSays (ap (λ (o : WalkOutcome). o .answer) d ∙ any-walk.taken (told S .folio) (S .walk) (told S .lent) choices i l
+            ∙ ap (λ (o : WalkOutcome). On (o .walk .count)) (sym d)),
+        ap (λ (o : WalkOutcome). o .walk .count .logged) d ∙ any-walk.one-logged (told S .folio) (S .walk) (told S .lent) choices i l
+            ∙ ap suc (sym logged-is),
       )
 
   -- a step is accepted, or refused 32
@@ -93,7 +96,8 @@ module _ {file : List ℕ} (S : OneFile file) (choices : List ℕ) where
       go (yes h) = let z : _≡_ {A = ℕ} 0 34 = sym (ap (λ (s : Says). s .number) (taken i h .0)) ∙ e in omega arith
       go (no h) = let z : _≡_ {A = ℕ} 32 34 = sym (ap (λ (t : Told Walk). t .says .number) (refused i (omega arith))) ∙ e in omega arith
 
-  steps : (acceptedIn S choices ≡ after S choices .count .logged) × (acceptedIn S choices ≤ span (scoreIn S)) × ((after S choices .count .waiting ≡ 0) ↔ (acceptedIn S choices ≡ span (scoreIn S)))
+  steps : (acceptedIn S choices ≡ after S choices .count .logged) × (acceptedIn S choices ≤ span (scoreIn S))
+      × ((after S choices .count .waiting ≡ 0) ↔ (acceptedIn S choices ≡ span (scoreIn S)))
   steps =
       let a = told S .accepted-is choices in
       let b = any-walk.accepted-logged (told S .folio) (S .walk) (told S .lent) choices in
@@ -105,13 +109,17 @@ module _ {file : List ℕ} (S : OneFile file) (choices : List ℕ) where
   log-nodes i h =
       let n = after S choices .count .logged in
       let l = length-take-le n (after S choices .log) log-long in
-      let m : getD (after S choices .log) i 0 ∈ take n (after S choices .log) = rw (← getD-take n (after S choices .log) i 0 h) (getD-in (take n (after S choices .log)) i 0 (omega arith)) in
+      let m : getD (after S choices .log) i 0 ∈ take n (after S choices .log) =
+      rw (← getD-take n (after S choices .log) i 0 h) (getD-in (take n (after S choices .log)) i 0 (omega arith)) in
       any-walk.log-nodes (told S .folio) (S .walk) (told S .lent) choices (getD (after S choices .log) i 0)
       (subst (λ (v : Walk). getD (after S choices .log) i 0 ∈ take (v .count .logged) (v .log)) is m)
 
-  log-all : after S choices .count .waiting ≡ 0 → (n : ℕ) → n < span (scoreIn S) → (i : ℕ) × (i < after S choices .count .logged) × (getD (after S choices .log) i 0 ≡ n)
+  log-all : after S choices .count .waiting ≡ 0 → (n : ℕ) → n < span (scoreIn S) → (i : ℕ) × (i < after S choices .count .logged)
+      × (getD (after S choices .log) i 0 ≡ n)
   log-all done n h =
-      let m : n ∈ take (after S choices .count .logged) (after S choices .log) = on-after (λ (v : Walk). n ∈ take (v .count .logged) (v .log)) (any-walk.log-all (told S .folio) (S .walk) (told S .lent) choices (sym waiting-is ∙ done) n h) in
+      let m : n ∈ take (after S choices .count .logged) (after S choices .log) =
+      on-after (λ (v : Walk). n ∈ take (v .count .logged) (v .log))
+      (any-walk.log-all (told S .folio) (S .walk) (told S .lent) choices (sym waiting-is ∙ done) n h) in
       found-at (after S choices .count .logged) (after S choices .log) log-long m
 
 -- ---- two finished walks
@@ -121,7 +129,8 @@ module _ {file : List ℕ} (S T : OneFile file) (c d : List ℕ) (c-done : after
       let ℓ = demand-2 S .no-other c j n h b in
       let p = node-at (scoreIn S) n h in
       let m = demand-2 S .exactly c c-done j (ℓ .0) (ℓ .1) n (p .0) (p .1) .0 b in
-      demand-2 T .exactly d d-done j (ℓ .0) (ap (λ xs. getElem? xs j) (sym (same-shapes S T)) ∙ ℓ .1) n (p .0) (ap (λ t. number t (p .0)) (sym (same-score S T)) ∙ p .1) .1
+      demand-2 T .exactly d d-done j (ℓ .0) (ap (λ xs. getElem? xs j) (sym (same-shapes S T)) ∙ ℓ .1) n (p .0)
+      (ap (λ t. number t (p .0)) (sym (same-score S T)) ∙ p .1) .1
       (subst (λ t. Matches (ℓ .0) t (p .0)) (same-score S T) m)
 
 module _ {file : List ℕ} (S T : OneFile file) (c d : List ℕ) (c-done : after S c .count .waiting ≡ 0) (d-done : after T d .count .waiting ≡ 0) where
@@ -155,9 +164,11 @@ demand-3 S = record {
   log-nodes = log-nodes S;
   log-once = λ choices i k hi hk e.
       once-at (after S choices .count .logged) (after S choices .log) (log-long S choices)
-      (on-after S choices (λ (v : Walk). Distinct (take (v .count .logged) (v .log))) (any-walk.log-once (told S .folio) (S .walk) (told S .lent) choices)) i k hi hk e;
+      (on-after S choices (λ (v : Walk). Distinct (take (v .count .logged) (v .log)))
+      (any-walk.log-once (told S .folio) (S .walk) (told S .lent) choices)) i k hi hk e;
   log-all = log-all S;
-  waits = λ choices. on-after S choices (λ (v : Walk). v .count .waiting + v .count .logged ≤ span (scoreIn S)) (any-walk.waits-unread (told S .folio) (S .walk) (told S .lent) choices);
+  waits = λ choices. on-after S choices (λ (v : Walk). v .count .waiting + v .count .logged ≤ span (scoreIn S))
+      (any-walk.waits-unread (told S .folio) (S .walk) (told S .lent) choices);
   same-marks = λ T c d. same-marks S T c d;
   same-text = λ T c d. same-text S T c d;
 }

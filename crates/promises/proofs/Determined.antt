@@ -1,19 +1,19 @@
 -- "Each public call's contract determines its result and every lent word afterwards, refusals too": any two results, and any two states of a lent buffer, that the
 -- contract allows for the same arguments are equal. `Learnt` is what the checker reads off a call's contract, so no contract is written a second time here;
--- κs are the lifetimes, a the arguments, r a result, e the arguments as they are afterwards. There is no exception.
+-- κs are the lifetimes, a the arguments, r a result, e the arguments as they are afterwards. They are the calls of the public face (the crate bufferstone). Of `subtree` it says that
+-- the words answered are equal: which of two equal parts of a table is lent is the one thing that no contract can say.
 use mathlib.Core.Path.{_≡_, refl, ap, sym, _∙_}
 use denote.Ref.{now}
 use Rattle.folio.specs.Opening.{OpenOutcome}
 use Rattle.walk.specs.Starting.{WalkOutcome}
 use Rattle.report.specs.Lines.{LineOutcome}
-use Rattle.checks.proofs.checking.score_good.Reads as score-good
-use Rattle.checks.proofs.checking.shapes_good.Reads as shapes-good
 use Rattle.folio.proofs.opening.open.Reads as open-folio
 use Rattle.checks.proofs.showing.subtree.Reads as subtree
 use Rattle.kinds.proofs.Position.before.Reads as before
 use Rattle.kinds.proofs.Position.child.Reads as child
 use Rattle.kinds.proofs.Position.is_good.Reads as is-good
 use Rattle.kinds.proofs.Position.length.Reads as length
+use Rattle.kinds.proofs.Position.root.Reads as root
 use Rattle.kinds.proofs.number.Reads as number
 use Rattle.kinds.proofs.slices.equal.Reads as equal
 use Rattle.plan.specs.Building.{BuildOutcome}
@@ -24,10 +24,6 @@ use Rattle.report.proofs.lines.put_first.Reads as put-first
 use Rattle.report.proofs.lines.put_line.Reads as put-line
 use Rattle.report.proofs.lines.put_refusal.Reads as put-refusal
 use Rattle.following.proofs.positions.follow.Reads as follow
-use Rattle.term.proofs.reader.read_term.Reads as read-term
-use Rattle.term.proofs.spans.count.Reads as count
-use Rattle.term.proofs.spans.skip.Reads as skip
-use Rattle.term.proofs.spans.spans_are.Reads as spans-are
 use Rattle.readers.proofs.reading.announcement_of.Reads as announcement-of
 use Rattle.readers.proofs.reading.label_of.Reads as label-of
 use Rattle.readers.proofs.reading.lengths_of.Reads as lengths-of
@@ -55,6 +51,9 @@ by-equation f κs a r r′ e e′ h h′ = h ∙ sym h′
 pub number-determined : Determined number.Learnt
 number-determined = by-equation _
 
+pub root-determined : Determined root.Learnt
+root-determined = by-equation _
+
 pub child-determined : Determined child.Learnt
 child-determined = by-equation _
 
@@ -67,26 +66,11 @@ length-determined = by-equation _
 pub before-determined : Determined before.Learnt
 before-determined = by-equation _
 
-pub read-term-determined : Determined read-term.Learnt
-read-term-determined = by-equation _
-
 pub follow-determined : Determined follow.Learnt
 follow-determined = by-equation _
 
-pub skip-determined : Determined skip.Learnt
-skip-determined = by-equation _
-
-pub spans-are-determined : Determined spans-are.Learnt
-spans-are-determined = by-equation _
-
 pub equal-determined : Determined equal.Learnt
 equal-determined = by-equation _
-
-pub shapes-good-determined : Determined shapes-good.Learnt
-shapes-good-determined = by-equation _
-
-pub score-good-determined : Determined score-good.Learnt
-score-good-determined = by-equation _
 
 pub label-of-determined : Determined label-of.Learnt
 label-of-determined = by-equation _
@@ -109,36 +93,58 @@ matches-determined = by-equation _
 pub clashes-determined : Determined clashes.Learnt
 clashes-determined = by-equation _
 
-pub count-determined : Determined count.Learnt
-count-determined = by-equation _
-
 -- ---- the call that answers a part of a table, and those that are lent buffers to be written
 pub subtree-determined : (κs : _) (a : _) (r r′ : _) (e e′ : _) → subtree.Learnt κs a r e → subtree.Learnt κs a r′ e′ → now r ≡ now r′
 subtree-determined κs a r r′ e e′ h h′ = h ∙ sym h′
 
-pub open-folio-determined : (κs : _) (a : _) (r r′ : _) (e e′ : _) → open-folio.Learnt κs a r e → open-folio.Learnt κs a r′ e′ → (r ≡ r′) × (now (e .1 .0) ≡ now (e′ .1 .0)) × (now (e .1 .1 .0) ≡ now (e′ .1 .1 .0)) × (now (e .1 .1 .1 .0) ≡ now (e′ .1 .1 .1 .0)) × (now (e .1 .1 .1 .1 .0) ≡ now (e′ .1 .1 .1 .1 .0))
-open-folio-determined κs a r r′ e e′ h h′ = let x = h ∙ sym h′ in (ap (λ (o : OpenOutcome). o .answer) x, ap (λ (o : OpenOutcome). o .tables .words) x, ap (λ (o : OpenOutcome). o .tables .starts) x, ap (λ (o : OpenOutcome). o .tables .score) x, ap (λ (o : OpenOutcome). o .tables .spans) x)
+pub open-folio-determined : (κs : _) (a : _) (r r′ : _) (e e′ : _) → open-folio.Learnt κs a r e → open-folio.Learnt κs a r′ e′ → (r ≡ r′)
+    × (now (e .1 .0) ≡ now (e′ .1 .0)) × (now (e .1 .1 .0) ≡ now (e′ .1 .1 .0)) × (now (e .1 .1 .1 .0) ≡ now (e′ .1 .1 .1 .0))
+    × (now (e .1 .1 .1 .1 .0) ≡ now (e′ .1 .1 .1 .1 .0))
+open-folio-determined κs a r r′ e e′ h h′ = let x = h ∙ sym h′ in (
+  ap (λ (o : OpenOutcome). o .answer) x,
+  ap (λ (o : OpenOutcome). o .tables .words) x,
+  ap (λ (o : OpenOutcome). o .tables .starts) x,
+  ap (λ (o : OpenOutcome). o .tables .score) x,
+  ap (λ (o : OpenOutcome). o .tables .spans) x,
+)
 
-pub build-determined : (κs : _) (a : _) (r r′ : _) (e e′ : _) → build.Learnt κs a r e → build.Learnt κs a r′ e′ → (r ≡ r′) × (now (e .1 .1 .1 .0) ≡ now (e′ .1 .1 .1 .0)) × (now (e .1 .1 .1 .1 .0) ≡ now (e′ .1 .1 .1 .1 .0))
-build-determined κs a r r′ e e′ h h′ = let x = h ∙ sym h′ in (ap (λ (o : BuildOutcome). o .answer) x, ap (λ (o : BuildOutcome). o .plan) x, ap (λ (o : BuildOutcome). o .scratch) x)
+pub build-determined : (κs : _) (a : _) (r r′ : _) (e e′ : _) → build.Learnt κs a r e → build.Learnt κs a r′ e′ → (r ≡ r′)
+    × (now (e .1 .1 .1 .0) ≡ now (e′ .1 .1 .1 .0)) × (now (e .1 .1 .1 .1 .0) ≡ now (e′ .1 .1 .1 .1 .0))
+build-determined κs a r r′ e e′ h h′ = let x = h ∙ sym h′ in
+    (ap (λ (o : BuildOutcome). o .answer) x, ap (λ (o : BuildOutcome). o .plan) x, ap (λ (o : BuildOutcome). o .scratch) x)
 
-pub start-determined : (κs : _) (a : _) (r r′ : _) (e e′ : _) → start.Learnt κs a r e → start.Learnt κs a r′ e′ → (r ≡ r′) × (now (e .1 .1 .1 .0) ≡ now (e′ .1 .1 .1 .0)) × (now (e .1 .1 .1 .1 .0) ≡ now (e′ .1 .1 .1 .1 .0)) × (now (e .1 .1 .1 .1 .1 .0) ≡ now (e′ .1 .1 .1 .1 .1 .0))
+pub start-determined : (κs : _) (a : _) (r r′ : _) (e e′ : _) → start.Learnt κs a r e → start.Learnt κs a r′ e′ → (r ≡ r′)
+    × (now (e .1 .1 .1 .0) ≡ now (e′ .1 .1 .1 .0)) × (now (e .1 .1 .1 .1 .0) ≡ now (e′ .1 .1 .1 .1 .0))
+    × (now (e .1 .1 .1 .1 .1 .0) ≡ now (e′ .1 .1 .1 .1 .1 .0))
 start-determined κs a r r′ e e′ h h′ =
-    let x = h ∙ sym h′ in
-    (ap (λ (o : WalkOutcome). o .answer) x, ap (λ (o : WalkOutcome). o .walk .items) x, ap (λ (o : WalkOutcome). o .walk .log) x, ap (λ (o : WalkOutcome). o .walk .marks) x)
+    let x = h ∙ sym h′ in (
+      ap (λ (o : WalkOutcome). o .answer) x,
+      ap (λ (o : WalkOutcome). o .walk .items) x,
+      ap (λ (o : WalkOutcome). o .walk .log) x,
+      ap (λ (o : WalkOutcome). o .walk .marks) x,
+    )
 
-pub step-determined : (κs : _) (a : _) (r r′ : _) (e e′ : _) → step.Learnt κs a r e → step.Learnt κs a r′ e′ → (r ≡ r′) × (now (e .1 .1 .1 .0) ≡ now (e′ .1 .1 .1 .0)) × (now (e .1 .1 .1 .1 .0) ≡ now (e′ .1 .1 .1 .1 .0)) × (now (e .1 .1 .1 .1 .1 .0) ≡ now (e′ .1 .1 .1 .1 .1 .0))
+pub step-determined : (κs : _) (a : _) (r r′ : _) (e e′ : _) → step.Learnt κs a r e → step.Learnt κs a r′ e′ → (r ≡ r′)
+    × (now (e .1 .1 .1 .0) ≡ now (e′ .1 .1 .1 .0)) × (now (e .1 .1 .1 .1 .0) ≡ now (e′ .1 .1 .1 .1 .0))
+    × (now (e .1 .1 .1 .1 .1 .0) ≡ now (e′ .1 .1 .1 .1 .1 .0))
 step-determined κs a r r′ e e′ h h′ =
-    let x = h ∙ sym h′ in
-    (ap (λ (o : WalkOutcome). o .answer) x, ap (λ (o : WalkOutcome). o .walk .items) x, ap (λ (o : WalkOutcome). o .walk .log) x, ap (λ (o : WalkOutcome). o .walk .marks) x)
+    let x = h ∙ sym h′ in (
+      ap (λ (o : WalkOutcome). o .answer) x,
+      ap (λ (o : WalkOutcome). o .walk .items) x,
+      ap (λ (o : WalkOutcome). o .walk .log) x,
+      ap (λ (o : WalkOutcome). o .walk .marks) x,
+    )
 
-pub put-line-determined : (κs : _) (a : _) (r r′ : _) (e e′ : _) → put-line.Learnt κs a r e → put-line.Learnt κs a r′ e′ → (r ≡ r′) × (now (e .1 .1 .1 .0) ≡ now (e′ .1 .1 .1 .0))
+pub put-line-determined : (κs : _) (a : _) (r r′ : _) (e e′ : _) → put-line.Learnt κs a r e → put-line.Learnt κs a r′ e′ → (r ≡ r′)
+    × (now (e .1 .1 .1 .0) ≡ now (e′ .1 .1 .1 .0))
 put-line-determined κs a r r′ e e′ h h′ = let x = h ∙ sym h′ in (ap (λ (o : LineOutcome). o .answer) x, ap (λ (o : LineOutcome). o .out) x)
 
-pub put-refusal-determined : (κs : _) (a : _) (r r′ : _) (e e′ : _) → put-refusal.Learnt κs a r e → put-refusal.Learnt κs a r′ e′ → (r ≡ r′) × (now (e .1 .1 .0) ≡ now (e′ .1 .1 .0))
+pub put-refusal-determined : (κs : _) (a : _) (r r′ : _) (e e′ : _) → put-refusal.Learnt κs a r e → put-refusal.Learnt κs a r′ e′ → (r ≡ r′)
+    × (now (e .1 .1 .0) ≡ now (e′ .1 .1 .0))
 put-refusal-determined κs a r r′ e e′ h h′ = let x = h ∙ sym h′ in (ap (λ (o : LineOutcome). o .answer) x, ap (λ (o : LineOutcome). o .out) x)
 
-pub put-first-determined : (κs : _) (a : _) (r r′ : _) (e e′ : _) → put-first.Learnt κs a r e → put-first.Learnt κs a r′ e′ → (r ≡ r′) × (now (e .1 .1 .1 .1 .0) ≡ now (e′ .1 .1 .1 .1 .0))
+pub put-first-determined : (κs : _) (a : _) (r r′ : _) (e e′ : _) → put-first.Learnt κs a r e → put-first.Learnt κs a r′ e′ → (r ≡ r′)
+    × (now (e .1 .1 .1 .1 .0) ≡ now (e′ .1 .1 .1 .1 .0))
 put-first-determined κs a r r′ e e′ h h′ = let x = h ∙ sym h′ in (ap (λ (o : LineOutcome). o .answer) x, ap (λ (o : LineOutcome). o .out) x)
 
 -- ---- the view's calls
@@ -146,19 +152,23 @@ put-first-determined κs a r r′ e e′ h h′ = let x = h ∙ sym h′ in (ap 
 module _ {M : Type 1} (𝓤 : URA M) (H : Heap 𝓤) where
   open Connectives (connectives 𝓤) using (⌜_⌝)
 
-  pub label-in-says : (κs : _) (A : _) (mem : _) (run : _) (v : _) (s : _) (v′ : _) (s′ : _) (r : _) → label-in.ensures-1 𝓤 H κs A mem run v s v′ s′ r ≡ ⌜ r ≡ labelOf (now (v′ .entry .words)) (v′ .entry .states) (v′ .entry .symbols) (s .0) ⌝
+  pub label-in-says : (κs : _) (A : _) (mem : _) (run : _) (v : _) (s : _) (v′ : _) (s′ : _) (r : _)
+      → label-in.ensures-1 𝓤 H κs A mem run v s v′ s′ r ≡ ⌜ r ≡ labelOf (now (v′ .entry .words)) (v′ .entry .states) (v′ .entry .symbols) (s .0) ⌝
   label-in-says κs A mem run v s v′ s′ r = refl
 
   pub lengths-in-says : (κs : _) (A : _) (mem : _) (run : _) (v : _) (s : _) (f : _) (v′ : _) (s′ : _) (f′ : _) (r : _)
-      → lengths-in.ensures-1 𝓤 H κs A mem run v s f v′ s′ f′ r ≡ ⌜ r ≡ lengthsOf (now (v′ .entry .words)) (v′ .entry .states) (v′ .entry .symbols) (s .0) (f .0) ⌝
+      → lengths-in.ensures-1 𝓤 H κs A mem run v s f v′ s′ f′ r ≡ ⌜ r ≡ lengthsOf (now (v′ .entry .words)) (v′ .entry .states) (v′ .entry .symbols)
+      (s .0) (f .0) ⌝
   lengths-in-says κs A mem run v s f v′ s′ f′ r = refl
 
   pub announcement-in-says : (κs : _) (A : _) (mem : _) (run : _) (v : _) (s : _) (f : _) (i : _) (v′ : _) (s′ : _) (f′ : _) (i′ : _) (r : _)
-      → announcement-in.ensures-1 𝓤 H κs A mem run v s f i v′ s′ f′ i′ r ≡ ⌜ r ≡ announcementOf (now (v′ .entry .words)) (v′ .entry .states) (v′ .entry .symbols) (s .0) (f .0) i ⌝
+      → announcement-in.ensures-1 𝓤 H κs A mem run v s f i v′ s′ f′ i′ r ≡ ⌜ r ≡ announcementOf (now (v′ .entry .words)) (v′ .entry .states)
+      (v′ .entry .symbols) (s .0) (f .0) i ⌝
   announcement-in-says κs A mem run v s f i v′ s′ f′ i′ r = refl
 
   pub successor-in-says : (κs : _) (A : _) (mem : _) (run : _) (v : _) (s : _) (f : _) (i : _) (v′ : _) (s′ : _) (f′ : _) (i′ : _) (r : _)
-      → successor-in.ensures-1 𝓤 H κs A mem run v s f i v′ s′ f′ i′ r ≡ ⌜ r ≡ successorOf (now (v′ .entry .words)) (v′ .entry .states) (v′ .entry .symbols) (s .0) (f .0) i ⌝
+      → successor-in.ensures-1 𝓤 H κs A mem run v s f i v′ s′ f′ i′ r ≡ ⌜ r ≡ successorOf (now (v′ .entry .words)) (v′ .entry .states)
+      (v′ .entry .symbols) (s .0) (f .0) i ⌝
   successor-in-says κs A mem run v s f i v′ s′ f′ i′ r = refl
 
   pub view-says : (κs : _) (A : _) (mem : _) (run : _) (ws : _) (m : _) (k : _) (ws′ : _) (m′ : _) (k′ : _) (r : _)

@@ -27,7 +27,8 @@ module _ (text buffer : List ℕ) (small : length text ≤ 1400) where
   pub whole : 1400 ≤ length buffer → lineTold (written text buffer) ≡ wrote text buffer
   whole h =
       ap lineTold
-      (sym (line-is {o′ = text ++ drop (length text) buffer} {e = length text} h (record { end = omega arith; text = onto-sets text buffer (omega arith) })))
+      (sym (line-is {o′ = text ++ drop (length text) buffer} {e = length text} h
+      (record { end = omega arith; text = onto-sets text buffer (omega arith) })))
 
   pub by-line : By (LineRow text buffer) (lineTold (written text buffer))
   by-line = (row (decLt (length buffer) 1400), only)
@@ -42,11 +43,13 @@ module _ (text buffer : List ℕ) (small : length text ≤ 1400) where
 
 -- ---- how long the lines are at most
 pub by-first-line : (n s m c : ℕ) (buffer : List ℕ) → By (LineRow (firstLine n s m c) buffer) (lineTold (firstOut n s m c buffer))
-by-first-line n s m c buffer = by-line (firstLine n s m c) buffer (rw (length-append (digits n) _, length-append (digits s) _, length-append (digits m) _, length-append (digits c) _)
+by-first-line n s m c buffer = by-line (firstLine n s m c) buffer
+    (rw (length-append (digits n) _, length-append (digits s) _, length-append (digits m) _, length-append (digits c) _)
     (omega (arith, digits-short n, digits-short s, digits-short m, digits-short c)))
 
 pub by-refusal-line : (r : Reason) (p : ℕ) (buffer : List ℕ) → By (LineRow (refusalText r p) buffer) (lineTold (refusalOut r p buffer))
-by-refusal-line r p buffer = by-line (refusalText r p) buffer (rw (length-append (digits (numberOf r)) _, length-append (digits p) _) (omega (arith, digits-short (numberOf r), digits-short p)))
+by-refusal-line r p buffer = by-line (refusalText r p) buffer
+    (rw (length-append (digits (numberOf r)) _, length-append (digits p) _) (omega (arith, digits-short (numberOf r), digits-short p)))
 
 -- ---- a match, whose line there is exactly where a path leads to its node
 module _ (spans : List ℕ) (x j : ℕ) (buffer : List ℕ) where

@@ -58,7 +58,8 @@ module _ (file : List ℕ) (l : Lent) where
       let a = d .first in
       let b = d .second in
       let long : length (take (q .score - q .shapes) (drop (q .shapes) file)) ≡ 2 * k =
-      length-take-le (q .score - q .shapes) (drop (q .shapes) file) (omega (arith, length-drop (q .shapes) file, d .size)) ∙ (let z : q .score - q .shapes ≡ 2 * k = omega (arith, d .words, d .score-words) in z) in
+      length-take-le (q .score - q .shapes) (drop (q .shapes) file) (omega (arith, length-drop (q .shapes) file, d .size))
+      ∙ (let z : q .score - q .shapes ≡ 2 * k = omega (arith, d .words, d .score-words) in z) in
       omega (arith, length-words k (take (q .score - q .shapes) (drop (q .shapes) file)) long, d .words, d .score-words)
 
   -- and the trailer's, behind the score's
@@ -68,7 +69,8 @@ module _ (file : List ℕ) (l : Lent) where
       let a = d .first in
       let b = d .second in
       let long : length (take (q .end - q .score) (drop (q .score) file)) ≡ 2 * k =
-      length-take-le (q .end - q .score) (drop (q .score) file) (omega (arith, length-drop (q .score) file, d .size)) ∙ (let z : q .end - q .score ≡ 2 * k = omega (arith, d .words, d .score-words) in z) in
+      length-take-le (q .end - q .score) (drop (q .score) file) (omega (arith, length-drop (q .score) file, d .size))
+      ∙ (let z : q .end - q .score ≡ 2 * k = omega (arith, d .words, d .score-words) in z) in
       omega (arith, length-words k (take (q .end - q .score) (drop (q .score) file)) long, d .words, d .score-words)
 
   -- ---- a refusal has its row
@@ -89,8 +91,10 @@ module _ (file : List ℕ) (l : Lent) where
       whole : opened file l ≡ held ar ws sc (q .shapes) l
       whole = opened-at file l q (sections-good file q eq good)
 
-      no-room : (st : List ℕ) (s : Shaped ar ws st) (t : Scored ar sc) → stored ar ws st sc l .answer ≡ opening.Refused r p → Given file l (numberOf r) p
-      no-room st s t d = go (decLt (length (l .words)) (length ws)) (decLt (length (l .starts)) (length st)) (decLt (length (l .score)) (length sc)) (decLt (length (l .spans)) (length sc))
+      no-room : (st : List ℕ) (s : Shaped ar ws st) (t : Scored ar sc) → stored ar ws st sc l .answer ≡ opening.Refused r p
+          → Given file l (numberOf r) p
+      no-room st s t d = go (decLt (length (l .words)) (length ws)) (decLt (length (l .starts)) (length st)) (decLt (length (l .score)) (length sc))
+          (decLt (length (l .spans)) (length sc))
         where
           st-is : length st ≡ length (s .trees)
           st-is = ap length (s .begins) ∙ length-starts 0 (s .trees)
@@ -98,15 +102,22 @@ module _ (file : List ℕ) (l : Lent) where
           n-is : length sc ≡ span (t .tree)
           n-is = ap length (t .words) ∙ length-flatten (t .tree)
 
-          given : (Room l (length ws) (length (s .trees)) (span (t .tree)) → ⊥) → stored ar ws st sc l ≡ refuseOpening reason.Tables 0 l → Given file l (numberOf r) p
-          given n x = same-refusal (sym (ap (λ (o : OpenOutcome). o .answer) x) ∙ d) λ a b. rw (← a, ← b) (row-18 q (trailer-framed file q eq) (symbols-is ar good) st s t n)
+          given : (Room l (length ws) (length (s .trees)) (span (t .tree)) → ⊥) → stored ar ws st sc l ≡ refuseOpening reason.Tables 0 l
+              → Given file l (numberOf r) p
+          given n x = same-refusal (sym (ap (λ (o : OpenOutcome). o .answer) x) ∙ d) λ a b. rw (← a, ← b)
+              (row-18 q (trailer-framed file q eq) (symbols-is ar good) st s t n)
 
-          go : Dec (length (l .words) < length ws) → Dec (length (l .starts) < length st) → Dec (length (l .score) < length sc) → Dec (length (l .spans) < length sc) → Given file l (numberOf r) p
+          go : Dec (length (l .words) < length ws) → Dec (length (l .starts) < length st) → Dec (length (l .score) < length sc)
+              → Dec (length (l .spans) < length sc) → Given file l (numberOf r) p
           go (yes a) b c d = given (λ x. let y = x .words in omega arith) (stored-words ar ws st sc l a)
           go (no a) (yes b) c d = given (λ x. let y = x .starts in omega (arith, b, st-is)) (stored-starts ar ws st sc l (omega arith) b)
-          go (no a) (no b) (yes c) d = given (λ x. let y = x .score in omega (arith, c, n-is)) (stored-score ar ws st sc l (omega arith) (omega arith) c)
-          go (no a) (no b) (no c) (yes d) = given (λ x. let y = x .spans in omega (arith, d, n-is)) (stored-spans ar ws st sc l (omega arith) (omega arith) (omega arith) d)
-          go (no a) (no b) (no c) (no x) = no-refusal (sym (ap (λ (o : OpenOutcome). o .answer) (stored-all ar ws st sc l (omega arith) (omega arith) (omega arith) (omega arith))) ∙ d)
+          go (no a) (no b) (yes c) d = given (λ x. let y = x .score in omega (arith, c, n-is))
+              (stored-score ar ws st sc l (omega arith) (omega arith) c)
+          go (no a) (no b) (no c) (yes d) =
+              given (λ x. let y = x .spans in omega (arith, d, n-is)) (stored-spans ar ws st sc l (omega arith) (omega arith) (omega arith) d)
+          go (no a) (no b) (no c) (no x) =
+              no-refusal (sym (ap (λ (o : OpenOutcome). o .answer) (stored-all ar ws st sc l (omega arith) (omega arith) (omega arith) (omega arith)))
+              ∙ d)
 
       on-score : (n : ℕ) → shapesOf ar blankWord ws .answer ≡ shapes.Whole n → (x : Score) → scoreOf ar sc ≡ x → Given file l (numberOf r) p
       on-score n es (score.Refused s i) ex =
@@ -117,7 +128,8 @@ module _ (file : List ℕ) (l : Lent) where
           (score-row ar sc (q .score) (q .end) (score-ends q placed) r i (ex ∙ ap (λ y. score.Refused y i) a)))
       on-score n es score.Whole ex =
           let s = found-shapes ar ws n es in
-          let t = score-is ar sc (words-below _ (λ w m. small w (in-drop (q .score) file (in-take (q .end - q .score) (drop (q .score) file) m)))) ex in
+          let t = score-is ar sc (words-below _ (λ w m. small w (in-drop (q .score) file (in-take (q .end - q .score) (drop (q .score) file) m))))
+          ex in
           no-room (shapesOf ar blankWord ws .starts) s t (rw-told (held-on ar ws sc (q .shapes) l es ex))
         where
           rw-told : {o : OpenOutcome} → held ar ws sc (q .shapes) l ≡ o → o .answer ≡ opening.Refused r p
@@ -146,14 +158,16 @@ module _ (file : List ℕ) (l : Lent) where
     refused-given = on-trailer (trailerOf file) refl
 
   -- ---- a row has its refusal
-  framed-at : (q : Places) → Framed file q → GoodSymbols (symbolsAt file q) → opened file l ≡ held (symbolsAt file q) (shapesAt file q) (scoreAt file q) (q .shapes) l
+  framed-at : (q : Places) → Framed file q → GoodSymbols (symbolsAt file q)
+      → opened file l ≡ held (symbolsAt file q) (shapesAt file q) (scoreAt file q) (q .shapes) l
   framed-at q f g = opened-at file l q (sections-good file q (framed-trailer file q f) (symbols-of (symbolsAt file q) g))
 
   abbrev refused : Reason → ℕ → OpenOutcome
   refused r p = refuseOpening r p l
 
   pub given-refused : {n p : ℕ} → Given file l n p → RefusedAs refused (opened file l) n p
-  given-refused (in-trailer x) = let y = row-trailer file x in record { reason = y .reason; number = y .number; is = opened-refused file l (sections-trailer file (y .is)) }
+  given-refused (in-trailer x) = let y = row-trailer file x in
+      record { reason = y .reason; number = y .number; is = opened-refused file l (sections-trailer file (y .is)) }
   given-refused (in-symbols q f x) =
       let y = row-symbol (symbolsAt file q) x in
       record { reason = y .reason; number = y .number; is = opened-refused file l (sections-symbols file q (framed-trailer file q f) (y .is)) }
@@ -164,7 +178,8 @@ module _ (file : List ℕ) (l : Lent) where
       record {
         reason = z .reason;
         number = z .number;
-        is = framed-at q f g ∙ held-shapes (symbolsAt file q) (shapesAt file q) (scoreAt file q) (q .shapes) l (z .is) ∙ ap (refused (z .reason)) (sym (y .place));
+        is = framed-at q f g ∙ held-shapes (symbolsAt file q) (shapesAt file q) (scoreAt file q) (q .shapes) l (z .is)
+            ∙ ap (refused (z .reason)) (sym (y .place));
       }
   given-refused (in-score q f g st s x) =
       let placed = trailer-in file q (framed-trailer file q f) in
@@ -181,9 +196,11 @@ module _ (file : List ℕ) (l : Lent) where
       }
   given-refused (row-18 q f g st s t n) = by-reason refused reason.Tables
       (framed-at q f g
-      ∙ held-on ar ws sc (q .shapes) l (ap (λ (y : ShapesRead). y .answer) (pass-shapes ar ws st s)) (ap (scoreOf ar) (t .words) ∙ score-of ar (t .tree) (t .is))
+      ∙ held-on ar ws sc (q .shapes) l (ap (λ (y : ShapesRead). y .answer) (pass-shapes ar ws st s))
+      (ap (scoreOf ar) (t .words) ∙ score-of ar (t .tree) (t .is))
       ∙ ap (λ (y : ShapesRead). stored ar ws (y .starts) sc l) (pass-shapes ar ws st s)
-      ∙ go (decLt (length (l .words)) (length ws)) (decLt (length (l .starts)) (length st)) (decLt (length (l .score)) (length sc)) (decLt (length (l .spans)) (length sc)))
+      ∙ go (decLt (length (l .words)) (length ws)) (decLt (length (l .starts)) (length st)) (decLt (length (l .score)) (length sc))
+      (decLt (length (l .spans)) (length sc)))
     where
       ar : List ℕ
       ar = symbolsAt file q
@@ -200,9 +217,17 @@ module _ (file : List ℕ) (l : Lent) where
       n-is : length sc ≡ span (t .tree)
       n-is = ap length (t .words) ∙ length-flatten (t .tree)
 
-      go : Dec (length (l .words) < length ws) → Dec (length (l .starts) < length st) → Dec (length (l .score) < length sc) → Dec (length (l .spans) < length sc) → stored ar ws st sc l ≡ refuseOpening reason.Tables 0 l
+      go : Dec (length (l .words) < length ws) → Dec (length (l .starts) < length st) → Dec (length (l .score) < length sc)
+          → Dec (length (l .spans) < length sc) → stored ar ws st sc l ≡ refuseOpening reason.Tables 0 l
       go (yes a) b c d = stored-words ar ws st sc l a
       go (no a) (yes b) c d = stored-starts ar ws st sc l (omega arith) b
       go (no a) (no b) (yes c) d = stored-score ar ws st sc l (omega arith) (omega arith) c
       go (no a) (no b) (no c) (yes d) = stored-spans ar ws st sc l (omega arith) (omega arith) (omega arith) d
-      go (no a) (no b) (no c) (no d) = absurd (n (record { words = omega arith; starts = omega (arith, b, st-is); score = omega (arith, c, n-is); spans = omega (arith, d, n-is) }))
+      go (no a) (no b) (no c) (no d) =
+          absurd (n (record {
+            words = omega arith;
+            starts = omega (arith, b, st-is);
+            score = omega (arith, c, n-is);
+            spans =
+                omega (arith, d, n-is);
+          }))

@@ -36,7 +36,8 @@ use Rattle.readers.specs.declared.Block.{Block}
 -- ---- a pair
 module _ (plan : List ℕ) (at limit i : ℕ) (x : ℕ × ℕ) where
   pub pair-of : PairFound plan at limit i x → pairAt limit (pairList plan (at + 1) (getD plan at 0)) i ≡ some x
-  pair-of p = laws.pair-some plan (at + 1) limit (getD plan at 0) i (x .0) (x .1) (p .counted) (p .number) (p .code ∙ ap (λ k. getD plan k 0) (laws.second at i)) (p .number-in) (p .code-in)
+  pair-of p = laws.pair-some plan (at + 1) limit (getD plan at 0) i (x .0) (x .1) (p .counted) (p .number)
+      (p .code ∙ ap (λ k. getD plan k 0) (laws.second at i)) (p .number-in) (p .code-in)
 
   pub of-pair : pairAt limit (pairList plan (at + 1) (getD plan at 0)) i ≡ some x → PairFound plan at limit i x
   unfolding pairAt
@@ -47,7 +48,8 @@ module _ (plan : List ℕ) (at limit i : ℕ) (x : ℕ × ℕ) where
       let z : a ≡ x = cc in
       let n = at-below (pairList plan (at + 1) (getD plan at 0)) i ea in
       let h : i < getD plan at 0 = omega (arith, n, pairList-length (getD plan at 0) plan (at + 1)) in
-      let w : some x ≡ some (getD plan (at + 1 + 2 * i) 0, getD plan (at + 1 + 2 * i + 1) 0) = ap some (sym z) ∙ sym ea ∙ pairList-at (getD plan at 0) plan (at + 1) i h in
+      let w : some x ≡ some (getD plan (at + 1 + 2 * i) 0, getD plan (at + 1 + 2 * i + 1) 0) =
+      ap some (sym z) ∙ sym ea ∙ pairList-at (getD plan at 0) plan (at + 1) i h in
       let y : x ≡ (getD plan (at + 1 + 2 * i) 0, getD plan (at + 1 + 2 * i + 1) 0) = cc in
       record {
         counted = h;
@@ -69,7 +71,8 @@ module _ (plan : List ℕ) (m k : ℕ) where
   view-good v =
       let a = rw (v .states-are) at (v .states-in) in
       let b = rw (v .symbols-are) at (v .symbols-in) in
-      both (both (le-leb 4 (length plan) (v .header)) (both (is-within 128 (getD plan 0 0) a) (both (is-within 32 (getD plan 1 0) b) (is-within 16 (getD plan 2 0) (v .shapes-in)))))
+      both (both (le-leb 4 (length plan) (v .header))
+      (both (is-within 128 (getD plan 0 0) a) (both (is-within 32 (getD plan 1 0) b) (is-within 16 (getD plan 2 0) (v .shapes-in)))))
       (both (eq-eqb m (getD plan 0 0) (v .states-are)) (eq-eqb k (getD plan 1 0) (v .symbols-are)))
 
   pub good-view : viewGood plan m k ≡ true → View plan m k
@@ -99,7 +102,8 @@ module _ (plan : List ℕ) (m k : ℕ) where
     unfolding labelOf labelWord
     label-either = go (need (viewGood plan m k) (bind (labelWord plan m s) (λ c. need (codeGood c) (some c)))) refl
       where
-        go : (o : Option ℕ) → need (viewGood plan m k) (bind (labelWord plan m s) (λ c. need (codeGood c) (some c))) ≡ o → ((c : ℕ) × LabelFound plan m k s c) ⊎ (labelOf plan m k s ≡ label.Refused OutOfRange)
+        go : (o : Option ℕ) → need (viewGood plan m k) (bind (labelWord plan m s) (λ c. need (codeGood c) (some c))) ≡ o
+            → ((c : ℕ) × LabelFound plan m k s c) ⊎ (labelOf plan m k s ≡ label.Refused OutOfRange)
         go none e = inr (ap toLabel e)
         go (some c) e =
             on-need (viewGood plan m k) _ e λ t d.
@@ -109,13 +113,20 @@ module _ (plan : List ℕ) (m k : ℕ) where
             inl (w, record { view = good-view t; state = ltb-true s m t₂; word = d₃; code = t₁ })
 
     pub by-label : By (FoundRow (LabelFound plan m k s) (λ c. c ∷ [])) (labelSays (labelOf plan m k s))
-    by-label = by-found (LabelFound plan m k s) (λ c. c ∷ []) labelSays (label.Refused OutOfRange) (λ c. label.At (position c)) (labelOf plan m k s) refl (λ c. refl) label-is label-either
+    by-label = by-found (LabelFound plan m k s) (λ c. c ∷ []) labelSays (label.Refused OutOfRange) (λ c. label.At (position c)) (labelOf plan m k s)
+        refl (λ c. refl) label-is label-either
 
   -- ---- a block
   module _ (s f : ℕ) where
     pub block-of : (b : ℕ) → BlockFound plan m k s f b → blockStart plan m k s f ≡ some b
     unfolding blockStart blockFits
-    block-of b h = rw (lt-ltb s m (h .state), lt-ltb f k (h .symbol), h .start, le-leb (middle plan b + 1 + 2 * getD plan (middle plan b) 0) (length plan) (h .inside)) refl
+    block-of b h = rw (
+      lt-ltb s m (h .state),
+      lt-ltb f k (h .symbol),
+      h .start,
+      le-leb (middle plan b + 1 + 2 * getD plan (middle plan b) 0)
+          (length plan) (h .inside),
+    ) refl
 
     pub of-block : (b : ℕ) → viewGood plan m k ≡ true → blockStart plan m k s f ≡ some b → BlockFound plan m k s f b
     unfolding blockStart
@@ -125,10 +136,18 @@ module _ (plan : List ℕ) (m k : ℕ) where
         on-bind (getElem? plan (4 + m + (s * k + f))) _ d₁ λ a ea d₂.
         on-need (blockFits plan a) _ d₂ λ t₂ d₃.
         let z : a ≡ b = cc in
-        record { view = good-view good; state = ltb-true s m t; symbol = ltb-true f k t₁; start = ea ∙ ap some z; inside = rw (← z) (fits-in plan a t₂) }
+        record {
+          view = good-view good;
+          state = ltb-true s m t;
+          symbol = ltb-true f k t₁;
+          start = ea ∙ ap some z;
+          inside =
+              rw (← z) (fits-in plan a t₂);
+        }
 
     -- a block is found, or one of the two laws for a refusal applies
-    on-block {κ} : {C : Type κ} → ((b : ℕ) → BlockFound plan m k s f b → C) → (viewGood plan m k ≡ false → C) → (viewGood plan m k ≡ true → blockStart plan m k s f ≡ none → C) → C
+    on-block {κ} : {C : Type κ} → ((b : ℕ) → BlockFound plan m k s f b → C) → (viewGood plan m k ≡ false → C)
+        → (viewGood plan m k ≡ true → blockStart plan m k s f ≡ none → C) → C
     on-block {C = C} found bad out = go (test (viewGood plan m k)) (blockStart plan m k s f) refl
       where
         go : (viewGood plan m k ≡ true) ⊎ (viewGood plan m k ≡ false) → (o : Option ℕ) → blockStart plan m k s f ≡ o → C
@@ -139,9 +158,11 @@ module _ (plan : List ℕ) (m k : ℕ) where
     abbrev lengths : ℕ → Block
     lengths b = block.Of (record { announcements = getD plan b 0; successors = getD plan (middle plan b) 0 })
 
-    pub by-lengths : By (FoundRow (BlockFound plan m k s f) (λ b. getD plan b 0 ∷ getD plan (middle plan b) 0 ∷ [])) (blockSays (lengthsOf plan m k s f))
+    pub by-lengths : By (FoundRow (BlockFound plan m k s f) (λ b. getD plan b 0 ∷ getD plan (middle plan b) 0 ∷ []))
+        (blockSays (lengthsOf plan m k s f))
     by-lengths =
-        by-found (BlockFound plan m k s f) (λ b. getD plan b 0 ∷ getD plan (middle plan b) 0 ∷ []) blockSays (block.Refused OutOfRange) lengths (lengthsOf plan m k s f)
+        by-found (BlockFound plan m k s f) (λ b. getD plan b 0 ∷ getD plan (middle plan b) 0 ∷ []) blockSays (block.Refused OutOfRange) lengths
+        (lengthsOf plan m k s f)
         refl (λ b. refl)
         (λ b h. laws.lengths-some plan m k (view-good (h .view)) s f b (block-of b h))
         (on-block (λ b h. inl (b, h)) (λ n. inr (laws.lengths-view plan m k s f n)) (λ g e. inr (laws.lengths-none plan m k g s f e)))
@@ -151,10 +172,14 @@ module _ (plan : List ℕ) (m k : ℕ) where
       pub by-announcement : By (FoundRow (AnnouncementFound plan m k s f i) pairValues) (announcementSays (announcementOf plan m k s f i))
       unfolding announcementOf
       by-announcement =
-          by-found (AnnouncementFound plan m k s f i) pairValues announcementSays (announcement.Refused OutOfRange) (λ x. announcement.Of (record { 0 = x .0 }) (position (x .1))) (announcementOf plan m k s f i)
+          by-found (AnnouncementFound plan m k s f i) pairValues announcementSays (announcement.Refused OutOfRange)
+          (λ x. announcement.Of (record { 0 = x .0 }) (position (x .1))) (announcementOf plan m k s f i)
           refl (λ x. refl)
-          (λ x h. ap toAnnouncement (laws.pair-in plan m k (view-good (h .block .view)) s f (h .begin) (block-of (h .begin) (h .block)) false i ∙ pair-of plan (h .begin) (getD plan 2 0) i x (h .pair)))
-          (on-block (λ b h. in-block b h (pairAt (getD plan 2 0) (outsAt plan b) i) refl) (λ n. inr (ap toAnnouncement (laws.pair-view plan m k false s f i n))) (λ g e. inr (ap toAnnouncement (laws.pair-start plan m k g s f false i e))))
+          (λ x h. ap toAnnouncement (laws.pair-in plan m k (view-good (h .block .view)) s f (h .begin) (block-of (h .begin) (h .block)) false i
+          ∙ pair-of plan (h .begin) (getD plan 2 0) i x (h .pair)))
+          (on-block (λ b h. in-block b h (pairAt (getD plan 2 0) (outsAt plan b) i) refl)
+          (λ n. inr (ap toAnnouncement (laws.pair-view plan m k false s f i n)))
+          (λ g e. inr (ap toAnnouncement (laws.pair-start plan m k g s f false i e))))
         where
           in-block : (b : ℕ) → BlockFound plan m k s f b → (o : Option (ℕ × ℕ)) → pairAt (getD plan 2 0) (outsAt plan b) i ≡ o
               → ((x : ℕ × ℕ) × AnnouncementFound plan m k s f i x) ⊎ (announcementOf plan m k s f i ≡ announcement.Refused OutOfRange)
@@ -164,10 +189,13 @@ module _ (plan : List ℕ) (m k : ℕ) where
       pub by-successor : By (FoundRow (SuccessorFound plan m k s f i) pairValues) (successorSays (successorOf plan m k s f i))
       unfolding successorOf
       by-successor =
-          by-found (SuccessorFound plan m k s f i) pairValues successorSays (successor.Refused OutOfRange) (λ x. successor.Of (record { 0 = x .0 }) (position (x .1))) (successorOf plan m k s f i)
+          by-found (SuccessorFound plan m k s f i) pairValues successorSays (successor.Refused OutOfRange)
+          (λ x. successor.Of (record { 0 = x .0 }) (position (x .1))) (successorOf plan m k s f i)
           refl (λ x. refl)
-          (λ x h. ap toSuccessor (laws.pair-in plan m k (view-good (h .block .view)) s f (h .begin) (block-of (h .begin) (h .block)) true i ∙ pair-of plan (middle plan (h .begin)) m i x (h .pair)))
-          (on-block (λ b h. in-block b h (pairAt m (nextsAt plan b) i) refl) (λ n. inr (ap toSuccessor (laws.pair-view plan m k true s f i n))) (λ g e. inr (ap toSuccessor (laws.pair-start plan m k g s f true i e))))
+          (λ x h. ap toSuccessor (laws.pair-in plan m k (view-good (h .block .view)) s f (h .begin) (block-of (h .begin) (h .block)) true i
+          ∙ pair-of plan (middle plan (h .begin)) m i x (h .pair)))
+          (on-block (λ b h. in-block b h (pairAt m (nextsAt plan b) i) refl) (λ n. inr (ap toSuccessor (laws.pair-view plan m k true s f i n)))
+          (λ g e. inr (ap toSuccessor (laws.pair-start plan m k g s f true i e))))
         where
           in-block : (b : ℕ) → BlockFound plan m k s f b → (o : Option (ℕ × ℕ)) → pairAt m (nextsAt plan b) i ≡ o
               → ((x : ℕ × ℕ) × SuccessorFound plan m k s f i x) ⊎ (successorOf plan m k s f i ≡ successor.Refused OutOfRange)

@@ -82,7 +82,8 @@ listed : {A B C : Type 0} (h : B → C) (g : ℕ → A → List B) (f : ℕ → 
 listed h g f c [] e = refl
 listed h g f c (x ∷ xs) e =
     map-append h (g c x) (concat (mapAt g (suc c) xs))
-    ∙ ap₂ _++_ (rw add-zero at (e 0 x refl)) (listed h g f (suc c) xs (λ i a m. let z : c + suc i ≡ suc c + i = omega arith in rw z at (e (suc i) a m)))
+    ∙ ap₂ _++_ (rw add-zero at (e 0 x refl))
+    (listed h g f (suc c) xs (λ i a m. let z : c + suc i ≡ suc c + i = omega arith in rw z at (e (suc i) a m)))
 
 in-concat {κ} : {A : Type 0} {C : Type κ} (xss : List (List A)) {x : A} → x ∈ concat xss → ((xs : List A) → xs ∈ xss → x ∈ xs → C) → C
 in-concat (xs ∷ xss) m k = ⊎-elim (λ i. k xs (here refl) i) (λ i. in-concat xss i (λ ys a b. k ys (there a) b)) (∈-append xs m)
@@ -112,7 +113,8 @@ module _ (test : Term → Pos → Bool) (shapes : List Term) (t : Term) (ms : Li
   found-here n p e =
       listed numbers (matchOne test shapes n p) (foundOne ms n) 0 shapes
       (λ j ℓ m. rw (zero-add j) (at (test ℓ p) j ∙ ap (λ b. one b (matchAt n j)) (sym (right .exactly j ℓ m n p e))))
-      ∙ sym (ap (gather (foundOne ms n)) whole ∙ gather-append (foundOne ms n) (range 0 (length shapes)) (range (0 + length shapes) (16 - length shapes))
+      ∙ sym (ap (gather (foundOne ms n)) whole
+      ∙ gather-append (foundOne ms n) (range 0 (length shapes)) (range (0 + length shapes) (16 - length shapes))
       ∙ ap (λ l. gather (foundOne ms n) (range 0 (length shapes)) ++ l) rest ∙ append-nil (gather (foundOne ms n) (range 0 (length shapes))))
     where
       at : (b : Bool) (j : ℕ) → map numbers (cond b (record { place = p; match = matchAt n j } ∷ []) []) ≡ one b (matchAt n j)
@@ -120,7 +122,8 @@ module _ (test : Term → Pos → Bool) (shapes : List Term) (t : Term) (ms : Li
       at false j = refl
 
       whole : range 0 16 ≡ range 0 (length shapes) ++ range (0 + length shapes) (16 - length shapes)
-      whole = let z : 16 ≡ length shapes + (16 - length shapes) = omega (arith, few) in ap (range 0) z ∙ range-append 0 (length shapes) (16 - length shapes)
+      whole = let z : 16 ≡ length shapes + (16 - length shapes) = omega (arith, few) in
+          ap (range 0) z ∙ range-append 0 (length shapes) (16 - length shapes)
 
       rest : gather (foundOne ms n) (range (0 + length shapes) (16 - length shapes)) ≡ []
       rest = gather-none (foundOne ms n) _ λ j m.
@@ -164,7 +167,8 @@ module _ (test : Term → Pos → Bool) (shapes : List Term) (t : Term) (ms : Li
       ∙ ap (λ l. length (filter (clashing (clash (sizes t)) ms) l)) (sym found-matches)
       ∙ ap length (filter-map numbers (clashing (clash (sizes t)) ms) all)
       ∙ length-of (filter (λ m. clashing (clash (sizes t)) ms (m .match)) all)
-      ∙ ap length (filter-same (λ m. clashing (clash (sizes t)) ms (m .match)) (λ m. any (λ o. other (m .match) (o .match) && clashIn m o) all) all clashing-is)
+      ∙ ap length (filter-same (λ m. clashing (clash (sizes t)) ms (m .match)) (λ m. any (λ o. other (m .match) (o .match) && clashIn m o) all) all
+      clashing-is)
     where
       length-of : (l : List MatchIn) → length (map numbers l) ≡ length l
       length-of l = simp length-map
@@ -183,9 +187,12 @@ module _ (test : Term → Pos → Bool) (shapes : List Term) (t : Term) (ms : Li
     right-report states = ap₂ _++_ (ap₂ (λ a b. firstLine (span t) states a b) total-is clashes-are) lines-are
 
 -- the report of marks, the first n of which are right
-pub report-right : (test : Term → Pos → Bool) (shapes : List Term) (t : Term) (marks : List ℕ) → Right test shapes t (take (span t) marks) → length shapes ≤ 16
-    → ((p : Pos) (n : ℕ) → number t p ≡ some n → pathOf (sizes t) n ≡ some p) → (states : ℕ) → report (sizes t) states marks ≡ reportIn test shapes t states
+pub report-right : (test : Term → Pos → Bool) (shapes : List Term) (t : Term) (marks : List ℕ) → Right test shapes t (take (span t) marks)
+    → length shapes ≤ 16
+    → ((p : Pos) (n : ℕ) → number t p ≡ some n → pathOf (sizes t) n ≡ some p) → (states : ℕ)
+    → report (sizes t) states marks ≡ reportIn test shapes t states
 unfolding report
 report-right test shapes t marks right few paths states =
-    ap (λ n. firstLine n states (total (take n marks)) (clashNumber (clash (sizes t)) (take n marks)) ++ lines (sizes t) (take n marks)) (length-sizes t)
+    ap (λ n. firstLine n states (total (take n marks)) (clashNumber (clash (sizes t)) (take n marks)) ++ lines (sizes t) (take n marks))
+    (length-sizes t)
     ∙ right-report test shapes t (take (span t) marks) right few paths states

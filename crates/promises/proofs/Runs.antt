@@ -34,14 +34,16 @@ use Rattle.promises.proofs.Demand3.{demand-3}
 module _ (plan score spans : List ℕ) where
   pub data Stepped (i : ℕ) (w : Walk) : Walk → Type 0 where
     by-step : (κs : _) (a : _) (r : _) (e : _) → step.Learnt κs a r e → now (a .0) ≡ plan → now (a .1 .0) ≡ score → now (a .1 .1 .0) ≡ spans
-        → walkOf (now (a .1 .1 .1 .0)) (now (a .1 .1 .1 .1 .0)) (now (a .1 .1 .1 .1 .1 .0)) (a .1 .1 .1 .1 .1 .1 .0) ≡ w → a .1 .1 .1 .1 .1 .1 .1 .0 ≡ i
+        → walkOf (now (a .1 .1 .1 .0)) (now (a .1 .1 .1 .1 .0)) (now (a .1 .1 .1 .1 .1 .0)) (a .1 .1 .1 .1 .1 .1 .0) ≡ w
+        → a .1 .1 .1 .1 .1 .1 .1 .0 ≡ i
         → Stepped i w (walkOf (now (e .1 .1 .1 .0)) (now (e .1 .1 .1 .1 .0)) (now (e .1 .1 .1 .1 .1 .0)) (recordAfter r (a .1 .1 .1 .1 .1 .1 .0)))
 
   pub data Walked : Walk → List ℕ → Walk → Type 0 where
     none : {w : Walk} → Walked w [] w
     then : {w v u : Walk} (i : ℕ) (is : List ℕ) → Stepped i w v → Walked v is u → Walked w (i ∷ is) u
 
-  same-step : {p s t : List ℕ} {i j : ℕ} {w v : Walk} → p ≡ plan → s ≡ score → t ≡ spans → w ≡ v → j ≡ i → stepped p s t j w ≡ stepped plan score spans i v
+  same-step : {p s t : List ℕ} {i j : ℕ} {w v : Walk} → p ≡ plan → s ≡ score → t ≡ spans → w ≡ v → j ≡ i
+      → stepped p s t j w ≡ stepped plan score spans i v
   same-step {p} {s} {t} {i} {j} {w} {v} ep es et ew ei =
       ap₂ (λ x y. stepped x y t j w) ep es ∙ ap₂ (λ x y. stepped plan score x j y) et ew ∙ ap (λ x. stepped plan score spans x v) ei
 
@@ -81,7 +83,8 @@ module _ {file : List ℕ} (bytes : Below 256 file)
   same-start : {ar ar′ sc sc′ sp sp′ : List ℕ} (w : Walk) → ar ≡ ar′ → sc ≡ sc′ → sp ≡ sp′ → started ar sc sp w ≡ started ar′ sc′ sp′ w
   same-start {ar′ = ar′} {sc′ = sc′} {sp = sp} w ea ec ep = ap₂ (λ x y. started x y sp w) ea ec ∙ ap (λ x. started ar′ sc′ x w) ep
 
-  pub built-is : buildOf (take (counts .symbols) file) (take (counts .words) (opened file tables .tables .words)) (take (counts .shapes) (opened file tables .tables .starts)) (now (ab .1 .1 .1 .0)) (now (ab .1 .1 .1 .1 .0))
+  pub built-is : buildOf (take (counts .symbols) file) (take (counts .words) (opened file tables .tables .words))
+      (take (counts .shapes) (opened file tables .tables .starts)) (now (ab .1 .1 .1 .0)) (now (ab .1 .1 .1 .1 .0))
       ≡ built-out (building.Plan size) (now (eb .1 .1 .1 .0)) (now (eb .1 .1 .1 .1 .0))
   built-is =
       same-build (now (ab .1 .1 .1 .0)) (now (ab .1 .1 .1 .1 .0)) (sym b-symbols)
@@ -89,7 +92,8 @@ module _ {file : List ℕ} (bytes : Below 256 file)
       (ap (λ (o : OpenOutcome). take (counts .shapes) (o .tables .starts)) was-opened ∙ sym b-starts)
       ∙ sym builds
 
-  pub started-is : started (take (counts .symbols) file) (take (counts .nodes) (opened file tables .tables .score)) (take (counts .nodes) (opened file tables .tables .spans)) begun
+  pub started-is : started (take (counts .symbols) file) (take (counts .nodes) (opened file tables .tables .score))
+      (take (counts .nodes) (opened file tables .tables .spans)) begun
       ≡ outcome (walking.On first) (counting 0 0) (now (es .1 .1 .1 .0)) (now (es .1 .1 .1 .1 .0)) (now (es .1 .1 .1 .1 .1 .0))
   started-is =
       same-start begun (sym s-symbols)
@@ -118,7 +122,8 @@ module _ {file : List ℕ} (bytes : Below 256 file)
 
   -- the walk as starting left it, and after any steps that the contract allows, is the one that the demands speak of
   pub walk-is : {is : List ℕ} {u : Walk}
-      → Walked (lentIn one-file) (nodesIn one-file) (spansIn one-file) (walkOf (now (es .1 .1 .1 .0)) (now (es .1 .1 .1 .1 .0)) (now (es .1 .1 .1 .1 .1 .0)) first) is u
+      → Walked (lentIn one-file) (nodesIn one-file) (spansIn one-file)
+      (walkOf (now (es .1 .1 .1 .0)) (now (es .1 .1 .1 .1 .0)) (now (es .1 .1 .1 .1 .1 .0)) first) is u
       → u ≡ after one-file is
   walk-is {is} s = steps-run (lentIn one-file) (nodesIn one-file) (spansIn one-file) s
       ∙ ap (run (lentIn one-file) (nodesIn one-file) (spansIn one-file) is) (sym (ap (λ (o : WalkOutcome). o .walk) started-is))

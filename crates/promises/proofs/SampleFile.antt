@@ -107,7 +107,8 @@ after-is : (choices : List ℕ) → after one-file choices ≡ run buffer score 
 after-is choices =
     let p : lentIn one-file ≡ buffer =
     ap₂ (λ w s. take 56 (buildOf symbols w s (nines 57) (nines 32768) .plan) ++ (9 ∷ [])) words-are starts-are ∙ ap (λ l. l ++ (9 ∷ [])) plan-is in
-    let b : begunIn one-file ≡ begun 10 walk = ap₂ (λ n s. started symbols n s walk .walk) nodes-are spans-are ∙ ap (λ (o : WalkOutcome). o .walk) start-is in
+    let b : begunIn one-file ≡ begun 10 walk =
+    ap₂ (λ n s. started symbols n s walk .walk) nodes-are spans-are ∙ ap (λ (o : WalkOutcome). o .walk) start-is in
     ap (λ q. run q (nodesIn one-file) (spansIn one-file) choices (begunIn one-file)) p
     ∙ ap₂ (λ n s. run buffer n s choices (begunIn one-file)) nodes-are spans-are
     ∙ ap (run buffer score spans choices) b
@@ -144,11 +145,13 @@ bit-is : (n j : ℕ) → bit (getD (after one-file zeros .marks) n 0) j ≡ bit 
 bit-is n j = ap (λ m. bit (getD m n 0) j) marks-are
 
 pub shape-0-at-2-1 : Matches joinClose (scoreIn one-file) (2 ∷ 1 ∷ [])
-shape-0-at-2-1 = demand-2 one-file .exactly zeros ended 0 joinClose (ap (λ s. getElem? s 0) shapes-are) 6 (2 ∷ 1 ∷ []) (ap (λ t. number t (2 ∷ 1 ∷ [])) tree-is) .0 (bit-is 6 0)
+shape-0-at-2-1 = demand-2 one-file .exactly zeros ended 0 joinClose (ap (λ s. getElem? s 0) shapes-are) 6 (2 ∷ 1 ∷ [])
+    (ap (λ t. number t (2 ∷ 1 ∷ [])) tree-is) .0 (bit-is 6 0)
 
 pub no-shape-1-at-1 : Matches joinJoin (scoreIn one-file) (1 ∷ []) → ⊥
 no-shape-1-at-1 h =
-    let b = demand-2 one-file .exactly zeros ended 1 joinJoin (ap (λ s. getElem? s 1) shapes-are) 1 (1 ∷ []) (ap (λ t. number t (1 ∷ [])) tree-is) .1 h in
+    let b = demand-2 one-file .exactly zeros ended 1 joinJoin (ap (λ s. getElem? s 1) shapes-are) 1 (1 ∷ []) (ap (λ t. number t (1 ∷ [])) tree-is) .1
+    h in
     let z : _≡_ {A = ℕ} 0 1 = sym (bit-is 1 1) ∙ b in
     absurd (omega arith)
 

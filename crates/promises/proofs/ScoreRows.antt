@@ -53,7 +53,8 @@ module _ (ar sc : List ℕ) (first end : ℕ) (whole : first + 2 * length sc ≡
   unfolding scoreOf
   score-row r i e = go (reading ar sc (scoreLimits 0) scoreLevels 0) refl e
     where
-      past : (m : Met) → reading ar sc (scoreLimits 0) scoreLevels 0 ≡ read.Whole m → (b : Bool) → ltb (m .end) (length sc) ≡ b → cond b (score.Refused reason.Surplus (m .end)) score.Whole ≡ score.Refused r i → Row r i
+      past : (m : Met) → reading ar sc (scoreLimits 0) scoreLevels 0 ≡ read.Whole m → (b : Bool) → ltb (m .end) (length sc) ≡ b
+          → cond b (score.Refused reason.Surplus (m .end)) score.Whole ≡ score.Refused r i → Row r i
       past m em false eb d = let z : _≡_ {A = ℕ} 0 1 = cc in absurd (omega arith)
       past m em true eb d =
           let x : reason.Surplus ≡ r = cc in
@@ -83,10 +84,16 @@ module _ (ar sc : List ℕ) (first end : ℕ) (whole : first + 2 * length sc ≡
   pub row-score : {n p : ℕ} → ScoreRow ar sc first end n p → ScoreRefused n p
   unfolding scoreOf
   row-score (row-13 i x) = at-word reason.ScoreWord i (fault-row NoSymbol i x)
-  row-score (row-14 x) = record { word = length sc; place = sym whole; refused = by-reason score.Refused reason.ScoreEnds (fault-row Ends (length sc) x) }
+  row-score (row-14 x) = record {
+    word = length sc;
+    place = sym whole;
+    refused =
+        by-reason score.Refused reason.ScoreEnds (fault-row Ends (length sc) x);
+  }
   row-score (row-15 i x) = at-word reason.ScoreDepth i (fault-row Deep i x)
   row-score (row-16 t fits flat small words h) =
       let b = read-back ar sc (scoreLimits 0) t scoreLevels 0 (drop (span t) sc) fits (omega arith) (omega arith) words in
       at-word reason.Surplus (span t)
-      (ap (λ y. wholeScore y (length sc)) (b .0) ∙ ap (λ x. wholeScore (read.Whole (met x)) (length sc)) (zero-add (span t)) ∙ rw (lt-ltb (span t) (length sc) h) refl)
+      (ap (λ y. wholeScore y (length sc)) (b .0) ∙ ap (λ x. wholeScore (read.Whole (met x)) (length sc)) (zero-add (span t))
+      ∙ rw (lt-ltb (span t) (length sc) h) refl)
   row-score (row-17 x) = at-word reason.ScoreNodes 4096 (fault-row Many 4096 x)

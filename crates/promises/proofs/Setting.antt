@@ -34,7 +34,8 @@ use Rattle.walking.proofs.FolioWalk.{scoredOf, on-plan}
 use Rattle.promises.specs.OneFile.{OneFile, symbolsIn, wordsIn, startsIn, nodesIn, spansIn, shapesIn, scoreIn, planIn, begunIn, after, stepAfter, acceptedIn}
 use Rattle.promises.proofs.Answers.{BuiltAs, built-as, started-as, same-planned}
 
-ap₄ : {A : Type 0} (f : List ℕ → List ℕ → List ℕ → Walk → A) {a a′ b b′ c c′ : List ℕ} {v v′ : Walk} → a ≡ a′ → b ≡ b′ → c ≡ c′ → v ≡ v′ → f a b c v ≡ f a′ b′ c′ v′
+ap₄ : {A : Type 0} (f : List ℕ → List ℕ → List ℕ → Walk → A) {a a′ b b′ c c′ : List ℕ} {v v′ : Walk} → a ≡ a′ → b ≡ b′ → c ≡ c′ → v ≡ v′
+    → f a b c v ≡ f a′ b′ c′ v′
 ap₄ f {a} {a′} {b} {b′} {c} {c′} {v} {v′} p q r s = ap₂ (λ x y. f x y c v) p q ∙ ap₂ (λ x y. f a′ b′ x y) r s
 
 module _ {file : List ℕ} (S : OneFile file) where
@@ -52,7 +53,8 @@ module _ {file : List ℕ} (S : OneFile file) where
 
   counted : S .counts ≡ counts (length (take (p .shapes) file)) (length ss) (length (gather flatten ss)) (span t)
   counted =
-      let z : opening.Folio (S .counts) ≡ opening.Folio (counts (length (take (p .shapes) file)) (length ss) (length (gather flatten ss)) (span t)) = sym (S .opens) ∙ ap (λ (o : OpenOutcome). o .answer) (acc .is) in
+      let z : opening.Folio (S .counts) ≡ opening.Folio (counts (length (take (p .shapes) file)) (length ss) (length (gather flatten ss)) (span t)) =
+      sym (S .opens) ∙ ap (λ (o : OpenOutcome). o .answer) (acc .is) in
       cc
 
   symbols-are : symbolsIn S ≡ take (p .shapes) file
@@ -82,7 +84,8 @@ module _ {file : List ℕ} (S : OneFile file) where
       ∙ stored-back (sizes t) (S .tables .spans) (rw (length-sizes t) (acc .room .spans))
 
   shapes-are : shapesIn S ≡ ss
-  shapes-are = ap₂ shapeTerms symbols-are words-are ∙ shape-terms (take (p .shapes) file) ss (acc .meaning .limits .are-shapes) (acc .meaning .limits .few-shapes)
+  shapes-are = ap₂ shapeTerms symbols-are words-are
+      ∙ shape-terms (take (p .shapes) file) ss (acc .meaning .limits .are-shapes) (acc .meaning .limits .few-shapes)
 
   score-is : scoreIn S ≡ t
   score-is = ap₂ scoreTerm symbols-are nodes-are ∙ score-term (take (p .shapes) file) t (acc .meaning .limits .is-score)
@@ -123,7 +126,8 @@ module _ {file : List ℕ} (S : OneFile file) where
   pub told : Told
   told = on-plan is-folio (length (S .plan)) (S .size .states) (planIn S) (S .behind) plan-is λ F em ew.
       let begins : begunIn S ≡ begun (length (flatten (scoreIn S))) (S .walk) = as-started .1 ∙ ap (λ l. begun (length l) (S .walk)) score-words in
-      let walks : (choices : List ℕ) → after S choices ≡ walkIn F choices (S .walk) = λ choices. ap₄ (λ a b c v. run a b c choices v) ew score-words score-spans begins in
+      let walks : (choices : List ℕ) → after S choices ≡ walkIn F choices (S .walk) =
+      λ choices. ap₄ (λ a b c v. run a b c choices v) ew score-words score-spans begins in
       record {
         folio = F;
         lent = sym (ap (λ l. roomFor (length l) (S .walk)) score-words) ∙ as-started .0;
@@ -149,14 +153,17 @@ module _ {file : List ℕ} (S T : OneFile file) where
   same-symbols = symbols-are S ∙ ap (λ (q : Places). take (q .shapes) file) same-places ∙ sym (symbols-are T)
 
   pub same-shapes : shapesIn S ≡ shapesIn T
-  same-shapes = ap₂ shapeTerms same-symbols (words-are S ∙ sym (acc S .meaning .shape-words) ∙ ap shapePart same-places ∙ acc T .meaning .shape-words ∙ sym (words-are T))
+  same-shapes = ap₂ shapeTerms same-symbols
+      (words-are S ∙ sym (acc S .meaning .shape-words) ∙ ap shapePart same-places ∙ acc T .meaning .shape-words ∙ sym (words-are T))
 
   pub same-score : scoreIn S ≡ scoreIn T
-  same-score = ap₂ scoreTerm same-symbols (nodes-are S ∙ sym (acc S .meaning .score-words) ∙ ap scorePart same-places ∙ acc T .meaning .score-words ∙ sym (nodes-are T))
+  same-score = ap₂ scoreTerm same-symbols
+      (nodes-are S ∙ sym (acc S .meaning .score-words) ∙ ap scorePart same-places ∙ acc T .meaning .score-words ∙ sym (nodes-are T))
 
   pub same-spans : spansIn S ≡ spansIn T
   same-spans = score-spans S ∙ ap sizes same-score ∙ sym (score-spans T)
 
   pub same-states : S .size .states ≡ T .size .states
-  same-states = same-planned (construction (paper (shapesIn T))) (symbolsIn T) (length (shapesIn T)) (length (S .plan)) (length (T .plan)) (S .size .states) (T .size .states) (planIn S) (planIn T)
+  same-states = same-planned (construction (paper (shapesIn T))) (symbolsIn T) (length (shapesIn T)) (length (S .plan)) (length (T .plan))
+      (S .size .states) (T .size .states) (planIn S) (planIn T)
       (sym (ap₂ (λ a xs. planOf a xs (length (S .plan))) same-symbols same-shapes) ∙ plan-is S) (plan-is T)

@@ -63,24 +63,35 @@ module _ (ar ws : List ℕ) (first end : ℕ) (whole : first + 2 * length ws ≡
   by-fault at Many i x = let z = many-at-stop ar ws (shapeLimits blankWord at) (x .fault) (omega arith) in rw z (row-10 at (rw z at x))
   by-fault at Deep i x = row-11 at i x
 
-  one-more : (at e n : ℕ) → at < length ws → getD ws at 0 < blankWord → e ≤ at + 16 → (a : TermAt ar ws blankWord shapeLevels at e) → ShapesTo ar ws at n → ShapesTo ar ws e (n + 1)
+  one-more : (at e n : ℕ) → at < length ws → getD ws at 0 < blankWord → e ≤ at + 16 → (a : TermAt ar ws blankWord shapeLevels at e)
+      → ShapesTo ar ws at n → ShapesTo ar ws e (n + 1)
   one-more at e n h g few a s =
       let t = a .tree in
-      let is : IsShape ar t = record { fits = a .fits; flat = omega (arith, a .flat); small = omega (arith, a .size, few); solid = solid ar ws shapeLevels at e a h g } in
-      let split : gather flatten (s .shapes ++ (t ∷ [])) ≡ gather flatten (s .shapes) ++ flatten t = gather-append flatten (s .shapes) (t ∷ []) ∙ ap (λ x. gather flatten (s .shapes) ++ x) (append-nil (flatten t)) in
+      let is : IsShape ar t = record {
+        fits = a .fits;
+        flat = omega (arith, a .flat);
+        small = omega (arith, a .size, few);
+        solid =
+            solid ar ws shapeLevels at e a h g;
+      } in
+      let split : gather flatten (s .shapes ++ (t ∷ [])) ≡ gather flatten (s .shapes) ++ flatten t =
+      gather-append flatten (s .shapes) (t ∷ []) ∙ ap (λ x. gather flatten (s .shapes) ++ x) (append-nil (flatten t)) in
       record {
         shapes = s .shapes ++ (t ∷ []);
         many = length-append (s .shapes) (t ∷ []) ∙ ap (λ x. x + 1) (s .many);
         each = λ u m. ⊎-elim (s .each u) (λ x. subst (IsShape ar) (sym (in-one x)) is) (∈-append (s .shapes) m);
-        words = s .words ∙ ap (λ x. gather flatten (s .shapes) ++ x) (a .words) ∙ sym (append-assoc (gather flatten (s .shapes)) (flatten t) (drop e ws)) ∙ ap (λ x. x ++ drop e ws) (sym split);
-        size = let b = ap length split ∙ length-append (gather flatten (s .shapes)) (flatten t) in omega (arith, a .size, s .size, b, length-flatten t);
+        words = s .words ∙ ap (λ x. gather flatten (s .shapes) ++ x) (a .words)
+            ∙ sym (append-assoc (gather flatten (s .shapes)) (flatten t) (drop e ws)) ∙ ap (λ x. x ++ drop e ws) (sym split);
+        size = let b = ap length split ∙ length-append (gather flatten (s .shapes)) (flatten t) in
+            omega (arith, a .size, s .size, b, length-flatten t);
       }
 
   from-row : (c n at : ℕ) (r : Reason) (i : ℕ) → n + c ≡ 16 → ShapesTo ar ws at n → all c n at .answer ≡ shapes.Refused r i → Row r i
   unfolding shapesFrom
   from-row zero n at r i h s e = go (ltb at (length ws)) refl e
     where
-      go : (b : Bool) → ltb at (length ws) ≡ b → cond b (shapesRead (shapes.Refused reason.Shapes at) []) (shapesRead (shapes.Whole n) []) .answer ≡ shapes.Refused r i → Row r i
+      go : (b : Bool) → ltb at (length ws) ≡ b
+          → cond b (shapesRead (shapes.Refused reason.Shapes at) []) (shapesRead (shapes.Whole n) []) .answer ≡ shapes.Refused r i → Row r i
       go false eb d = not-refused d
       go true eb d =
           let x : reason.Shapes ≡ r = cc in
@@ -88,16 +99,25 @@ module _ (ar ws : List ℕ) (first end : ℕ) (whole : first + 2 * length ws ≡
           let z : n ≡ 16 = omega arith in
           rw (← x, ← y) (row-12-more at (ltb-true at (length ws) eb) (rw z at s))
   from-row (suc c) n at r i h s e =
-      go (ltb at (length ws)) refl (reading ar ws (shapeLimits blankWord at) shapeLevels at) refl (leb blankWord (getD ws at 0)) refl e (λ e s′. from-row c (n + 1) e r i (omega arith) s′)
+      go (ltb at (length ws)) refl (reading ar ws (shapeLimits blankWord at) shapeLevels at) refl (leb blankWord (getD ws at 0)) refl e
+      (λ e s′. from-row c (n + 1) e r i (omega arith) s′)
     where
-      go : (b : Bool) → ltb at (length ws) ≡ b → (x : Reading) → reading ar ws (shapeLimits blankWord at) shapeLevels at ≡ x → (lone : Bool) → leb blankWord (getD ws at 0) ≡ lone
+      go : (b : Bool) → ltb at (length ws) ≡ b → (x : Reading) → reading ar ws (shapeLimits blankWord at) shapeLevels at ≡ x → (lone : Bool)
+          → leb blankWord (getD ws at 0) ≡ lone
           → cond b (oneShape x at lone (all c (n + 1))) (shapesRead (shapes.Whole n) []) .answer ≡ shapes.Refused r i
           → ((e : ℕ) → ShapesTo ar ws e (n + 1) → all c (n + 1) e .answer ≡ shapes.Refused r i → Row r i) → Row r i
       go false eb x ex lone el d ih = not-refused d
       go true eb (read.Refused f p) ex lone el d ih =
           let y : shapeReason f ≡ r = cc in
           let z : p ≡ i = cc in
-          rw (← y, ← z) (by-fault at f p (record { number = n; one-of-16 = omega arith; begins = ltb-true at (length ws) eb; before = s; fault = fault-of ar ws (shapeLimits blankWord at) shapeLevels at f p ex }))
+          rw (← y, ← z) (by-fault at f p (record {
+            number = n;
+            one-of-16 = omega arith;
+            begins = ltb-true at (length ws) eb;
+            before = s;
+            fault =
+                fault-of ar ws (shapeLimits blankWord at) shapeLevels at f p ex;
+          }))
       go true eb (read.Whole m) ex true el d ih =
           let y : reason.LoneBlank ≡ r = cc in
           let z : at ≡ i = cc in
@@ -114,7 +134,8 @@ module _ (ar ws : List ℕ) (first end : ℕ) (whole : first + 2 * length ws ≡
   unfolding shapesOf
   shape-row r i e = go (ltb 0 (length ws)) refl e
     where
-      go : (b : Bool) → ltb 0 (length ws) ≡ b → cond b (all 16 0 0) (shapesRead (shapes.Refused reason.Shapes 0) []) .answer ≡ shapes.Refused r i → Row r i
+      go : (b : Bool) → ltb 0 (length ws) ≡ b → cond b (all 16 0 0) (shapesRead (shapes.Refused reason.Shapes 0) []) .answer ≡ shapes.Refused r i
+          → Row r i
       go true eb d = from-row 16 0 0 r i refl none-yet d
       go false eb d =
           let x : reason.Shapes ≡ r = cc in
@@ -140,9 +161,11 @@ module _ (ar ws : List ℕ) (first end : ℕ) (whole : first + 2 * length ws ≡
       let b = read-back ar ws (shapeLimits blankWord at) t shapeLevels at (gather flatten ts ++ r) (one .fits) (omega arith) (omega arith) q in
       let ih = past ts c (n + 1) (at + span t) r (λ u m. s u (there m)) (b .1) in
       let more : suc (length ts) + c ≡ suc (length ts + c) = omega arith in
-      let step : all (suc (length ts + c)) n at ≡ push at (all (length ts + c) (n + 1) (at + span t)) = rw (lt-ltb _ _ (w .0), b .0, lt-leb _ _ (w .1)) in
+      let step : all (suc (length ts + c)) n at ≡ push at (all (length ts + c) (n + 1) (at + span t)) =
+      rw (lt-ltb _ _ (w .0), b .0, lt-leb _ _ (w .1)) in
       let y : n + 1 + length ts ≡ n + suc (length ts) = omega arith in
-      let z : at + span t + length (gather flatten ts) ≡ at + length (flatten t ++ gather flatten ts) = omega (arith, length-append (flatten t) (gather flatten ts), length-flatten t) in
+      let z : at + span t + length (gather flatten ts) ≡ at + length (flatten t ++ gather flatten ts) =
+      omega (arith, length-append (flatten t) (gather flatten ts), length-flatten t) in
       ap (λ x. all x n at .answer) more ∙ ap (λ (x : ShapesRead). x .answer) step ∙ ih ∙ ap₂ (λ a b. all c a b .answer) y z
 
   to-there : (at n c : ℕ) → n + c ≡ 16 → ShapesTo ar ws at n → 0 < length ws → shapesOf ar blankWord ws .answer ≡ all c n at .answer
@@ -151,7 +174,8 @@ module _ (ar ws : List ℕ) (first end : ℕ) (whole : first + 2 * length ws ≡
       let k : length (s .shapes) + c ≡ 16 = omega (arith, s .many) in
       let y : 0 + length (s .shapes) ≡ n = omega (arith, s .many) in
       let z : 0 + length (gather flatten (s .shapes)) ≡ at = omega (arith, s .size) in
-      ap (λ (x : ShapesRead). x .answer) (shapes-some ar blankWord ws (λ e. omega arith)) ∙ ap (λ x. all x 0 0 .answer) (sym k) ∙ p ∙ ap₂ (λ a b. all c a b .answer) y z
+      ap (λ (x : ShapesRead). x .answer) (shapes-some ar blankWord ws (λ e. omega arith)) ∙ ap (λ x. all x 0 0 .answer) (sym k) ∙ p
+      ∙ ap₂ (λ a b. all c a b .answer) y z
 
   fault-row : (at : ℕ) (f : Fault) (i : ℕ) → ShapeFault ar ws at f i → shapesOf ar blankWord ws .answer ≡ shapes.Refused (shapeReason f) i
   unfolding shapesFrom
@@ -174,15 +198,27 @@ module _ (ar ws : List ℕ) (first end : ℕ) (whole : first + 2 * length ws ≡
   pub row-shape : {n p : ℕ} → ShapeRow ar ws first end n p → ShapesRefused n p
   unfolding shapesFrom
   row-shape (row-7 at i x) = at-word reason.ShapeWord i (fault-row at NoSymbol i x)
-  row-shape (row-8 at x) = record { word = length ws; place = sym whole; refused = by-reason shapes.Refused reason.ShapeEnds (fault-row at Ends (length ws) x) }
+  row-shape (row-8 at x) = record {
+    word = length ws;
+    place = sym whole;
+    refused = by-reason shapes.Refused reason.ShapeEnds
+        (fault-row at Ends (length ws) x);
+  }
   row-shape (row-9 i n few h s b) =
-      at-word reason.LoneBlank i (to-there i n (suc (15 - n)) (omega arith) s (omega arith) ∙ rw (lt-ltb i (length ws) h, lone i h b, le-leb blankWord (getD ws i 0) b) refl)
+      at-word reason.LoneBlank i (to-there i n (suc (15 - n)) (omega arith) s (omega arith)
+      ∙ rw (lt-ltb i (length ws) h, lone i h b, le-leb blankWord (getD ws i 0) b) refl)
     where
       lone : (i : ℕ) → i < length ws → blankWord ≤ getD ws i 0 → reading ar ws (shapeLimits blankWord i) shapeLevels i ≡ read.Whole (met (i + 1))
-      lone i h b = read-back ar ws (shapeLimits blankWord i) (blank (getD ws i 0)) shapeLevels i (drop (i + 1) ws) b (omega arith) (omega arith) (from ws i h) .0
+      lone i h b = read-back ar ws (shapeLimits blankWord i) (blank (getD ws i 0)) shapeLevels i (drop (i + 1) ws) b (omega arith) (omega arith)
+          (from ws i h) .0
   row-shape (row-10 at x) = at-word reason.ShapeNodes (at + 16) (fault-row at Many (at + 16) x)
   row-shape (row-11 at i x) = at-word reason.ShapeDepth i (fault-row at Deep i x)
-  row-shape (row-12-none e) = record { word = 0; place = omega arith; refused = by-reason shapes.Refused reason.Shapes (ap (λ (x : ShapesRead). x .answer) (shapes-none ar blankWord ws e)) }
+  row-shape (row-12-none e) = record {
+    word = 0;
+    place = omega arith;
+    refused = by-reason shapes.Refused reason.Shapes
+        (ap (λ (x : ShapesRead). x .answer) (shapes-none ar blankWord ws e));
+  }
   row-shape (row-12-more i h s) = at-word reason.Shapes i (to-there i 16 0 refl s (omega arith) ∙ rw (lt-ltb i (length ws) h) refl)
 
 -- ---- where they give nothing

@@ -96,7 +96,8 @@ module _ (plan score spans : List ℕ) (i : ℕ) (w : Walk) where
   item = (getD (w .items) (2 * i) 0, getD (w .items) (2 * i + 1) 0)
 
   module _ (waits : i < w .count .waiting) where
-    all-items : 2 * w .count .waiting ≤ length (w .items) → pairs (w .count .waiting) (w .items) ≡ some (its, drop (0 + 2 * w .count .waiting) (w .items))
+    all-items : 2 * w .count .waiting ≤ length (w .items)
+        → pairs (w .count .waiting) (w .items) ≡ some (its, drop (0 + 2 * w .count .waiting) (w .items))
     all-items h = pairs-list (w .count .waiting) (w .items) 0 (omega arith)
 
     the-item : getElem? its i ≡ some item
@@ -113,7 +114,8 @@ module _ (plan score spans : List ℕ) (i : ℕ) (w : Walk) where
         (item-look plan score spans (item .0) (item .1) found (s .item))
         (both (lt-ltb (w .count .logged) (length (w .log)) (s .log-room))
         (both (le-leb (2 * length its′) (length (w .items)) after)
-        (all-of (λ x. ltb (x .1) (length (w .marks))) (found .outs) (λ y m. on-in m (λ j e. lt-ltb (y .1) (length (w .marks)) (s .marks-there j y e))))))
+        (all-of (λ x. ltb (x .1) (length (w .marks))) (found .outs)
+        (λ y m. on-in m (λ j e. lt-ltb (y .1) (length (w .marks)) (s .marks-there j y e))))))
         ∙ ap some (sym (s .after))
 
     tried-found : (v : Walk) → tried plan score spans i w ≡ some v → StepFound plan score spans i w v
@@ -149,7 +151,8 @@ module _ (plan score spans : List ℕ) (i : ℕ) (w : Walk) where
   unfolding stepped
   step-row = go (decLt i (w .count .waiting)) (tried plan score spans i w) refl
     where
-      go : Dec (i < w .count .waiting) → (o : Option Walk) → tried plan score spans i w ≡ o → StepRow plan score spans i w (walkTold (stepped plan score spans i w))
+      go : Dec (i < w .count .waiting) → (o : Option Walk) → tried plan score spans i w ≡ o
+          → StepRow plan score spans i w (walkTold (stepped plan score spans i w))
       go (no h) o e = let k : w .count .waiting ≤ i = omega arith in rw (le-ltb i (w .count .waiting) k) (rows.step-32 k)
       go (yes h) none e = rw (lt-ltb i (w .count .waiting) h, e) (rows.step-34 h (λ v s. none-not (sym e ∙ found-tried h v s)))
       go (yes h) (some v) e = rw (lt-ltb i (w .count .waiting) h, e) (rows.takes h v (tried-found h v e))

@@ -33,11 +33,13 @@ module _ (ar shapes score : List ℕ) (small : Below 65536 score) where
   standing-is _ _ (in-shapes at t g s b) =
       let flat = s .flat in
       let few = s .small in
-      subtree-shape ar shapes score g at ∙ piece-term ar shapes (shapeLimits blankWord at) shapeLevels at t (b .0) (s .fits) (omega arith) (omega arith) (b .1)
+      subtree-shape ar shapes score g at ∙ piece-term ar shapes (shapeLimits blankWord at) shapeLevels at t (b .0) (s .fits) (omega arith)
+      (omega arith) (b .1)
   standing-is _ _ (in-score x t g s b) =
       let flat = s .flat in
       let few = s .small in
-      subtree-score ar shapes score g x ∙ piece-term ar score (scoreLimits (x .0)) scoreLevels (x .0) t (b .0) (s .fits) (omega arith) (omega arith) (b .1)
+      subtree-score ar shapes score g x ∙ piece-term ar score (scoreLimits (x .0)) scoreLevels (x .0) t (b .0) (s .fits) (omega arith) (omega arith)
+      (b .1)
 
   -- words of a slice have no word from 65,536 on, so a term of them has no blank
   words-small : (at e : ℕ) (t : Term) → drop at score ≡ flatten t ++ drop e score → (w : ℕ) → w ∈ flatten t → w < 65536
@@ -64,14 +66,16 @@ module _ (ar shapes score : List ℕ) (small : Below 65536 score) where
         go (inl p) =
             let t = p .term in
             let whole = whole-of ar (t .tree) (t .fits) (words-small (x .0) (p .end) (t .tree) (t .words)) in
-            let is : IsScore ar (t .tree) = record { fits = t .fits; whole = whole; flat = omega (arith, t .flat); small = omega (arith, p .inside, t .size) } in
+            let is : IsScore ar (t .tree) =
+            record { fits = t .fits; whole = whole; flat = omega (arith, t .flat); small = omega (arith, p .inside, t .size) } in
             inl (t .tree, in-score x (t .tree) g is (drop (p .end) score, t .words))
 
   subtree-bad : (w : Asked) → symbolsGood ar ≡ false → subtreeAt w ar shapes score ≡ []
   unfolding subtreeAt
   subtree-bad w e = rw e refl
 
-  either : (w : Asked) → (symbolsGood ar ≡ true) ⊎ (symbolsGood ar ≡ false) → ((t : Term) × Standing ar shapes score w t) ⊎ (subtreeAt w ar shapes score ≡ [])
+  either : (w : Asked) → (symbolsGood ar ≡ true) ⊎ (symbolsGood ar ≡ false) → ((t : Term) × Standing ar shapes score w t)
+      ⊎ (subtreeAt w ar shapes score ≡ [])
   either w (inr e) = inr (subtree-bad w e)
   either (asked.Shapes at) (inl e) = shape-either (symbols-is ar (symbols-good-is ar e)) at
   either (asked.Score x) (inl e) = score-either (symbols-is ar (symbols-good-is ar e)) x
@@ -82,4 +86,5 @@ module _ (ar shapes score : List ℕ) (small : Below 65536 score) where
   words-say (node f ts) = refl
 
   pub by-subtree : (w : Asked) → By (FoundRow (Standing ar shapes score w) flatten) (partSays (subtreeAt w ar shapes score))
-  by-subtree w = by-found (Standing ar shapes score w) flatten partSays [] flatten (subtreeAt w ar shapes score) refl words-say (standing-is w) (either w (test (symbolsGood ar)))
+  by-subtree w = by-found (Standing ar shapes score w) flatten partSays [] flatten (subtreeAt w ar shapes score) refl words-say (standing-is w)
+      (either w (test (symbolsGood ar)))

@@ -35,7 +35,8 @@ not-refused e = never (sym e)
 -- ---- 4
 
 module _ (e a b c : ℕ) where
-  distances-refused : (r : Reason) (p : ℕ) → distancesOf e a b c ≡ Refused r p → (Trailer ≡ r) × (e ≡ p) × ((a ≡ e) × (b ≤ a) × (c ≤ b) × (b % 2 ≡ 0) × (c % 2 ≡ 0) → ⊥)
+  distances-refused : (r : Reason) (p : ℕ) → distancesOf e a b c ≡ Refused r p → (Trailer ≡ r) × (e ≡ p)
+      × ((a ≡ e) × (b ≤ a) × (c ≤ b) × (b % 2 ≡ 0) × (c % 2 ≡ 0) → ⊥)
   unfolding distancesOf
   distances-refused r p h =
       on-test (eqb a e) _ _ _ h (λ t x. told x (λ d. eqb-false a e t (d .0))) λ t₁ h₁.
@@ -48,7 +49,8 @@ module _ (e a b c : ℕ) where
       told : {N : Type 0} → Refused Trailer e ≡ Refused r p → N → (Trailer ≡ r) × (e ≡ p) × N
       told x n = let y : Trailer ≡ r = cc in let z : e ≡ p = cc in (y, z, n)
 
-  distances-placed : (q : Places) → distancesOf e a b c ≡ At q → ((a ≡ e) × (b ≤ a) × (c ≤ b) × (b % 2 ≡ 0) × (c % 2 ≡ 0)) × (q ≡ places (e - b) (e - c) e)
+  distances-placed : (q : Places) → distancesOf e a b c ≡ At q → ((a ≡ e) × (b ≤ a) × (c ≤ b) × (b % 2 ≡ 0) × (c % 2 ≡ 0))
+      × (q ≡ places (e - b) (e - c) e)
   unfolding distancesOf
   distances-placed q h =
       on-test (eqb a e) _ _ _ h (λ t x. never x) λ t₁ h₁.
@@ -72,11 +74,17 @@ module _ (file : List ℕ) where
   pub trailer-row : (r : Reason) (p : ℕ) → trailerOf file ≡ Refused r p → TrailerRow file (numberOf r) p
   unfolding trailerOf
   trailer-row r p h =
-      on-test (leb 8 (length file)) _ _ _ h (λ t x. let y : Short ≡ r = cc in let z : length file ≡ p = cc in rw (← y, ← z) (row-1 (leb-false 8 (length file) t))) λ t₁ h₁.
-      on-test (leb (length file) 8744) _ _ _ h₁ (λ t x. let y : Long ≡ r = cc in let z : length file ≡ p = cc in rw (← y, ← z) (row-2 (leb-false (length file) 8744 t))) λ t₂ h₂.
+      on-test (leb 8 (length file)) _ _ _ h
+      (λ t x. let y : Short ≡ r = cc in let z : length file ≡ p = cc in rw (← y, ← z) (row-1 (leb-false 8 (length file) t))) λ t₁ h₁.
+      on-test (leb (length file) 8744) _ _ _ h₁
+      (λ t x. let y : Long ≡ r = cc in let z : length file ≡ p = cc in rw (← y, ← z) (row-2 (leb-false (length file) 8744 t))) λ t₂ h₂.
       let sized : Sized file = (leb-true 8 (length file) t₁, leb-true (length file) 8744 t₂) in
-      on-test (eqb (getD file (length file - 2) 0) 83) _ _ _ h₂ (λ t x. let y : EndBytes ≡ r = cc in let z : length file - 2 ≡ p = cc in rw (← y, ← z) (row-3 sized (λ d. eqb-false (getD file (length file - 2) 0) 83 t (d .0)))) λ t₃ h₃.
-      on-test (eqb (getD file (length file - 1) 0) 67) _ _ _ h₃ (λ t x. let y : EndBytes ≡ r = cc in let z : length file - 2 ≡ p = cc in rw (← y, ← z) (row-3 sized (λ d. eqb-false (getD file (length file - 1) 0) 67 t (d .1)))) λ t₄ h₄.
+      on-test (eqb (getD file (length file - 2) 0) 83) _ _ _ h₂
+      (λ t x. let y : EndBytes ≡ r = cc in let z : length file - 2 ≡ p = cc in
+      rw (← y, ← z) (row-3 sized (λ d. eqb-false (getD file (length file - 2) 0) 83 t (d .0)))) λ t₃ h₃.
+      on-test (eqb (getD file (length file - 1) 0) 67) _ _ _ h₃
+      (λ t x. let y : EndBytes ≡ r = cc in let z : length file - 2 ≡ p = cc in
+      rw (← y, ← z) (row-3 sized (λ d. eqb-false (getD file (length file - 1) 0) 67 t (d .1)))) λ t₄ h₄.
       let signed : Signed file = (eqb-true (getD file (length file - 2) 0) 83 t₃, eqb-true (getD file (length file - 1) 0) 67 t₄) in
       let d = distances-refused (trailerAt file) (toSymbols file) (toShapes file) (toScore file) r p h₄ in
       rw (← (d .0), ← (d .1)) (row-4 sized signed (d .2))
@@ -102,7 +110,8 @@ module _ (file : List ℕ) where
   pub framed-trailer : (q : Places) → Framed file q → trailerOf file ≡ At q
   framed-trailer q f =
       let d = f .distanced in
-      to-distances (f .sized) (f .signed) ∙ distances-at (trailerAt file) (toSymbols file) (toShapes file) (toScore file) (d .0) (d .1) (d .2) (d .3) (d .4) ∙ ap At (sym (f .at))
+      to-distances (f .sized) (f .signed)
+      ∙ distances-at (trailerAt file) (toSymbols file) (toShapes file) (toScore file) (d .0) (d .1) (d .2) (d .3) (d .4) ∙ ap At (sym (f .at))
 
   not-signed : Sized file → (Signed file → ⊥) → trailerOf file ≡ Refused EndBytes (length file - 2)
   not-signed s n = go (ℕ-discrete (getD file (length file - 2) 0) 83)
@@ -115,7 +124,8 @@ module _ (file : List ℕ) where
   row-trailer (row-1 h) = by-reason Refused Short (trailer-short file h)
   row-trailer (row-2 h) = by-reason Refused Long (trailer-long file (omega arith) h)
   row-trailer (row-3 s n) = by-reason Refused EndBytes (not-signed s n)
-  row-trailer (row-4 s t n) = by-reason Refused Trailer (to-distances s t ∙ distances-not (trailerAt file) (toSymbols file) (toShapes file) (toScore file) n)
+  row-trailer (row-4 s t n) = by-reason Refused Trailer
+      (to-distances s t ∙ distances-not (trailerAt file) (toSymbols file) (toShapes file) (toScore file) n)
 
 -- ---- 5, 6
 on-symbols {κ} : {C : Type κ} (t : Bool) (x y z : Verdict) → unless t x y ≡ z → (t ≡ false → x ≡ z → C) → (t ≡ true → y ≡ z → C) → C
@@ -135,7 +145,8 @@ unfolding overAt
 over-at [] k r p e = let z : _≡_ {A = ℕ} 0 1 = cc in absurd (omega arith)
 over-at (x ∷ xs) k r p e =
     on-symbols (leb x 4) _ _ _ e
-    (λ t d. let y : Children ≡ r = cc in let z : k ≡ p = cc in (y, record { index = 0; place = omega arith; inside = omega arith; over = leb-false x 4 t; first = λ i h. absurd (omega arith) }))
+    (λ t d. let y : Children ≡ r = cc in let z : k ≡ p = cc in
+    (y, record { index = 0; place = omega arith; inside = omega arith; over = leb-false x 4 t; first = λ i h. absurd (omega arith) }))
     (λ t d. let o = over-at xs (k + 1) r p d in (o .0, more (leb-true x 4 t) (o .1)))
   where
     more : x ≤ 4 → Over xs (k + 1) p → Over (x ∷ xs) k p
@@ -157,8 +168,12 @@ module _ (ar : List ℕ) where
   pub symbol-row : (r : Reason) (p : ℕ) → symbolsOf ar ≡ Bad r p → SymbolRow ar (numberOf r) p
   unfolding symbolsOf
   symbol-row r p e =
-      on-symbols (leb 1 (length ar)) _ _ _ e (λ t d. let y : Symbols ≡ r = cc in let z : 0 ≡ p = cc in rw (← y, ← z) (row-5 (λ n. let f = leb-false 1 (length ar) t in let g = n .0 in omega arith))) λ t₁ e₁.
-      on-symbols (leb (length ar) 32) _ _ _ e₁ (λ t d. let y : Symbols ≡ r = cc in let z : 0 ≡ p = cc in rw (← y, ← z) (row-5 (λ n. let f = leb-false (length ar) 32 t in let g = n .1 in omega arith))) λ t₂ e₂.
+      on-symbols (leb 1 (length ar)) _ _ _ e
+      (λ t d. let y : Symbols ≡ r = cc in let z : 0 ≡ p = cc in
+      rw (← y, ← z) (row-5 (λ n. let f = leb-false 1 (length ar) t in let g = n .0 in omega arith))) λ t₁ e₁.
+      on-symbols (leb (length ar) 32) _ _ _ e₁
+      (λ t d. let y : Symbols ≡ r = cc in let z : 0 ≡ p = cc in
+      rw (← y, ← z) (row-5 (λ n. let f = leb-false (length ar) 32 t in let g = n .1 in omega arith))) λ t₂ e₂.
       let o = over-at ar 0 r p e₂ in
       let x = o .1 in
       let z : x .index ≡ p = omega (arith, x .place) in
@@ -171,4 +186,5 @@ module _ (ar : List ℕ) where
       go (yes h) d = symbols-none ar h
       go (no h) (yes k) = symbols-many ar (omega arith) k
       go (no h) (no k) = absurd (n (omega arith))
-  row-symbol (row-6 a b p h o f) = let z : 0 + p ≡ p = omega arith in by-reason Bad Children (symbols-each ar a b ∙ at-over ar 0 p h o f ∙ ap (Bad Children) z)
+  row-symbol (row-6 a b p h o f) = let z : 0 + p ≡ p = omega arith in
+      by-reason Bad Children (symbols-each ar a b ∙ at-over ar 0 p h o f ∙ ap (Bad Children) z)

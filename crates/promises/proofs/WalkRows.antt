@@ -40,13 +40,19 @@ module _ (ar score spans : List ℕ) (small : Below 65536 score) where
 
   module _ (w : Walk) where
     room-is : Roomy ar score spans w → roomFor (length score) w ≡ true
-    room-is r = both (le-leb (2 * length score) (length (w .items)) (r .0)) (both (le-leb (length score) (length (w .log)) (r .1)) (le-leb (length score) (length (w .marks)) (r .2)))
+    room-is r = both (le-leb (2 * length score) (length (w .items)) (r .0))
+        (both (le-leb (length score) (length (w .log)) (r .1)) (le-leb (length score) (length (w .marks)) (r .2)))
 
     is-room : roomFor (length score) w ≡ true → Roomy ar score spans w
     is-room e =
         let a = and-l (leb (length score) (length (w .log)) && leb (length score) (length (w .marks))) e in
-        let b = and-r (leb (2 * length score) (length (w .items))) e in
-        (leb-true (2 * length score) (length (w .items)) a, leb-true (length score) (length (w .log)) (and-l (leb (length score) (length (w .marks))) b), leb-true (length score) (length (w .marks)) (and-r (leb (length score) (length (w .log))) b))
+        let b = and-r (leb (2 * length score) (length (w .items))) e in (
+          leb-true (2 * length score) (length (w .items)) a,
+          leb-true (length score) (length (w .log))
+              (and-l (leb (length score) (length (w .marks))) b),
+          leb-true (length score) (length (w .marks))
+              (and-r (leb (length score) (length (w .log))) b),
+        )
 
     no-room : (Roomy ar score spans w → ⊥) → roomFor (length score) w ≡ false
     no-room n = go (test (roomFor (length score) w))
@@ -70,7 +76,8 @@ module _ (ar score spans : List ℕ) (small : Below 65536 score) where
     start-row : StartRow ar score spans w (walkTold (started ar score spans w))
     start-row = go (score-or-not (test (scoreGood ar score spans))) (test (roomFor (length score) w))
       where
-        go : Good ar score spans ⊎ (Good ar score spans → ⊥) → (roomFor (length score) w ≡ true) ⊎ (roomFor (length score) w ≡ false) → StartRow ar score spans w (walkTold (started ar score spans w))
+        go : Good ar score spans ⊎ (Good ar score spans → ⊥) → (roomFor (length score) w ≡ true) ⊎ (roomFor (length score) w ≡ false)
+            → StartRow ar score spans w (walkTold (started ar score spans w))
         go (inr n) d = rw (started-bad (score-bad n)) (rows.start-31 n)
         go (inl g) (inr d) = rw (started-short (score-fine g) d) (rows.start-30 g (λ r. false-true (sym d ∙ room-is r)))
         go (inl g) (inl d) = rw (started-on (score-fine g) d) (rows.starts g (is-room d))
@@ -92,14 +99,16 @@ module _ (ar score spans : List ℕ) (small : Below 65536 score) where
     unfolding counted
     counted-short e h = rw (e, lt-leb (length score) (length marks) h) refl
 
-    counted-on : scoreGood ar score spans ≡ true → length score ≤ length marks → counted f ar score spans marks ≡ count.Number (f (take (length score) marks))
+    counted-on : scoreGood ar score spans ≡ true → length score ≤ length marks
+        → counted f ar score spans marks ≡ count.Number (f (take (length score) marks))
     unfolding counted
     counted-on e h = rw (e, le-leb (length score) (length marks) h) refl
 
     count-row : CountRow ar score spans f marks (countedSays (counted f ar score spans marks))
     count-row = go (score-or-not (test (scoreGood ar score spans))) (decLt (length marks) (length score))
       where
-        go : Good ar score spans ⊎ (Good ar score spans → ⊥) → Dec (length marks < length score) → CountRow ar score spans f marks (countedSays (counted f ar score spans marks))
+        go : Good ar score spans ⊎ (Good ar score spans → ⊥) → Dec (length marks < length score)
+            → CountRow ar score spans f marks (countedSays (counted f ar score spans marks))
         go (inr n) d = rw (counted-bad (score-bad n)) (rows.count-31 n)
         go (inl g) (yes h) = rw (counted-short (score-fine g) h) (rows.count-30 g h)
         go (inl g) (no h) = let k : length score ≤ length marks = omega arith in rw (counted-on (score-fine g) k) (rows.counts g k)

@@ -21,5 +21,8 @@ use Rattle.report.specs.Paths.{childOn, pathTo, pathOf}
 use Rattle.report.specs.Text.{digitsTo, digits, dotted, pathText, texts, lines, report}
 
 unfoldable pub computing : ℕ
-unfolding decodeTo childrenOf headOf reading over spansOf sibling childAt follow target wordsOf distancesOf trailerOf overAt symbolsOf sectionsOf shapesFrom shapesOf scoreOf stored held opened symbolsGood shapesGood scoreGood pieceAt subtreeAt cleared buildOf pairs countedPairs blockAt labelWord blockOf pairAt pairIn labelOf lengthsOf announcementOf successorOf started targets look marked tried stepped run runBy anyTo someMatch numberAt total counted childOn pathTo pathOf digitsTo digits dotted pathText texts lines report written
+unfolding decodeTo childrenOf headOf reading over spansOf sibling childAt follow target wordsOf distancesOf trailerOf overAt symbolsOf sectionsOf
+    shapesFrom shapesOf scoreOf stored held opened symbolsGood shapesGood scoreGood pieceAt subtreeAt cleared buildOf pairs countedPairs blockAt
+    labelWord blockOf pairAt pairIn labelOf lengthsOf announcementOf successorOf started targets look marked tried stepped run runBy anyTo someMatch
+    numberAt total counted childOn pathTo pathOf digitsTo digits dotted pathText texts lines report written
 computing = 0

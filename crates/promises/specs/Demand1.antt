@@ -63,7 +63,8 @@ walkTold o = told (walkedSays (o .answer)) (o .walk)
 pub data OpenRow (file : List ℕ) (l : Lent) : Told Lent → Type 0 where
   refused : (n p : ℕ) → Given file l n p → OpenRow file l (told (refusal n p) l)
   opens : (at : Places) → Framed file at → (m : Meaning file at) → Room l (length (gather flatten (m .shapes))) (length (m .shapes)) (span (m .score))
-      → OpenRow file l (told (gives (length (symbolsAt file at) ∷ length (m .shapes) ∷ length (gather flatten (m .shapes)) ∷ span (m .score) ∷ [])) (answered (symbolsAt file at) (m .shapes) (m .score) l .tables))
+      → OpenRow file l (told (gives (length (symbolsAt file at) ∷ length (m .shapes) ∷ length (gather flatten (m .shapes)) ∷ span (m .score) ∷ []))
+      (answered (symbolsAt file at) (m .shapes) (m .score) l .tables))
 
 -- ---- building
 module _ (ar ws : List ℕ) where
@@ -81,11 +82,15 @@ module _ (ar ws st plan scratch : List ℕ) where
   pub data BuildRow : Told (List ℕ × List ℕ) → Type 0 where
     build-19 : (GoodShapes → ⊥) → BuildRow (told (refusal 19 0) (plan, scratch))
     build-23 : GoodShapes → length scratch < scratchWords → BuildRow (told (refusal 23 0) (plan, scratch))
-    build-20 : GoodShapes → scratchWords ≤ length scratch → (i : ℕ) → OverGoals (paperOf ar ws) ar i → BuildRow (told (refusal 20 i) (plan, cleared scratch))
-    build-21 : GoodShapes → scratchWords ≤ length scratch → (i : ℕ) → OverStates (paperOf ar ws) ar i → BuildRow (told (refusal 21 i) (plan, cleared scratch))
-    build-22 : GoodShapes → scratchWords ≤ length scratch → (ss : List (State Ob)) → AllMet (paperOf ar ws) ar ss → TooLong (length plan) (wordsFor ar ws ss)
+    build-20 : GoodShapes → scratchWords ≤ length scratch → (i : ℕ) → OverGoals (paperOf ar ws) ar i
+        → BuildRow (told (refusal 20 i) (plan, cleared scratch))
+    build-21 : GoodShapes → scratchWords ≤ length scratch → (i : ℕ) → OverStates (paperOf ar ws) ar i
+        → BuildRow (told (refusal 21 i) (plan, cleared scratch))
+    build-22 : GoodShapes → scratchWords ≤ length scratch → (ss : List (State Ob)) → AllMet (paperOf ar ws) ar ss
+        → TooLong (length plan) (wordsFor ar ws ss)
         → BuildRow (told (refusal 22 0) (plan, cleared scratch))
-    builds : GoodShapes → scratchWords ≤ length scratch → (ss : List (State Ob)) → AllMet (paperOf ar ws) ar ss → Fits (length plan) (wordsFor ar ws ss)
+    builds : GoodShapes → scratchWords ≤ length scratch → (ss : List (State Ob)) → AllMet (paperOf ar ws) ar ss
+        → Fits (length plan) (wordsFor ar ws ss)
         → BuildRow (told (gives (length ss ∷ length (wordsFor ar ws ss) ∷ [])) (sets plan 0 (wordsFor ar ws ss), cleared scratch))
 
 -- ---- starting
@@ -112,7 +117,8 @@ module _ (ar score spans : List ℕ) where
 pub data StepRow (plan score spans : List ℕ) (i : ℕ) (w : Walk) : Told Walk → Type 0 where
   step-32 : w .count .waiting ≤ i → StepRow plan score spans i w (told (refusal 32 0) w)
   step-34 : i < w .count .waiting → ((v : Walk) → StepFound plan score spans i w v → ⊥) → StepRow plan score spans i w (told (refusal 34 0) w)
-  takes : i < w .count .waiting → (v : Walk) → StepFound plan score spans i w v → StepRow plan score spans i w (told (gives (v .count .waiting ∷ v .count .logged ∷ [])) v)
+  takes : i < w .count .waiting → (v : Walk) → StepFound plan score spans i w v
+      → StepRow plan score spans i w (told (gives (v .count .waiting ∷ v .count .logged ∷ [])) v)
 
 -- ---- a line of the report
 abbrev pub lineTold : LineOutcome → Told (List ℕ)
@@ -135,16 +141,22 @@ pub record Demand1 : Type 0 where
   pub building : (ar ws st plan scratch : List ℕ) → By (BuildRow ar ws st plan scratch) (buildTold (buildOf ar ws st plan scratch))
   pub starting : (ar score spans : List ℕ) (w : Walk) → Below 65536 score → By (StartRow ar score spans w) (walkTold (started ar score spans w))
   pub stepping : (plan score spans : List ℕ) (i : ℕ) (w : Walk) → By (StepRow plan score spans i w) (walkTold (stepped plan score spans i w))
-  pub matches : (ar score spans marks : List ℕ) → Below 65536 score → By (CountRow ar score spans total marks) (countedSays (matchesOf ar score spans marks))
-  pub clashes : (ar score spans marks : List ℕ) → Below 65536 score → By (CountRow ar score spans (clashNumber (clash spans)) marks) (countedSays (clashesOf ar score spans marks))
-  pub subtree : (w : Asked) (ar shapes score : List ℕ) → Below 65536 score → By (FoundRow (Standing ar shapes score w) flatten) (partSays (subtreeAt w ar shapes score))
+  pub matches : (ar score spans marks : List ℕ) → Below 65536 score
+      → By (CountRow ar score spans total marks) (countedSays (matchesOf ar score spans marks))
+  pub clashes : (ar score spans marks : List ℕ) → Below 65536 score
+      → By (CountRow ar score spans (clashNumber (clash spans)) marks) (countedSays (clashesOf ar score spans marks))
+  pub subtree : (w : Asked) (ar shapes score : List ℕ) → Below 65536 score
+      → By (FoundRow (Standing ar shapes score w) flatten) (partSays (subtreeAt w ar shapes score))
   pub label : (plan : List ℕ) (m k s : ℕ) → By (FoundRow (LabelFound plan m k s) (λ c. c ∷ [])) (labelSays (labelOf plan m k s))
   pub lengths : (plan : List ℕ) (m k s f : ℕ)
       → By (FoundRow (BlockFound plan m k s f) (λ b. getD plan b 0 ∷ getD plan (middle plan b) 0 ∷ [])) (blockSays (lengthsOf plan m k s f))
-  pub announcement : (plan : List ℕ) (m k s f i : ℕ) → By (FoundRow (AnnouncementFound plan m k s f i) pairValues) (announcementSays (announcementOf plan m k s f i))
-  pub successor : (plan : List ℕ) (m k s f i : ℕ) → By (FoundRow (SuccessorFound plan m k s f i) pairValues) (successorSays (successorOf plan m k s f i))
+  pub announcement : (plan : List ℕ) (m k s f i : ℕ)
+      → By (FoundRow (AnnouncementFound plan m k s f i) pairValues) (announcementSays (announcementOf plan m k s f i))
+  pub successor : (plan : List ℕ) (m k s f i : ℕ)
+      → By (FoundRow (SuccessorFound plan m k s f i) pairValues) (successorSays (successorOf plan m k s f i))
   pub first-line : (n s m c : ℕ) (buffer : List ℕ) → By (LineRow (firstLine n s m c) buffer) (lineTold (firstOut n s m c buffer))
   pub match-line : (spans : List ℕ) (x j : ℕ) (buffer : List ℕ) → By (MatchRow spans x j buffer) (lineTold (lineOut spans x j buffer))
   pub refusal-line : (r : Reason) (p : ℕ) (buffer : List ℕ) → By (LineRow (refusalText r p) buffer) (lineTold (refusalOut r p buffer))
   pub child-of : (p : Position) (i : ℕ) → By (FoundRow (ChildFound p i) (λ c. c ∷ [])) (childSays (childOf p i))
-  pub following : (spans : List ℕ) (n from by : ℕ) → By (FoundRow (Reaches spans n from by) (λ x. x ∷ [])) (reachedSays (reached (target n spans from by)))
+  pub following : (spans : List ℕ) (n from by : ℕ)
+      → By (FoundRow (Reaches spans n from by) (λ x. x ∷ [])) (reachedSays (reached (target n spans from by)))

@@ -24,16 +24,22 @@ use Rattle.promises.specs.OneFile.{OneFile, scoreIn, bufferIn, planIn, a
 pub record Demand3 {file : List ℕ} (S : OneFile file) : Type 0 where
   pub in-buffer : planIn S ++ drop (S .size .words) (bufferIn S) ≡ bufferIn S
   pub never-34 : (choices : List ℕ) (i : ℕ) → walkedSays (stepAfter S choices i .answer) .number ≡ 34 → ⊥
-  pub refused : (choices : List ℕ) (i : ℕ) → after S choices .count .waiting ≤ i → walkTold (stepAfter S choices i) ≡ told (refusal 32 0) (after S choices)
+  pub refused : (choices : List ℕ) (i : ℕ) → after S choices .count .waiting ≤ i
+      → walkTold (stepAfter S choices i) ≡ told (refusal 32 0) (after S choices)
   pub taken : (choices : List ℕ) (i : ℕ) → i < after S choices .count .waiting
-      → (walkedSays (stepAfter S choices i .answer) ≡ gives (stepAfter S choices i .walk .count .waiting ∷ stepAfter S choices i .walk .count .logged ∷ []))
+      → (walkedSays (stepAfter S choices i .answer) ≡ gives
+      (stepAfter S choices i .walk .count .waiting ∷ stepAfter S choices i .walk .count .logged ∷ []))
       × (stepAfter S choices i .walk .count .logged ≡ suc (after S choices .count .logged))
   pub steps : (choices : List ℕ)
-      → (acceptedIn S choices ≡ after S choices .count .logged) × (acceptedIn S choices ≤ span (scoreIn S)) × ((after S choices .count .waiting ≡ 0) ↔ (acceptedIn S choices ≡ span (scoreIn S)))
+      → (acceptedIn S choices ≡ after S choices .count .logged) × (acceptedIn S choices ≤ span (scoreIn S))
+      × ((after S choices .count .waiting ≡ 0) ↔ (acceptedIn S choices ≡ span (scoreIn S)))
   pub log-nodes : (choices : List ℕ) (i : ℕ) → i < after S choices .count .logged → getD (after S choices .log) i 0 < span (scoreIn S)
-  pub log-once : (choices : List ℕ) (i k : ℕ) → i < after S choices .count .logged → k < after S choices .count .logged → getD (after S choices .log) i 0 ≡ getD (after S choices .log) k 0 → i ≡ k
-  pub log-all : (choices : List ℕ) → after S choices .count .waiting ≡ 0 → (n : ℕ) → n < span (scoreIn S) → (i : ℕ) × (i < after S choices .count .logged) × (getD (after S choices .log) i 0 ≡ n)
+  pub log-once : (choices : List ℕ) (i k : ℕ) → i < after S choices .count .logged → k < after S choices .count .logged
+      → getD (after S choices .log) i 0 ≡ getD (after S choices .log) k 0 → i ≡ k
+  pub log-all : (choices : List ℕ) → after S choices .count .waiting ≡ 0 → (n : ℕ) → n < span (scoreIn S) → (i : ℕ)
+      × (i < after S choices .count .logged) × (getD (after S choices .log) i 0 ≡ n)
   pub waits : (choices : List ℕ) → after S choices .count .waiting + after S choices .count .logged ≤ span (scoreIn S)
   pub same-marks : (T : OneFile file) (choices choices′ : List ℕ) → after S choices .count .waiting ≡ 0 → after T choices′ .count .waiting ≡ 0
       → take (span (scoreIn S)) (after S choices .marks) ≡ take (span (scoreIn S)) (after T choices′ .marks)
-  pub same-text : (T : OneFile file) (choices choices′ : List ℕ) → after S choices .count .waiting ≡ 0 → after T choices′ .count .waiting ≡ 0 → reported S choices ≡ reported T choices′
+  pub same-text : (T : OneFile file) (choices choices′ : List ℕ) → after S choices .count .waiting ≡ 0 → after T choices′ .count .waiting ≡ 0
+      → reported S choices ≡ reported T choices′

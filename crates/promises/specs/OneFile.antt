@@ -52,11 +52,13 @@ pub record OneFile (file : List ℕ) : Type 0 where
   pub plan : List ℕ
   pub scratch : List ℕ
   pub size : Size
-  pub builds : buildOf (openedSymbols file tables counts) (openedWords file tables counts) (openedStarts file tables counts) plan scratch .answer ≡ building.Plan size
+  pub builds : buildOf (openedSymbols file tables counts) (openedWords file tables counts) (openedStarts file tables counts) plan
+      scratch .answer ≡ building.Plan size
   pub behind : List ℕ
   pub walk : Walk
   pub first : Record
-  pub starts : started (openedSymbols file tables counts) (openedNodes file tables counts) (openedSpans file tables counts) walk .answer ≡ walking.On first
+  pub starts : started (openedSymbols file tables counts) (openedNodes file tables counts) (openedSpans file tables counts) walk .answer ≡ walking.On
+      first
 
 module _ {file : List ℕ} (S : OneFile file) where
   abbrev pub symbolsIn : List ℕ

@@ -108,7 +108,8 @@ module _ (ar sc : List ℕ) where
       row-13 : (i : ℕ) → ScoreFault NoSymbol i → ScoreRow 13 (node i)
       row-14 : ScoreFault Ends (length sc) → ScoreRow 14 end
       row-15 : (i : ℕ) → ScoreFault Deep i → ScoreRow 15 (node i)
-      row-16 : (t : Term) → Fits ar 65536 t → depth t ≤ 64 → span t ≤ 4096 → sc ≡ flatten t ++ drop (span t) sc → span t < length sc → ScoreRow 16 (node (span t))
+      row-16 : (t : Term) → Fits ar 65536 t → depth t ≤ 64 → span t ≤ 4096 → sc ≡ flatten t ++ drop (span t) sc → span t < length sc
+          → ScoreRow 16 (node (span t))
       row-17 : ScoreFault Many 4096 → ScoreRow 17 (node 4096)
 
 -- ---- the sections
@@ -118,7 +119,8 @@ module _ (file : List ℕ) (l : Lent) where
     in-symbols : {n p : ℕ} (q : Places) → Framed file q → SymbolRow (symbolsAt file q) n p → Given n p
     in-shapes : {n p : ℕ} (q : Places) → Framed file q → GoodSymbols (symbolsAt file q)
         → ShapeRow (symbolsAt file q) (shapesAt file q) (q .shapes) (q .score) n p → Given n p
-    in-score : {n p : ℕ} (q : Places) → Framed file q → GoodSymbols (symbolsAt file q) → (starts : List ℕ) → Shaped (symbolsAt file q) (shapesAt file q) starts
+    in-score : {n p : ℕ} (q : Places) → Framed file q → GoodSymbols (symbolsAt file q) → (starts : List ℕ)
+        → Shaped (symbolsAt file q) (shapesAt file q) starts
         → ScoreRow (symbolsAt file q) (scoreAt file q) (q .score) (q .end) n p → Given n p
     row-18 : (q : Places) → Framed file q → GoodSymbols (symbolsAt file q)
         → (starts : List ℕ) (s : Shaped (symbolsAt file q) (shapesAt file q) starts) → (t : Scored (symbolsAt file q) (scoreAt file q))

@@ -53,7 +53,8 @@ abbrev pub spans : List ℕ
 spans = 10 ∷ 4 ∷ 1 ∷ 2 ∷ 1 ∷ 5 ∷ 4 ∷ 1 ∷ 2 ∷ 1 ∷ []
 
 abbrev pub plan : List ℕ
-plan = 3 ∷ 3 ∷ 2 ∷ 56 ∷ 0 ∷ 1 ∷ 2 ∷ 16 ∷ 18 ∷ 24 ∷ 28 ∷ 30 ∷ 38 ∷ 42 ∷ 44 ∷ 50 ∷ 0 ∷ 0 ∷ 0 ∷ 2 ∷ 1 ∷ 0 ∷ 2 ∷ 0 ∷ 0 ∷ 1 ∷ 0 ∷ 1 ∷ 0 ∷ 0 ∷ 1 ∷ 1 ∷ 0 ∷ 2 ∷ 1 ∷ 1 ∷ 2 ∷ 1 ∷ 0 ∷ 1 ∷ 0 ∷ 6 ∷ 0 ∷ 0 ∷ 0 ∷ 2 ∷ 1 ∷ 2 ∷ 2 ∷ 2 ∷ 1 ∷ 0 ∷ 0 ∷ 1 ∷ 0 ∷ 11 ∷ []
+plan = 3 ∷ 3 ∷ 2 ∷ 56 ∷ 0 ∷ 1 ∷ 2 ∷ 16 ∷ 18 ∷ 24 ∷ 28 ∷ 30 ∷ 38 ∷ 42 ∷ 44 ∷ 50 ∷ 0 ∷ 0 ∷ 0 ∷ 2 ∷ 1 ∷ 0 ∷ 2 ∷ 0 ∷ 0 ∷ 1 ∷ 0 ∷ 1 ∷ 0 ∷ 0 ∷ 1 ∷ 1 ∷ 0 ∷ 2
+    ∷ 1 ∷ 1 ∷ 2 ∷ 1 ∷ 0 ∷ 1 ∷ 0 ∷ 6 ∷ 0 ∷ 0 ∷ 0 ∷ 2 ∷ 1 ∷ 2 ∷ 2 ∷ 2 ∷ 1 ∷ 0 ∷ 0 ∷ 1 ∷ 0 ∷ 11 ∷ []
 
 abbrev pub marks : List ℕ
 marks = 3 ∷ 1 ∷ 0 ∷ 0 ∷ 0 ∷ 0 ∷ 1 ∷ 0 ∷ 0 ∷ 0 ∷ []
@@ -100,8 +101,10 @@ table =
     ∷ row (openedSays (opening .answer)) ∷ opening .tables .words ∷ opening .tables .starts ∷ opening .tables .score ∷ opening .tables .spans
     ∷ row (builtSays (building .answer)) ∷ building .plan
     ∷ row (countedSays (matchesOf symbols score spans (firsts .marks))) ∷ row (countedSays (clashesOf symbols score spans (firsts .marks)))
-    ∷ row (labelSays (labelOf plan 3 3 1)) ∷ row (blockSays (lengthsOf plan 3 3 1 1)) ∷ row (announcementSays (announcementOf plan 3 3 1 1 0)) ∷ row (successorSays (successorOf plan 3 3 2 2 0)) ∷ row (labelSays (labelOf plan 3 3 3))
-    ∷ row (childSays (childOf (position 2) 1)) ∷ row (reachedSays (reached (target 10 spans 0 11))) ∷ row (writtenSays (lineOut spans 6 0 (nines 1399) .answer))
+    ∷ row (labelSays (labelOf plan 3 3 1)) ∷ row (blockSays (lengthsOf plan 3 3 1 1)) ∷ row (announcementSays (announcementOf plan 3 3 1 1 0)) ∷ row
+    (successorSays (successorOf plan 3 3 2 2 0)) ∷ row (labelSays (labelOf plan 3 3 3))
+    ∷ row (childSays (childOf (position 2) 1)) ∷ row (reachedSays (reached (target 10 spans 0 11))) ∷ row
+    (writtenSays (lineOut spans 6 0 (nines 1399) .answer))
     ∷ row (writtenSays (lineOut spans 10 0 (nines 1400) .answer))
     ∷ report spans 3 (firsts .marks) ∷ []
 

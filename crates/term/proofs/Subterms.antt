@@ -18,9 +18,9 @@ use Rattle.kinds.specs.Positions.{Pos}
 use Rattle.kinds.proofs.Bools.{or-l, is-ltb}
 use Rattle.kinds.proofs.Options.{none-not, on-bind}
 use Rattle.kinds.proofs.Members.{∈-left, ∈-right, ∈-append, map-in, on-map, Distinct}
-use Rattle.kinds.specs.Members.{_∈_, here, there}
+use Rattle.kinds.specs.Members.{_∈_, here, there, Pairwise}
 use Rattle.kinds.proofs.Codes.{Proper, proper-nil, proper-cons}
-use Rattle.kinds.proofs.Pairwise.{Pairwise, pairwise-append, pairwise-map, pairwise-distinct}
+use Rattle.kinds.proofs.Pairwise.{pairwise-append, pairwise-map, pairwise-distinct}
 use Rattle.kinds.proofs.Ordered.{Before, before-irrefl, before-append}
 use Rattle.term.specs.Terms.{Term, blank, node, Terms, tnil, tcons, count, span, spans, depth, depths, Fits, Fitss, Whole, Wholes}
 use Rattle.term.specs.Places.{nth, child, sub, hd, headAt, dom, doms}

@@ -16,8 +16,8 @@ use Rattle.kinds.specs.Positions.{Pos, code}
 use Rattle.kinds.specs.Bits.{bit}
 use Rattle.kinds.proofs.Bools.{both, is-ltb, is-leb}
 use Rattle.kinds.proofs.Members.{∈-left, ∈-right, ∈-append, on-map, map-in, all-of, Distinct}
-use Rattle.kinds.specs.Members.{_∈_, here, there}
-use Rattle.kinds.proofs.Pairwise.{Pairwise, pairwise-map, pairwise-distinct}
+use Rattle.kinds.specs.Members.{_∈_, here, there, Pairwise}
+use Rattle.kinds.proofs.Pairwise.{pairwise-map, pairwise-distinct}
 use Rattle.kinds.proofs.ListLaws.{map-append, map-map, take-map, drop-map, take-set}
 use Rattle.kinds.proofs.Places.{at-in, at-below, at-some, at-getD, at-map, split-at}
 use Rattle.kinds.proofs.Prefixes.{_≼_}
