@@ -27,6 +27,7 @@ use Rattle.automaton.proofs.Root.{gcp-below}
 use Rattle.automaton.proofs.Derivative.{Owes, owes, on-owes, From, old, under, from, on-lifted, on-label}
 use Rattle.automaton.proofs.Sound.{Real, Sound, SoundState}
 use Rattle.automaton.proofs.Apart.{label-owes}
+use Rattle.automaton.proofs.Within.{shape-at}
 use Rattle.automaton.proofs.Owed.{below-gcp}
 
 module _ (S : Setting) where
@@ -37,7 +38,7 @@ module _ (S : Setting) where
   root-short : (g : Goal Pos) (o : Pos) → g .ann ≡ [] → Real S g o → length o ≤ 5
   root-short g o e r =
       let h = sub-depth (strip (g .ann) o) (r .shape) (node (r .head) (r .kids)) (r .is) in
-      let d = S .flat (g .shape) (r .shape) (r .is-shape) in
+      let d = shape-at S (g .shape) (r .shape) (r .is-shape) .flat in
       let z : strip (g .ann) o ≡ o = rw e in
       let h′ = rw z at h in omega arith
 
@@ -88,7 +89,7 @@ module _ (S : Setting) where
           ∙ rw (length-range 1 n)
 
   pub deriv-few : (s : State Pos) (f n : ℕ) → length s ≤ 32 → n ≤ 4 → length (deriv K s f n) ≤ 96
-  deriv-few s f n a c = let h = deriv-length s f n in let z = product n (length (S .shapes)) c (S .few-shapes) in omega arith
+  deriv-few s f n a c = let h = deriv-length s f n in let z = product n (length (S .shapes)) c (S .limits .few-shapes) in omega arith
     where
       product : (n m : ℕ) → n ≤ 4 → m ≤ 16 → n * m ≤ 64
       product zero m c b = omega arith

@@ -26,7 +26,8 @@ use Rattle.term.specs.Places.{sub, dom}
 use Rattle.automaton.specs.Goals.{Calculus, State, deriv, Announcement}
 use Rattle.automaton.specs.Classes.{classes}
 use Rattle.automaton.specs.Walking.{Setting, Scored, calculus, Reachable, next, Item, sees, one, times, looks, goesOn, follows, Goes, none-go, one-goes, Walked, begin, step}
-use Rattle.term.proofs.Subterms.{fits-at, whole-at, dom-in, in-dom, length-dom, dom-distinct}
+use Rattle.term.proofs.Subterms.{whole-at, dom-in, in-dom, length-dom, dom-distinct}
+use Rattle.automaton.proofs.Within.{score-arity}
 use Rattle.automaton.proofs.Apart.{label-owes}
 use Rattle.automaton.proofs.Reachable.{reachable-sound}
 use Rattle.automaton.proofs.Alike.{alike-refl}
@@ -73,7 +74,7 @@ module _ (C : Scored) where
   can-look inv it m =
       let w = reachable-sound S (inv .reach it m) in
       let u = inv .inside it m _ (label-owes S (it .state) w) in
-      let n = whole-at (C .score) (C .whole) (looks S it) (u .0) (u .1) in
+      let n = whole-at (C .score) (C .is-score .whole) (looks S it) (u .0) (u .1) in
       (n .0, n .1, rw (← (n .2)) (u .1))
 
   pub goes-self : (it : Item) → Reachable S (it .state) → (f : ℕ) (ts : Terms) → sub (C .score) (looks S it) ≡ some (node f ts)
@@ -83,7 +84,7 @@ module _ (C : Scored) where
       go : (ks : List (State Pos)) → ks ⊆ classes K (deriv K (it .state) f (count ts)) → Goes S (map (goesOn S it) ks) (map (goesOn S it) ks)
       go [] h = none-go
       go (k ∷ ks) h = one-goes refl (alike-refl _)
-          (next f (count ts) r (fits-at (S .counts) (C .score-blanks) (C .score) (C .score-fits) (looks S it) f ts e) (h k (here refl)))
+          (next f (count ts) r (score-arity C (looks S it) f ts e) (h k (here refl)))
           (go ks (λ y m. h y (there m)))
 
   abbrev pub steps : {items : List Item} {R : List Pos} {told : List Announcement} → Walked C items R told → ℕ

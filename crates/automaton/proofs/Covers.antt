@@ -105,9 +105,9 @@ module _ (S : Setting) where
               at : (x : Bool) → same L o ≡ x → covers D q ≡ true
               at true e = ⊎-elim (λ (z : q ≡ L). absurd (ne z))
                   (λ i. by-fresh (L ++ (i .0 ∷ [])) (i .1)
-                  (new-in S s f n (i .0) 0 ((fits (i .0) (i .1)) .0) ((fits (i .0) (i .1)) .1) (S .some-shape)))
+                  (new-in S s f n (i .0) 0 ((fits (i .0) (i .1)) .0) ((fits (i .0) (i .1)) .1) (S .limits .some-shape)))
                   (below-cases (rw (← (same-is L o e)) at h))
-              at false e = by-fresh o h (fresh-stays S s f n o 0 (w .goals .fresh o (owes a b) 0 (S .some-shape))
+              at false e = by-fresh o h (fresh-stays S s f n o 0 (w .goals .fresh o (owes a b) 0 (S .limits .some-shape))
                   (λ z. false≢true (sym e ∙ rw z (same-refl L))))
 
       off : covers D q ≡ true → covers s q ≡ true

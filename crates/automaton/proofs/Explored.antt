@@ -34,9 +34,9 @@ module _ (S : Setting) where
   abbrev K : Calculus Pos
   K = calculus S
 
-  pub explored-numbered : (ss : List (State Pos)) (bs : List Block) → explored (construction K) (S .counts) ≡ made ss bs
-      → Numbered K (S .counts) ss bs
-  explored-numbered ss bs e = numbered K same-refl (S .counts) ss bs e
+  pub explored-numbered : (ss : List (State Pos)) (bs : List Block) → explored (construction K) (S .symbols) ≡ made ss bs
+      → Numbered K (S .symbols) ss bs
+  explored-numbered ss bs e = numbered K same-refl (S .symbols) ss bs e
 
   pub label-small : (s : State Pos) → SoundState S s → Small (label K s)
   label-small s w = w .goals .small (label K s) (label-owes S s w)
@@ -48,7 +48,7 @@ module _ (S : Setting) where
       let r = w .goals .real g j (o .0) (o .1) in
       rw d (at-below (S .shapes) (g .shape) (r .is-shape), ann-small S s (w .goals) g j)
 
-  module _ (ss : List (State Pos)) (bs : List Block) (num : Numbered K (S .counts) ss bs) where
+  module _ (ss : List (State Pos)) (bs : List Block) (num : Numbered K (S .symbols) ss bs) where
     pub numbered-sound : (s : State Pos) → s ∈ ss → SoundState S s
     numbered-sound s m = reachable-sound S (num .reach s m)
 
@@ -57,12 +57,12 @@ module _ (S : Setting) where
       where
         first-few : length (initial K) ≤ 16
         first-few = let a = length-map (range 0 (length (S .shapes))) (fresh []) in let b = length-range 0 (length (S .shapes)) in let c =
-            S .few-shapes in omega arith
+            S .limits .few-shapes in omega arith
 
     abbrev pub named : Item → Succ → Item
     named it x = record { state = getD ss (x .to) []; at = it .at ++ x .by }
 
-    module _ (s : State Pos) (w : SoundState S s) (f n : ℕ) (arity : getElem? (S .counts) f ≡ some n) where
+    module _ (s : State Pos) (w : SoundState S s) (f n : ℕ) (arity : getElem? (S .symbols) f ≡ some n) where
       links-small : (ks : List (State Pos)) (xs : List Succ) → ks ⊆ classes K (deriv K s f n) → Links K ss ks xs → (x : Succ) → x ∈ xs
           → (x .to < length ss) × Small (x .by)
       links-small [] [] h no-link x m = elim m [ ]

@@ -21,7 +21,9 @@ use Rattle.automaton.specs.Goals.{Calculus, Goal, State, label, reduced,
 use Rattle.automaton.specs.Classes.{gcp, liftGoal, lift}
 use Rattle.automaton.specs.Bare.{owed, fresh, args, argsOf}
 use Rattle.automaton.specs.Walking.{Setting, Scored, calculus, Partner}
+use Rattle.kinds.specs.Limits.{blankWord}
 use Rattle.term.proofs.Subterms.{sub-append, nth-below, on-child, fits-at}
+use Rattle.automaton.proofs.Within.{shape-at, score-arity}
 use Rattle.automaton.proofs.Root.{gcp-below}
 use Rattle.automaton.proofs.Derivative.{inPlace-kept, inPlace-put, args-in, expects-owes, on-expects, Derived, kept, cut, new, derived}
 use Rattle.automaton.proofs.Sound.{Sound, SoundState}
@@ -87,9 +89,8 @@ module _ (C : Scored) where
         go us sx (i ∷ b) e = on-child f us i b (rw (sub-append v (i ∷ b) x, sx) at e) λ j h vs ij nj.
             let same-count : count us ≡ count ts =
             cc (
-              fits-at (S .counts) (S .blanks) x (S .fits (g .shape) x gx) v f us sx,
-              fits-at (S .counts) (C .score-blanks) (C .score)
-                  (C .score-fits) (a ++ L) f ts node-is,
+              fits-at (S .symbols) blankWord x (shape-at S (g .shape) x gx .fits) v f us sx,
+              score-arity C (a ++ L) f ts node-is,
             ) in
             let few : j < count ts = rw same-count at (nth-below us j nj) in
             let add : 1 + j ≡ suc j = omega arith in

@@ -7,6 +7,7 @@ pub mod Simulation
 pub mod Forget
 pub mod SamePlan
 pub mod Derivative
+pub mod Within
 pub mod Sound
 pub mod Apart
 pub mod Owed

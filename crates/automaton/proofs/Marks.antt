@@ -17,6 +17,7 @@ use Rattle.term.specs.Terms.{Term, node, Terms}
 use Rattle.term.specs.Places.{sub, hd, headAt, Matches}
 use Rattle.automaton.specs.Goals.{Goal, Announcement}
 use Rattle.automaton.specs.Walking.{Setting, Scored, Item}
+use Rattle.automaton.proofs.Within.{shape-node}
 use Rattle.automaton.proofs.Derivative.{owes}
 use Rattle.automaton.proofs.Sound.{Real}
 use Rattle.automaton.proofs.Reachable.{reachable-sound}
@@ -37,7 +38,7 @@ module _ (C : Scored) where
       (λ m. (λ r k e. (inv .seen (announced i q) m x gx r k e) .is, λ r k e. (inv .seen (announced i q) m x gx r k e) .read), λ h. back (h .0) (h .1))
     where
       back : Matches x (C .score) q → ReadWhole x q R → announced i q ∈ told
-      back mt rd = let so = S .solid i x gx in go (inv .due q (root (so .0) (so .1) (so .2)) i x gx)
+      back mt rd = let so = shape-node S i x gx in go (inv .due q (root (so .0) (so .1) (so .2)) i x gx)
         where
           root : (f : ℕ) (us : Terms) → x ≡ node f us → q ∈ R
           root f us e = rw append-nil at (rd [] f (rw e))

@@ -24,6 +24,7 @@ use Rattle.automaton.specs.Classes.{gcp, liftGoal, lift}
 use Rattle.automaton.specs.Bare.{owed, fresh, args, argsOf, inPlace}
 use Rattle.automaton.specs.Walking.{Setting, calculus}
 use Rattle.term.proofs.Subterms.{sub-append}
+use Rattle.automaton.proofs.Within.{shape-node}
 use Rattle.automaton.proofs.Root.{gcp-below}
 use Rattle.automaton.proofs.Derivative.{owes, on-inPlace, on-args, on-argsOf, args-under, Derived, kept, cut, new, derived}
 use Rattle.automaton.proofs.Sound.{Real, Sound, SoundState}
@@ -66,7 +67,7 @@ one-ordered p = (λ y m. elim m [ ], tt)
 
 -- ---- symbols
 pub fresh-real : (S : Setting) (p : Pos) (j : ℕ) → j < length (S .shapes) → (o : Pos) → o ∈ (p ∷ []) → Real S (fresh p j) o
-fresh-real S p j h o (here d) = let x = at-some (S .shapes) j h in let y = S .solid j (x .0) (x .1) in rw d (go (x .0) (x .1) (y .0) (y .1) (y .2))
+fresh-real S p j h o (here d) = let x = at-some (S .shapes) j h in let y = shape-node S j (x .0) (x .1) in rw d (go (x .0) (x .1) (y .0) (y .1) (y .2))
   where
     go : (x : Term) → getElem? (S .shapes) j ≡ some x → (f : ℕ) (us : Terms) → x ≡ node f us → Real S (fresh p j) p
     go x e f us d = record { shape = x; is-shape = e; head = f; kids = us; is = rw (strip-self p, d) }

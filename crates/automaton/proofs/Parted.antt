@@ -8,7 +8,7 @@
 --   reach-carried            what is reachable over the paper's obligations is so over bare positions, when the subpatterns are forgotten
 --   paper-once paper-parted  no reachable state of the paper's calculus has a goal twice, and each of its derivatives is parted
 --   plan-reachable           the states of the plan are reachable
-use mathlib.Core.Path.{_≡_, refl, ap, sym, _∙_, subst}
+use mathlib.Core.Path.{_≡_, refl, sym, _∙_, subst}
 use mathlib.Core.Bool.{Bool, true, false, cond}
 use mathlib.Core.List.{List, [], _∷_, map}
 use mathlib.Core.Logic.{_↔_, ⊎-elim}
@@ -206,17 +206,17 @@ module _ (S : Setting) where
   abbrev Rights : State Ob → Type 0
   Rights s = AllRight P J position (Right (S .shapes)) (carries (S .shapes)) s
 
-  pub reach-carried : {s : State Ob} → Reach P (S .counts) s → Rights s × Reachable S (forgets position s)
-  reach-carried r = reach-same P J position (Right (S .shapes)) (carries (S .shapes)) (S .counts) r
+  pub reach-carried : {s : State Ob} → Reach P (S .symbols) s → Rights s × Reachable S (forgets position s)
+  reach-carried r = reach-same P J position (Right (S .shapes)) (carries (S .shapes)) (S .symbols) r
 
-  module _ {s : State Ob} (r : Reach P (S .counts) s) where
+  module _ {s : State Ob} (r : Reach P (S .symbols) s) where
     sound : SoundState S (forgets position s)
     sound = reachable-sound S (reach-carried r .1)
 
     pub paper-once : Once s
     paper-once = pairwise-back (λ g h. SameAnnouncement g h → ⊥) (forget position) s (sound .goals .keyed)
 
-    module _ (f n : ℕ) (a : getElem? (S .counts) f ≡ some n) where
+    module _ (f n : ℕ) (a : getElem? (S .symbols) f ≡ some n) where
       d-same : forgets position (deriv P s f n) ≡ deriv J (forgets position s) f n
       d-same = deriv-same P J position (Right (S .shapes)) (carries (S .shapes)) s (reach-carried r .0) f n
 

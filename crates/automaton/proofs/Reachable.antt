@@ -51,9 +51,9 @@ module _ (S : Setting) where
   }
 
   pub initial-sound : SoundState S (initial K)
-  initial-sound = root-label S (initial K) initial-goals (fresh [] 0) (initial-in S 0 (S .some-shape)) refl
+  initial-sound = root-label S (initial K) initial-goals (fresh [] 0) (initial-in S 0 (S .limits .some-shape)) refl
 
-  pub deriv-sound : (s : State Pos) → SoundState S s → (f n : ℕ) → getElem? (S .counts) f ≡ some n → Sound S (deriv K s f n)
+  pub deriv-sound : (s : State Pos) → SoundState S s → (f n : ℕ) → getElem? (S .symbols) f ≡ some n → Sound S (deriv K s f n)
   deriv-sound s w f n a = record {
     owing = deriv-owing S s w f n;
     low = deriv-low S s w f n;
@@ -62,7 +62,7 @@ module _ (S : Setting) where
     apart = deriv-apart S s w f n;
     keyed = deriv-keyed S s w f n;
     fresh = deriv-fresh S s w f n;
-    small = deriv-small S s w f n (S .children f n a);
+    small = deriv-small S s w f n (S .limits .symbols .children f n a);
   }
 
   pub class-sound : (d : State Pos) → Sound S d → (k : State Pos) → k ∈ classes K d → Sound S k
@@ -106,7 +106,7 @@ module _ (S : Setting) where
   pub class-announces : (d : State Pos) → Sound S d → (k : State Pos) → k ∈ classes K d → Top k
   class-announces d w k m = class-top K d (w .low) k m
 
-  pub next-sound : (s : State Pos) → SoundState S s → (f n : ℕ) → getElem? (S .counts) f ≡ some n → (k : State Pos) → k ∈ classes K (deriv K s f n)
+  pub next-sound : (s : State Pos) → SoundState S s → (f n : ℕ) → getElem? (S .symbols) f ≡ some n → (k : State Pos) → k ∈ classes K (deriv K s f n)
       → SoundState S (lift K k)
   next-sound s w f n a k m =
       let d = deriv-sound s w f n a in

@@ -21,7 +21,8 @@ use Rattle.term.specs.Places.{sub}
 use Rattle.automaton.specs.Goals.{Calculus, Goal, State, allObs, label, deriv}
 use Rattle.automaton.specs.Classes.{classes, gcp, liftGoal, lift}
 use Rattle.automaton.specs.Walking.{Setting, Scored, calculus, Alike, Item, covers, sees, one, waits, looks, goesOn, follows, Goes, none-go, one-goes}
-use Rattle.term.proofs.Subterms.{sub-append, child-fits, fits-at}
+use Rattle.term.proofs.Subterms.{sub-append, child-fits}
+use Rattle.automaton.proofs.Within.{score-arity}
 use Rattle.automaton.proofs.Derivative.{owes, on-lifted}
 use Rattle.automaton.proofs.Sound.{Sound, SoundState}
 use Rattle.automaton.proofs.Apart.{label-owes}
@@ -88,7 +89,7 @@ module _ (C : Scored) (it : Item) where
     D = deriv (calculus S) (it .state) f (count ts)
 
     sound-d : Sound S D
-    sound-d = deriv-sound S (it .state) w f (count ts) (fits-at (S .counts) (C .score-blanks) (C .score) (C .score-fits) (looks S it) f ts node-is)
+    sound-d = deriv-sound S (it .state) w f (count ts) (score-arity C (looks S it) f ts node-is)
 
     below-it : (q : Pos) (u : Term) → sub (C .score) (it .at ++ q) ≡ some u
         → one (sees it (it .at ++ q)) ≡ one (same (looks S it) (it .at ++ q)) + waits (it .at ++ q) (follows S it f (count ts))

@@ -25,7 +25,8 @@ use Rattle.automaton.specs.Goals.{Calculus, Goal, State, label, initial,
 use Rattle.automaton.specs.Classes.{classes, gcp, lift}
 use Rattle.automaton.specs.Bare.{fresh}
 use Rattle.automaton.specs.Walking.{Setting, Scored, calculus, Reachable, init, Alike, Item, sees, one, looks, goesOn, follows, announces, Goes, one-goes, Walked, begin, step}
-use Rattle.term.proofs.Subterms.{sub-append, fits-at, child-some}
+use Rattle.term.proofs.Subterms.{sub-append, child-some}
+use Rattle.automaton.proofs.Within.{score-arity}
 use Rattle.automaton.proofs.Classes.{class-sub}
 use Rattle.automaton.proofs.Derivative.{Owes, owes, on-initial, initial-in, expects-owes, on-lifted, From, old, under, from}
 use Rattle.automaton.proofs.Sound.{Sound, SoundState}
@@ -63,7 +64,7 @@ module _ (C : Scored) where
     reach = λ it m. only it m init;
     inside = λ it m. at-root it m;
     read-inside = λ q m. elim m [ ];
-    once = λ q u e. rw (covered (initial K) q (owes (initial-in S 0 (S .some-shape)) (here refl)) (record { by = q; eq = refl }));
+    once = λ q u e. rw (covered (initial K) q (owes (initial-in S 0 (S .limits .some-shape)) (here refl)) (record { by = q; eq = refl }));
     known = λ it m. fresh-known it m;
     due = λ q m. elim m [ ];
     shape = λ a m. elim m [ ];
@@ -107,8 +108,8 @@ module _ (C : Scored) where
       it-in : it ∈ items
       it-in = ∈-right before (here refl)
 
-      arity : getElem? (S .counts) f ≡ some (count ts)
-      arity = fits-at (S .counts) (C .score-blanks) (C .score) (C .score-fits) (looks S it) f ts node-is
+      arity : getElem? (S .symbols) f ≡ some (count ts)
+      arity = score-arity C (looks S it) f ts node-is
 
       sound : SoundState S (it .state)
       sound = reachable-sound S (inv .reach it it-in)

@@ -1,6 +1,6 @@
 -- Reachable states, and the walk over the positions of a score, for any choice at each step.
 --   Reach          a state is the initial one, or the lifting of a class of a derivative of a reachable one
---   Setting        child counts and shapes within the limits of document 01, as the construction needs them
+--   Setting        symbols and shapes within the limits of document 01; settingOf: they are one
 --   Scored         a setting and a score of its symbols
 --   calculus Reachable   bare positions, for the setting's shapes; the states reachable with its symbols
 --   Partner Alike  states that are equal as sets: each goal has one of the same shape, announcement and obligations in the other
@@ -16,12 +16,13 @@ use mathlib.Core.Path.{_≡_}
 use mathlib.Core.Bool.{Bool, true, false}
 use mathlib.Core.List.{List, [], _∷_, _++_, map}
 use mathlib.Core.Option.{some}
-use Prim.Native.Nat.{ℕ, _≤_}
-use lib.ListN.{length, getElem?}
+use Prim.Native.Nat.{ℕ}
+use lib.ListN.{getElem?}
 use Rattle.kinds.specs.Positions.{Pos, prefix}
 use Rattle.kinds.specs.Lists.{same, any, sum}
 use Rattle.kinds.specs.Members.{_∈_, _⊆_}
-use Rattle.term.specs.Terms.{Term, node, Terms, count, depth, Fits, Whole}
+use Rattle.term.specs.Terms.{Term, node, Terms, count}
+use Rattle.term.specs.Admitted.{Limits, IsScore}
 use Rattle.term.specs.Places.{sub}
 use Rattle.automaton.specs.Goals.{Goal, State, Calculus, Announcement, allObs, initial, label, deriv, outputs}
 use Rattle.automaton.specs.Classes.{classes, gcp, lift}
@@ -33,30 +34,24 @@ pub data Reach {O : Type 0} (K : Calculus O) (ar : List ℕ) : State O → Type 
   next : {s k : State O} (f n : ℕ) → Reach K ar s → getElem? ar f ≡ some n → k ∈ classes K (deriv K s f n) → Reach K ar (lift K k)
 
 pub record Setting : Type 0 where
-  pub counts : List ℕ
+  -- the symbols' numbers of children
+  pub symbols : List ℕ
   pub shapes : List Term
-  -- words from here on are blanks
-  pub blanks : ℕ
-  pub children : (f n : ℕ) → getElem? counts f ≡ some n → n ≤ 4
-  pub some-shape : 1 ≤ length shapes
-  pub few-shapes : length shapes ≤ 16
-  pub fits : (i : ℕ) (x : Term) → getElem? shapes i ≡ some x → Fits counts blanks x
-  pub flat : (i : ℕ) (x : Term) → getElem? shapes i ≡ some x → depth x ≤ 5
-  -- no shape is one blank
-  pub solid : (i : ℕ) (x : Term) → getElem? shapes i ≡ some x → (f : ℕ) × (us : Terms) × (x ≡ node f us)
+  pub limits : Limits symbols shapes
+
+abbrev pub settingOf : {ar : List ℕ} {shapes : List Term} → Limits ar shapes → Setting
+settingOf {ar} {shapes} limits = record { symbols = ar; shapes = shapes; limits = limits }
 
 pub record Scored : Type 0 where
   pub setting : Setting
   pub score : Term
-  pub score-blanks : ℕ
-  pub score-fits : Fits (setting .counts) score-blanks score
-  pub whole : Whole score
+  pub is-score : IsScore (setting .symbols) score
 
 abbrev pub calculus : Setting → Calculus Pos
 calculus S = bare (S .shapes)
 
 abbrev pub Reachable : Setting → State Pos → Type 0
-Reachable S s = Reach (calculus S) (S .counts) s
+Reachable S s = Reach (calculus S) (S .symbols) s
 
 pub record Partner (s : State Pos) (g : Goal Pos) : Type 0 where
   pub goal : Goal Pos

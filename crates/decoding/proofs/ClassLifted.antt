@@ -24,16 +24,17 @@ use Rattle.automaton.proofs.Sound.{Sound, SoundState}
 use Rattle.automaton.proofs.Bounds.{root-label, ann-small, gcp-small}
 use Rattle.automaton.proofs.Reachable.{class-sound, class-announces, lift-sound}
 use Rattle.goals.specs.GoalWords.{GoalWords, labelCode}
-use Rattle.goals.specs.WordStages.{derivW, leastCode, underCode, liftW, classesW, displacementW}
+use Rattle.goals.specs.WordStages.{derivW, underCode, liftW, classesW, displacementW}
 use Rattle.decoding.specs.Decoding.{goalMeant, stateMeant, codesEnd}
-use Rattle.decoding.specs.GoodStates.{Ready, settingOf}
+use Rattle.automaton.specs.Walking.{settingOf}
+use Rattle.decoding.specs.GoodStates.{Ready}
 use Rattle.decoding.proofs.GcpDecoded.{Tops, none, more, TopIn, now, late, gcp-is}
 use Rattle.decoding.proofs.LiftDecoded.{under-is, lift-is}
 use Rattle.decoding.proofs.ClassesDecoded.{classes-is}
 use Rattle.decoding.proofs.FineSound.{Bounded, bounded-within, GoodFor, deriv-bounded, deriv-goals-sound, deriv-fine, class-within}
 
 pub record PartFor {ar tab : List ℕ} {n : ℕ} (r : Ready ar tab n) (c : List GoalWords) : Type 0 where
-  pub sound : Sound (settingOf r) (stateMeant (r .shapes) c)
+  pub sound : Sound (settingOf (r .limits)) (stateMeant (r .shapes) c)
   pub bounded : Bounded (r .shapes) c
   pub top : Top (stateMeant (r .shapes) c)
 
@@ -49,15 +50,15 @@ module _ {ar tab : List ℕ} {n : ℕ} (r : Ready ar tab n) where
   pub class-part : (gs : List GoalWords) (good : GoodFor r gs) (f k : ℕ) (a : getElem? ar f ≡ some k) (c : List GoalWords)
       → c ∈ classesW tab (derivW tab n (labelCode tab gs) f k gs) → PartFor r c
   class-part gs good f k a c m = record {
-    sound = class-sound (settingOf r) (stateMeant (r .shapes) D) sound (stateMeant (r .shapes) c) inside;
+    sound = class-sound (settingOf (r .limits)) (stateMeant (r .shapes) D) sound (stateMeant (r .shapes) c) inside;
     bounded = bounded-within (r .shapes) D c (class-within tab D c m) (deriv-bounded r gs good f k a);
-    top = class-announces (settingOf r) (stateMeant (r .shapes) D) sound (stateMeant (r .shapes) c) inside;
+    top = class-announces (settingOf (r .limits)) (stateMeant (r .shapes) D) sound (stateMeant (r .shapes) c) inside;
   }
     where
       D : List GoalWords
       D = derivW tab n (labelCode tab gs) f k gs
 
-      sound : Sound (settingOf r) (stateMeant (r .shapes) D)
+      sound : Sound (settingOf (r .limits)) (stateMeant (r .shapes) D)
       sound = deriv-goals-sound r gs good f k a
 
       inside : stateMeant (r .shapes) c ∈ classes (bare (r .shapes)) (stateMeant (r .shapes) D)
@@ -70,7 +71,7 @@ module _ {ar tab : List ℕ} {n : ℕ} (r : Ready ar tab n) where
     s = stateMeant (r .shapes) c
 
     pub displaced-small : Small (gcp s)
-    displaced-small = gcp-small (settingOf r) s (part .sound) (part .top .goal) (part .top .inside)
+    displaced-small = gcp-small (settingOf (r .limits)) s (part .sound) (part .top .goal) (part .top .inside)
 
     pub part-displaced : displacementW c ≡ code (gcp s)
     part-displaced =
@@ -83,7 +84,7 @@ module _ {ar tab : List ℕ} {n : ℕ} (r : Ready ar tab n) where
     rest-small g m =
         let i = map-in (goalMeant (r .shapes)) m in
         let b = gcp-below s (goalMeant (r .shapes) g) i in
-        small-rest (gcp s) (b .by) (subst Small (b .eq) (ann-small (settingOf r) s (part .sound) (goalMeant (r .shapes) g) i))
+        small-rest (gcp s) (b .by) (subst Small (b .eq) (ann-small (settingOf (r .limits)) s (part .sound) (goalMeant (r .shapes) g) i))
 
     pub part-lifted : stateMeant (r .shapes) (map (liftW (displacementW c)) c) ≡ lift (bare (r .shapes)) s
     part-lifted =
@@ -103,8 +104,8 @@ module _ {ar tab : List ℕ} {n : ℕ} (r : Ready ar tab n) where
 
     pub lifted-good : length c ≤ 32 → GoodFor r (map (liftW (displacementW c)) c)
     lifted-good few = record {
-      sound = subst (SoundState (settingOf r)) (sym part-lifted)
-          (root-label (settingOf r) (lift (bare (r .shapes)) s) (lift-sound (settingOf r) s (part .sound))
+      sound = subst (SoundState (settingOf (r .limits))) (sym part-lifted)
+          (root-label (settingOf (r .limits)) (lift (bare (r .shapes)) s) (lift-sound (settingOf (r .limits)) s (part .sound))
           (liftGoal (bare (r .shapes)) (gcp s) (part .top .goal)) (map-in (liftGoal (bare (r .shapes)) (gcp s)) (part .top .inside))
           (ap (strip (gcp s)) (sym (part .top .at)) ∙ strip-self (gcp s)));
       few = let e = length-map c (liftW (displacementW c)) in omega arith;

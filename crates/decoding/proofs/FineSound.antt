@@ -23,13 +23,13 @@ use Rattle.kinds.specs.Positions.{Pos, code, decode}
 use Rattle.kinds.proofs.Codes.{Small, small-snoc, small-code, code-snoc}
 use Rattle.kinds.proofs.ListLaws.{append-same}
 use Rattle.kinds.proofs.Members.{in-none, in-one, ∈-append, filter-in, gather-in, on-gather, map-in, on-map, in-range, in-sort}
-use Rattle.kinds.specs.Members.{_∈_, _⊆_}
-use Rattle.kinds.proofs.Places.{at-below, getD-at}
+use Rattle.kinds.specs.Members.{_∈_, _⊆_, here, there}
+use Rattle.kinds.proofs.Places.{at-in, at-below, getD-at}
 use Rattle.term.specs.Terms.{Term, blank, node, Terms, count, span, Fits}
 use Rattle.term.specs.Places.{sub}
 use Rattle.term.proofs.Subterms.{fits-sub}
 use Rattle.term.proofs.Sizes.{span-pos}
-use Rattle.folio.specs.Folio.{IsShape}
+use Rattle.term.specs.Admitted.{AreShapes}
 use Rattle.automaton.specs.Bare.{bare}
 use Rattle.automaton.specs.Goals.{State, isRoot, label, deriv}
 use Rattle.automaton.specs.Classes.{rowsFrom}
@@ -41,7 +41,8 @@ use Rattle.automaton.proofs.Classes.{picked-in}
 use Rattle.goals.specs.GoalWords.{GoalWords, nodeAt, labelCode}
 use Rattle.goals.specs.WordStages.{stays, moves, reduct, goesOn, withMask, freshW, freshesW, bornW, derivW, pickedW, closedW, classBeforeW, classesW, unexpected}
 use Rattle.decoding.specs.Decoding.{shapeAt, goalMeant, stateMeant, codesEnd}
-use Rattle.decoding.specs.GoodStates.{Ready, settingOf, GoodState}
+use Rattle.automaton.specs.Walking.{settingOf}
+use Rattle.decoding.specs.GoodStates.{Ready, GoodState}
 use Rattle.decoding.proofs.GoalDecoded.{Fine}
 use Rattle.decoding.proofs.Goalwise.{goal-apart}
 use Rattle.decoding.proofs.LabelDecoded.{rootObs, label-is}
@@ -57,7 +58,7 @@ pub bounded-within : (shapes : List Term) (gs hs : List GoalWords) → hs ⊆ gs
 bounded-within shapes gs hs i b = record { code = λ g m. b .code g (i g m); mask = λ g m. b .mask g (i g m) }
 
 pub record GoodFor {ar tab : List ℕ} {n : ℕ} (r : Ready ar tab n) (gs : List GoalWords) : Type 0 where
-  pub sound : SoundState (settingOf r) (stateMeant (r .shapes) gs)
+  pub sound : SoundState (settingOf (r .limits)) (stateMeant (r .shapes) gs)
   pub few : length gs ≤ 32
   pub bounded : Bounded (r .shapes) gs
 
@@ -68,20 +69,19 @@ pub for-good : {ar tab : List ℕ} {n : ℕ} (r : Ready ar tab n) (gs : List Goa
 for-good r gs w = record { ready = r; sound = w .sound; few = w .few; code = w .bounded .code; mask = w .bounded .mask }
 
 -- ---- past the shapes stands a blank, which fits
-shape-fits : (ar : List ℕ) (shapes : List Term) → ((i : ℕ) (t : Term) → getElem? shapes i ≡ some t → IsShape ar t) → (s : ℕ)
-    → Fits ar blankWord (shapeAt shapes s)
+shape-fits : (ar : List ℕ) (shapes : List Term) → AreShapes ar shapes → (s : ℕ) → Fits ar blankWord (shapeAt shapes s)
 shape-fits ar [] h s = omega arith
-shape-fits ar (t ∷ ts) h zero = h 0 t refl .fits
-shape-fits ar (t ∷ ts) h (suc s) = shape-fits ar ts (λ i u e. h (suc i) u e) s
+shape-fits ar (t ∷ ts) h zero = h t (here refl) .fits
+shape-fits ar (t ∷ ts) h (suc s) = shape-fits ar ts (λ u m. h u (there m)) s
 
 module _ {ar tab : List ℕ} {n : ℕ} (r : Ready ar tab n) where
-  pub sound-fine : (gs : List GoalWords) → Sound (settingOf r) (stateMeant (r .shapes) gs) → Bounded (r .shapes) gs → (g : GoalWords)
+  pub sound-fine : (gs : List GoalWords) → Sound (settingOf (r .limits)) (stateMeant (r .shapes) gs) → Bounded (r .shapes) gs → (g : GoalWords)
       → g ∈ gs → Fine (r .shapes) g
   sound-fine gs w b g m = record {
     shape = at-below (r .shapes) (g .sh) (real .is-shape);
     small = b .code g m;
     bits = b .mask g m;
-    low = rw (getD-at (r .shapes) (g .sh) (blank blankWord) (real .is-shape)) (r .is-shape (g .sh) (real .shape) (real .is-shape) .small);
+    low = rw (getD-at (r .shapes) (g .sh) (blank blankWord) (real .is-shape)) (r .limits .are-shapes (real .shape) (at-in (r .shapes) (g .sh) (real .is-shape)) .small);
     fit = λ q i. let s = w .small (decode (g .an) ++ q) (owes inside (map-in (λ x. decode (g .an) ++ x) i)) in (s .digits, s .short);
     apart = goal-apart (r .shapes) g alone;
   }
@@ -89,7 +89,7 @@ module _ {ar tab : List ℕ} {n : ℕ} (r : Ready ar tab n) where
       inside : goalMeant (r .shapes) g ∈ stateMeant (r .shapes) gs
       inside = map-in (goalMeant (r .shapes)) m
 
-      real : Real (settingOf r) (goalMeant (r .shapes) g) (w .owing (goalMeant (r .shapes) g) inside .0)
+      real : Real (settingOf (r .limits)) (goalMeant (r .shapes) g) (w .owing (goalMeant (r .shapes) g) inside .0)
       real = let o = w .owing (goalMeant (r .shapes) g) inside in w .real (goalMeant (r .shapes) g) inside (o .0) (o .1)
 
       alone : (p c : Pos) → p ∈ goalMeant (r .shapes) g .obs → (p ++ c) ∈ goalMeant (r .shapes) g .obs → c ≡ []
@@ -107,7 +107,7 @@ module _ {ar tab : List ℕ} {n : ℕ} (r : Ready ar tab n) where
     good-fine = sound-fine gs (good .sound .goals) (good .bounded)
 
     pub label-small : Small L
-    label-small = good .sound .goals .small L (label-owes (settingOf r) S (good .sound))
+    label-small = good .sound .goals .small L (label-owes (settingOf (r .limits)) S (good .sound))
 
     pub label-code : labelCode tab gs ≡ code L
     label-code = label-is (r .shapes) tab (r .tables) gs good-fine some-owed
@@ -132,18 +132,18 @@ module _ {ar tab : List ℕ} {n : ℕ} (r : Ready ar tab n) where
       D = derivW tab n (labelCode tab gs) f k gs
 
       symbol : f < blankWord
-      symbol = let h = at-below ar f a in let l = r .few-symbols in omega arith
+      symbol = let h = at-below ar f a in let l = r .limits .symbols .few-symbols in omega arith
 
       arity : (s : ℕ) (p : Pos) (ts : Terms) → sub (shapeAt (r .shapes) s) p ≡ some (node f ts) → count ts ≡ k
-      arity s p ts e = let h = fits-sub ar blankWord p (shapeAt (r .shapes) s) (shape-fits ar (r .shapes) (r .is-shape) s) e .1 in cc
+      arity s p ts e = let h = fits-sub ar blankWord p (shapeAt (r .shapes) s) (shape-fits ar (r .shapes) (r .limits .are-shapes) s) e .1 in cc
 
       blanks : (s : ℕ) (p : Pos) (w : ℕ) → sub (shapeAt (r .shapes) s) p ≡ some (blank w) → blankWord ≤ w
-      blanks s p w e = fits-sub ar blankWord p (shapeAt (r .shapes) s) (shape-fits ar (r .shapes) (r .is-shape) s) e
+      blanks s p w e = fits-sub ar blankWord p (shapeAt (r .shapes) s) (shape-fits ar (r .shapes) (r .limits .are-shapes) s) e
 
       pub deriv-decoded : stateMeant (r .shapes) D ≡ deriv (bare (r .shapes)) S f k
       deriv-decoded =
           ap₂ (λ m c. stateMeant (r .shapes) (derivW tab m c f k gs)) (sym (r .count)) label-code
-          ∙ deriv-is (r .shapes) tab (r .tables) L (label-small .digits) (label-small .short) f k symbol (r .children f k a) arity blanks gs
+          ∙ deriv-is (r .shapes) tab (r .tables) L (label-small .digits) (label-small .short) f k symbol (r .limits .symbols .children f k a) arity blanks gs
           good-fine refl
 
       pub reduct-for : (g : GoalWords) → g ∈ gs → Reduct (r .shapes) g L f k (reduct tab (labelCode tab gs) f g)
@@ -201,15 +201,15 @@ module _ {ar tab : List ℕ} {n : ℕ} (r : Ready ar tab n) where
           code-of : {g : GoalWords} → FromWords g → g .an < codesEnd
           code-of {g} (stayed i) = good .bounded .code g i
           code-of (moved h x i l e) = rw e (good .bounded .code h i)
-          code-of (born i j l u w e) = let c = label-low in let d = r .children f k a in rw e (omega arith)
+          code-of (born i j l u w e) = let c = label-low in let d = r .limits .symbols .children f k a in rw e (omega arith)
 
           mask-of : {g : GoalWords} → FromWords g → g .mask < 2 ^ span (shapeAt (r .shapes) (g .sh))
           mask-of {g} (stayed i) = good .bounded .mask g i
           mask-of (moved h x i l e) = rw e l
           mask-of (born i j l u w e) = rw e (pow-lt (span-pos (shapeAt (r .shapes) j)))
 
-      pub deriv-goals-sound : Sound (settingOf r) (stateMeant (r .shapes) D)
-      deriv-goals-sound = subst (Sound (settingOf r)) (sym deriv-decoded) (deriv-sound (settingOf r) S (good .sound) f k a)
+      pub deriv-goals-sound : Sound (settingOf (r .limits)) (stateMeant (r .shapes) D)
+      deriv-goals-sound = subst (Sound (settingOf (r .limits))) (sym deriv-decoded) (deriv-sound (settingOf (r .limits)) S (good .sound) f k a)
 
       pub deriv-fine : (g : GoalWords) → g ∈ D → Fine (r .shapes) g
       deriv-fine = sound-fine D deriv-goals-sound deriv-bounded

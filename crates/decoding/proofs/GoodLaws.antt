@@ -1,4 +1,5 @@
 -- Good states: where building begins, where it goes on, and the bounds that hold on the way.
+--   ready-few                  at most 16 shapes
 --   start-decoded              the fresh goals on words are those of the initial state
 --   start-good                 the initial state is good for tables that are given
 --   good-start good-next       the initial state is good; so is a class of at most 32 goals of a good state's derivative, lifted
@@ -28,9 +29,10 @@ use Rattle.automaton.specs.Goals.{initial}
 use Rattle.automaton.proofs.Sound.{SoundState}
 use Rattle.automaton.proofs.Reachable.{initial-sound}
 use Rattle.goals.specs.GoalWords.{GoalWords, Low, labelCode}
-use Rattle.goals.specs.WordStages.{freshW, freshesW, derivW, leastCode, liftW, classesW, outputsW, displacementW}
+use Rattle.goals.specs.WordStages.{freshW, freshesW, derivW, liftW, classesW, outputsW, displacementW}
 use Rattle.decoding.specs.Decoding.{shapeAt, goalMeant, stateMeant}
-use Rattle.decoding.specs.GoodStates.{Ready, settingOf, GoodState}
+use Rattle.automaton.specs.Walking.{settingOf}
+use Rattle.decoding.specs.GoodStates.{Ready, GoodState}
 use Rattle.decoding.proofs.GoalDecoded.{Fine}
 use Rattle.decoding.proofs.Room.{deriv-room as room-of}
 use Rattle.decoding.proofs.FineSound.{GoodFor, good-for, for-good, good-fine, label-low, deriv-fine}
@@ -46,11 +48,14 @@ start-decoded shapes =
     (λ j m. fresh-is shapes 0 j ∙ ap (λ p. fresh p j) (decode-nil 7))
 
 module _ {ar tab : List ℕ} {n : ℕ} (r : Ready ar tab n) where
+  pub ready-few : n ≤ 16
+  ready-few = let c = r .count in let h = r .limits .few-shapes in omega arith
+
   pub start-good : GoodFor r (freshesW n 0)
   start-good = record {
-    sound = subst (SoundState (settingOf r)) (sym (ap (λ m. stateMeant (r .shapes) (freshesW m 0)) (sym (r .count)) ∙ start-decoded (r .shapes)))
-        (initial-sound (settingOf r));
-    few = let e = length-map (range 0 n) (freshW 0) in let d = length-range 0 n in let h = r .few-shapes in omega arith;
+    sound = subst (SoundState (settingOf (r .limits))) (sym (ap (λ m. stateMeant (r .shapes) (freshesW m 0)) (sym (r .count)) ∙ start-decoded (r .shapes)))
+        (initial-sound (settingOf (r .limits)));
+    few = let e = length-map (range 0 n) (freshW 0) in let d = length-range 0 n in let h = ready-few in omega arith;
     bounded = record {
       code = λ g m. on-map (freshW 0) (range 0 n) m λ j i e. rw e (omega arith);
       mask = λ g m. on-map (freshW 0) (range 0 n) m λ j i e. rw e (pow-lt (span-pos (shapeAt (r .shapes) j)));
@@ -60,7 +65,7 @@ module _ {ar tab : List ℕ} {n : ℕ} (r : Ready ar tab n) where
   low-of : (gs : List GoalWords) → ((g : GoalWords) → g ∈ gs → Fine (r .shapes) g) → Low gs
   low-of [] h = tt
   low-of (g ∷ gs) h =
-      (let a = h g (here refl) .shape in let b = r .count in let c = r .few-shapes in omega arith, low-of gs (λ x m. h x (there m)))
+      (let a = h g (here refl) .shape in let b = r .count in let c = r .limits .few-shapes in omega arith, low-of gs (λ x m. h x (there m)))
 
 pub good-start : {ar tab : List ℕ} {n : ℕ} → Ready ar tab n → GoodState ar tab n (freshesW n 0)
 good-start {n = n} r = for-good r (freshesW n 0) (start-good r)
@@ -89,8 +94,8 @@ module _ {ar tab : List ℕ} {n : ℕ} {gs : List GoalWords} (w : GoodState ar t
     deriv-room =
         let h = room-of tab n (labelCode tab gs) f k gs in
         let l = w .few in
-        let s = w .ready .few-shapes in
-        let p : k * n ≤ 4 * n = mul-le-mul-right n (w .ready .children f k a) in
+        let s = ready-few (w .ready) in
+        let p : k * n ≤ 4 * n = mul-le-mul-right n (w .ready .limits .symbols .children f k a) in
         omega (arith, h, l, s, p)
 
     pub least-small : (c : List GoalWords) → c ∈ classesW tab (derivW tab n (labelCode tab gs) f k gs) → displacementW c ≤ 15624

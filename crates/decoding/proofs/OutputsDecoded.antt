@@ -35,7 +35,8 @@ use Rattle.goals.specs.GoalWords.{GoalWords, pad, labelCode}
 use Rattle.goals.specs.WordStages.{reduct, withMask, announces, annKey, outputsW}
 use Rattle.decoding.specs.WordMachine.{announcementW}
 use Rattle.decoding.specs.Decoding.{select, shapeAt, goalMeant, stateMeant, codesEnd}
-use Rattle.decoding.specs.GoodStates.{Ready, settingOf}
+use Rattle.automaton.specs.Walking.{settingOf}
+use Rattle.decoding.specs.GoodStates.{Ready}
 use Rattle.decoding.proofs.PaddedCodes.{code-before}
 use Rattle.decoding.proofs.Selecting.{select-zero, select-none}
 use Rattle.decoding.proofs.ReductDecoded.{Reduct, missed, cut}
@@ -127,11 +128,11 @@ outputs-within tab c f gs g m = announced-within tab c f gs g (in-sort (λ x y. 
 
 module _ {ar tab : List ℕ} {n : ℕ} (r : Ready ar tab n) (gs : List GoalWords) (good : GoodFor r gs) where
   pub shape-low : (g : GoalWords) → g ∈ gs → g .sh < 16
-  shape-low g m = let a = good-fine r gs good g m .shape in let b = r .count in let c = r .few-shapes in omega arith
+  shape-low g m = let a = good-fine r gs good g m .shape in let b = r .count in let c = r .limits .few-shapes in omega arith
 
   pub announces-small : (g : GoalWords) → g ∈ gs → Small (decode (g .an))
   announces-small g m =
-      ann-small (settingOf r) (stateMeant (r .shapes) gs) (good .sound .goals) (goalMeant (r .shapes) g) (map-in (goalMeant (r .shapes)) m)
+      ann-small (settingOf (r .limits)) (stateMeant (r .shapes) gs) (good .sound .goals) (goalMeant (r .shapes) g) (map-in (goalMeant (r .shapes)) m)
 
   pub outputs-is : (f k : ℕ) → getElem? ar f ≡ some k
       → map announcementW (outputsW tab (labelCode tab gs) f gs) ≡ outputs (bare (r .shapes)) (stateMeant (r .shapes) gs) f k

@@ -4,9 +4,9 @@
 --   made                        and a file that has one is accepted
 --   shape-terms score-term      the terms that the tables' words hold
 use mathlib.Core.Path.{_≡_, refl, ap, ap₂, sym, _∙_}
-use mathlib.Core.List.{List, [], _∷_, append-nil}
+use mathlib.Core.List.{List, [], append-nil}
 use mathlib.Core.Bool.{Bool, true, false}
-use Prim.Native.Nat.{ℕ, zero, suc, _+_, _*_, _-_, _≤_}
+use Prim.Native.Nat.{ℕ, _+_, _*_, _-_, _≤_}
 use native.Mathlib.Omega.{arith}
 use borrow.Author.Tests.{leb-true}
 use lib.Dec.{leb}
@@ -16,9 +16,8 @@ use Rattle.kinds.specs.Lists.{unless, gather}
 use Rattle.kinds.specs.declared.Reason.{Reason}
 use Rattle.kinds.specs.declared.Reason.the-variants as reason
 use Rattle.kinds.proofs.Members.{in-take, in-drop}
-use Rattle.kinds.proofs.Places.{at-in, on-in}
 use Rattle.kinds.proofs.ListLaws.{stored-back}
-use Rattle.term.specs.Terms.{Term, span, flatten, sizes}
+use Rattle.term.specs.Terms.{Term, span, flatten}
 use Rattle.term.specs.Spans.{spansOf}
 use Rattle.term.proofs.OneTerm.{once}
 use Rattle.term.proofs.Sizes.{length-flatten, spans-are}
@@ -29,7 +28,8 @@ use Rattle.contents.specs.Tables.{ShapesRead, shapesOf, scoreOf}
 use Rattle.kinds.specs.Limits.{blankWord, noBlank, shapeLevels, scoreLevels}
 use Rattle.folio.specs.Opening.{Lent, Room, OpenOutcome, lent, out, refuseOpening, counts, stored, onScore, onShapes, held, onSections, opened}
 use Rattle.folio.specs.Folio as folio
-use Rattle.folio.specs.Folio.{GoodSymbols, startsAt, answered, IsScore, shapeTerms, orBlank, scoreTerm, AreShapes, Meaning}
+use Rattle.folio.specs.Folio.{startsAt, answered, shapeTerms, orBlank, scoreTerm, Meaning}
+use Rattle.term.specs.Admitted.{GoodSymbols, IsScore, AreShapes}
 use Rattle.sections.specs.declared.Places.{Places}
 use Rattle.sections.specs.declared.Sections.{Sections}
 use Rattle.sections.specs.declared.Sections.the-variants as sections
@@ -49,8 +49,8 @@ use Rattle.kinds.specs.Members.{Below}
 -- ---- what a file means
 pub one-meaning : (file : List ℕ) (p : Places) (m n : Meaning file p) → (m .shapes ≡ n .shapes) × (m .score ≡ n .score)
 one-meaning file p m n = (
-  all-once (take (p .shapes) file) (m .shapes) (n .shapes) (m .limits .are-shapes) (n .limits .are-shapes) (sym (m .shape-words) ∙ n .shape-words),
-  once (take (p .shapes) file) noBlank (m .score) (n .score) [] [] (m .limits .is-score .fits) (n .limits .is-score .fits)
+  all-once (take (p .shapes) file) (m .shapes) (n .shapes) (m .folio .limits .are-shapes) (n .folio .limits .are-shapes) (sym (m .shape-words) ∙ n .shape-words),
+  once (take (p .shapes) file) noBlank (m .score) (n .score) [] [] (m .folio .is-score .fits) (n .folio .is-score .fits)
       (append-nil (flatten (m .score)) ∙ sym (m .score-words) ∙ n .score-words ∙ sym (append-nil (flatten (n .score)))) .0,
 )
 
@@ -63,7 +63,7 @@ full ar ws st sc l =
 full-answered : (ar : List ℕ) (ss : List Term) (t : Term) (l : Lent) → folio.Folio ar ss t
     → full ar (gather flatten ss) (startsAt 0 ss) (flatten t) l ≡ answered ar ss t l
 full-answered ar ss t l f =
-    let few = f .symbols .few-symbols in
+    let few = f .limits .symbols .few-symbols in
     let sp = spans-are ar noBlank t (omega arith) (f .is-score .fits) in
     ap (λ (x : List ℕ). out (Folio (counts (length ar) (length (startsAt 0 ss)) (length (gather flatten ss)) (length (flatten t))))
     (lent (sets (l .words) 0 (gather flatten ss)) (sets (l .starts) 0 (startsAt 0 ss)) (sets (l .score) 0 (flatten t)) (sets (l .spans) 0 x))) sp
@@ -127,18 +127,18 @@ made-held file p m l e room =
     let ar : List ℕ = take (p .shapes) file in
     let ws : List ℕ = gather flatten (m .shapes) in
     let sc : List ℕ = flatten (m .score) in
-    let r = shapes-found ar (m .shapes) (m .limits .are-shapes) (m .limits .some-shape) (m .limits .few-shapes) in
+    let r = shapes-found ar (m .shapes) (m .folio .limits .are-shapes) (m .folio .limits .some-shape) (m .folio .limits .few-shapes) in
     opened-at file l p e
     ∙ ap₂ (λ (x y : List ℕ). held ar x y (p .shapes) l) (m .shape-words) (m .score-words)
-    ∙ held-on ar ws sc (p .shapes) l (ap (λ (x : ShapesRead). x .answer) r) (score-of ar (m .score) (m .limits .is-score))
+    ∙ held-on ar ws sc (p .shapes) l (ap (λ (x : ShapesRead). x .answer) r) (score-of ar (m .score) (m .folio .is-score))
     ∙ ap (λ (x : ShapesRead). stored ar ws (x .starts) sc l) r
     ∙ stored-all ar ws (startsAt 0 (m .shapes)) sc l (room .words) (rw (length-starts 0 (m .shapes)) (room .starts))
     (rw (length-flatten (m .score)) (room .score)) (rw (length-flatten (m .score)) (room .spans))
-    ∙ full-answered ar (m .shapes) (m .score) l (m .limits)
+    ∙ full-answered ar (m .shapes) (m .score) l (m .folio)
 
 pub folio-of : (ar : List ℕ) (ss : List Term) (t : Term) → GoodSymbols ar → AreShapes ar ss → 1 ≤ length ss → length ss ≤ 16 → IsScore ar t
     → folio.Folio ar ss t
-folio-of ar ss t g s a b c = record { symbols = g; some-shape = a; few-shapes = b; are-shapes = s; is-score = c }
+folio-of ar ss t g s a b c = record { limits = record { symbols = g; some-shape = a; few-shapes = b; are-shapes = s }; is-score = c }
 
 pub accepted : (file : List ℕ) (l : Lent) (k : Counts) → Below 256 file → opened file l .answer ≡ Folio k → Accepted file l
 unfolding opened
@@ -158,7 +158,7 @@ accepted file l k small e = go (sectionsOf file) refl e
         let m : Meaning file p = record {
           shapes = f .trees;
           score = s .tree;
-          limits =
+          folio =
               folio-of ar (f .trees) (s .tree) g (f .each) (f .some-shape) (f .few-shapes) (s .is);
           shape-words = f .words;
           score-words = s .words;
@@ -181,7 +181,7 @@ pub made : (file : List ℕ) (p : Places) (m : Meaning file p) (l : Lent) → tr
     → Room l (length (gather flatten (m .shapes))) (length (m .shapes)) (span (m .score))
     → opened file l ≡ answered (take (p .shapes) file) (m .shapes) (m .score) l
 made file p m l e room =
-    let g = m .limits .symbols in
+    let g = m .folio .limits .symbols in
     made-held file p m l (sections-good file p e (symbols-of (take (p .shapes) file) g)) room
 
 -- ---- the terms that the tables hold
@@ -203,11 +203,11 @@ module _ (file : List ℕ) (l : Lent) (a : Accepted file l) where
   table-shapes =
       ap (λ (o : OpenOutcome). shapeTerms symbols (take (length (gather flatten (a .meaning .shapes))) (o .tables .words))) (a .is)
       ∙ ap (shapeTerms symbols) (stored-back (gather flatten (a .meaning .shapes)) (l .words) (a .room .words))
-      ∙ shape-terms symbols (a .meaning .shapes) (a .meaning .limits .are-shapes) (a .meaning .limits .few-shapes)
+      ∙ shape-terms symbols (a .meaning .shapes) (a .meaning .folio .limits .are-shapes) (a .meaning .folio .limits .few-shapes)
 
   pub table-score : scoreTerm symbols (take (span (a .meaning .score)) (opened file l .tables .score)) ≡ a .meaning .score
   table-score =
       ap (λ (o : OpenOutcome). scoreTerm symbols (take (span (a .meaning .score)) (o .tables .score))) (a .is)
       ∙ ap (λ (n : ℕ). scoreTerm symbols (take n (sets (l .score) 0 (flatten (a .meaning .score))))) (sym (length-flatten (a .meaning .score)))
       ∙ ap (scoreTerm symbols) (stored-back (flatten (a .meaning .score)) (l .score) (rw (length-flatten (a .meaning .score)) (a .room .score)))
-      ∙ score-term symbols (a .meaning .score) (a .meaning .limits .is-score)
+      ∙ score-term symbols (a .meaning .score) (a .meaning .folio .is-score)

@@ -17,7 +17,8 @@ use Rattle.sections.specs.Bytes.{wordAt, wordsOf}
 use Rattle.sections.specs.Sections.{places, distancesOf, trailerOf}
 use Rattle.folio.specs.Opening.{Lent, Room, opened}
 use Rattle.folio.specs.Folio as folio
-use Rattle.folio.specs.Folio.{startsAt, answered, AreShapes, Meaning}
+use Rattle.folio.specs.Folio.{answered, Meaning}
+use Rattle.term.specs.Admitted.{AreShapes}
 use Rattle.sections.specs.declared.Places.{Places}
 use Rattle.sections.specs.declared.Sections.the-variants.{At}
 use Rattle.sections.proofs.LawsSections.{trailer-to, distances-at}
@@ -106,11 +107,11 @@ module _ (ar : List ℕ) (ss : List Term) (t : Term) (f : folio.Folio ar ss t) w
   pub trailer-of : trailerOf (fileOf ar ss t) ≡ At at
   trailer-of =
       let l = long in
-      let w = few-words ar ss (f .are-shapes) in
+      let w = few-words ar ss (f .limits .are-shapes) in
       let n = f .is-score .small in
       let m = length-flatten t in
-      let k = f .symbols .few-symbols in
-      let j = f .few-shapes in
+      let k = f .limits .symbols .few-symbols in
+      let j = f .limits .few-shapes in
       let x : length (body ar ws sc) - (2 * length ws + 2 * length sc) ≡ length ar = omega arith in
       let y : length (body ar ws sc) - 2 * length sc ≡ length ar + 2 * length ws = omega arith in
       trailer-at (body ar ws sc) (length (body ar ws sc)) (2 * length ws + 2 * length sc) (2 * length sc) (omega arith) refl (omega arith)
@@ -144,7 +145,7 @@ module _ (ar : List ℕ) (ss : List Term) (t : Term) (f : folio.Folio ar ss t) w
   meaning-of = record {
     shapes = ss;
     score = t;
-    limits = rw symbols-part f;
+    folio = rw symbols-part f;
     shape-words = ap wordsOf shapes-part ∙ words-bytes ws;
     score-words = ap wordsOf score-part ∙ words-bytes sc;
   }

@@ -16,7 +16,8 @@ use Rattle.contents.specs.Tables.{ShapesRead, shapesOf, scoreOf}
 use Rattle.kinds.specs.Limits.{blankWord, noBlank}
 use Rattle.checks.specs.Again.{shapesGood, scoreGood}
 use Rattle.folio.specs.Folio as folio
-use Rattle.folio.specs.Folio.{startsAt, Shaped, GoodScore, GoodSymbols, IsScore}
+use Rattle.folio.specs.Folio.{startsAt, Shaped, GoodScore}
+use Rattle.term.specs.Admitted.{GoodSymbols, IsScore}
 use Rattle.folio.proofs.Symbols.{symbols-is, symbols-of}
 use Rattle.folio.proofs.ShapesFound.{found-shapes, shapes-found}
 use Rattle.folio.proofs.ScoreWhole.{score-is, score-of}
@@ -74,8 +75,8 @@ scored-good ar ws sp g s =
 -- ---- what opening writes for a folio
 module _ (ar : List ℕ) (ss : List Term) (t : Term) (f : folio.Folio ar ss t) where
   pub opened-shapes-good : shapesGood ar (gather flatten ss) (startsAt 0 ss) ≡ true
-  opened-shapes-good = shaped-good ar (gather flatten ss) (startsAt 0 ss) (f .symbols)
-      (record { trees = ss; each = f .are-shapes; some-shape = f .some-shape; few-shapes = f .few-shapes; words = refl; begins = refl })
+  opened-shapes-good = shaped-good ar (gather flatten ss) (startsAt 0 ss) (f .limits .symbols)
+      (record { trees = ss; each = f .limits .are-shapes; some-shape = f .limits .some-shape; few-shapes = f .limits .few-shapes; words = refl; begins = refl })
 
   pub opened-score-good : scoreGood ar (flatten t) (sizes t) ≡ true
-  opened-score-good = scored-good ar (flatten t) (sizes t) (f .symbols) (record { tree = t; is = f .is-score; words = refl; spans = refl })
+  opened-score-good = scored-good ar (flatten t) (sizes t) (f .limits .symbols) (record { tree = t; is = f .is-score; words = refl; spans = refl })

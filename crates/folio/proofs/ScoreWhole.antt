@@ -6,14 +6,14 @@
 use mathlib.Core.Path.{_≡_, refl, ap, sym, _∙_}
 use mathlib.Core.List.{List, [], _∷_, _++_, append-nil}
 use mathlib.Core.Bool.{Bool, true, false, cond}
-use Prim.Native.Nat.{ℕ, _+_, _<_, _≤_}
+use Prim.Native.Nat.{ℕ, _+_, _≤_}
 use native.Mathlib.Omega.{arith}
 use borrow.Author.Tests.{ltb-false}
 use lib.Dec.{ltb}
 use lib.ListN.{length, drop, drop-of-length-le, length-drop}
 use Rattle.kinds.specs.declared.Reason.the-variants as reason
 use Rattle.kinds.proofs.Members.{∈-left, ∈-right, in-none}
-use Rattle.kinds.specs.Members.{_∈_, here, there, Below}
+use Rattle.kinds.specs.Members.{here, there, Below}
 use Rattle.term.specs.Terms.{Term, blank, node, Terms, tnil, tcons, span, flatten, flattens, Fits, Fitss, Whole, Wholes}
 use Rattle.term.specs.Reading.{reading}
 use Rattle.term.specs.declared.Met.{Met}
@@ -26,7 +26,8 @@ use Rattle.sections.specs.Bytes.{wordsOf}
 use Rattle.contents.specs.declared.Score.the-variants as score
 use Rattle.contents.specs.Tables.{scoreLimits, wholeScore, scoreOf}
 use Rattle.kinds.specs.Limits.{noBlank, scoreLevels}
-use Rattle.folio.specs.Folio.{IsScore, Scored}
+use Rattle.folio.specs.Folio.{Scored}
+use Rattle.term.specs.Admitted.{IsScore}
 use Rattle.contents.proofs.LawsTables.{score-whole}
 
 pub words-below : (b : List ℕ) → Below 256 b → Below 65536 (wordsOf b)

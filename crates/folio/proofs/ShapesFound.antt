@@ -1,6 +1,6 @@
 -- Shapes that are found are shapes, and the shapes there are are found.
 --   length-starts                 as many begin as there are
---   solid solid-node              a shape's term is no blank, and begins with a symbol
+--   solid                         a shape's term is no blank
 --   ShapesAt shapes-at            the words from an index on are those of shapes, and their starts are such
 --   found-shapes shapes-found     all of them
 --   all-once                      shapes' words determine the shapes
@@ -19,7 +19,7 @@ use Rattle.kinds.proofs.Members.{in-none}
 use Rattle.kinds.specs.Members.{_∈_, here, there}
 use Rattle.kinds.proofs.ListLaws.{from}
 use Rattle.kinds.proofs.Bools.{false-true}
-use Rattle.term.specs.Terms.{Term, blank, node, span, flatten, Fits, Terms}
+use Rattle.term.specs.Terms.{Term, blank, node, span, flatten, Fits}
 use Rattle.term.specs.Reading.{reading}
 use Rattle.term.specs.declared.Reading.{Reading}
 use Rattle.term.specs.declared.Reading.the-variants as read
@@ -31,7 +31,8 @@ use Rattle.term.proofs.Sizes.{length-flatten, span-pos}
 use Rattle.contents.specs.declared.Shapes.the-variants as shapes
 use Rattle.contents.specs.Tables.{shapeLimits, shapesRead, push, oneShape, shapesFrom, shapesOf}
 use Rattle.kinds.specs.Limits.{blankWord, shapeLevels}
-use Rattle.folio.specs.Folio.{isBlank, IsShape, AreShapes, startsAt, Shaped}
+use Rattle.folio.specs.Folio.{startsAt, Shaped}
+use Rattle.term.specs.Admitted.{isBlank, IsShape, AreShapes}
 use Rattle.contents.proofs.LawsTables.{never-found, shapes-done, shapes-some, found-from}
 
 pub length-starts : (at : ℕ) (ts : List Term) → length (startsAt at ts) ≡ length ts
@@ -57,11 +58,6 @@ solid ar ws d at e r h g = go (r .tree) (r .fits) (r .words)
         let s : getD ws at 0 ≡ w = cc in
         absurd (omega arith)
     go (node g ts) f q = refl
-
--- and what is no blank begins with a symbol
-pub solid-node : (t : Term) → isBlank t ≡ false → (f : ℕ) × (us : Terms) × (t ≡ node f us)
-solid-node (blank w) e = false-true (sym e)
-solid-node (node f us) e = (f, us, refl)
 
 pub shapes-at : (ar ws : List ℕ) (c n at k : ℕ) → shapesFrom ar blankWord ws c n at .answer ≡ shapes.Whole k
     → ShapesAt ar ws (shapesFrom ar blankWord ws c n at .starts) at

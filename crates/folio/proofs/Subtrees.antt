@@ -28,7 +28,7 @@ use Rattle.contents.specs.Tables.{shapeLimits, scoreLimits}
 use Rattle.kinds.specs.Limits.{blankWord, shapeLevels, scoreLevels}
 use Rattle.checks.specs.Again.{pieceAt, subtreeAt}
 use Rattle.checks.specs.declared.Asked.the-variants as asked
-use Rattle.folio.specs.Folio.{GoodSymbols, IsScore}
+use Rattle.term.specs.Admitted.{GoodSymbols, IsScore}
 use Rattle.folio.proofs.Symbols.{symbols-of}
 use Rattle.checks.proofs.LawsAgain.{piece-none, piece-some, subtree-some}
 

@@ -15,7 +15,7 @@ use Rattle.kinds.proofs.Options.{none-not}
 use Rattle.kinds.specs.declared.Reason.{Reason}
 use Rattle.kinds.specs.declared.Reason.the-variants.{Symbols, Children}
 use Rattle.sections.specs.Sections.{overAt, symbolsOf}
-use Rattle.folio.specs.Folio.{GoodSymbols}
+use Rattle.term.specs.Admitted.{GoodSymbols}
 use Rattle.sections.specs.declared.Verdict.{Verdict}
 use Rattle.sections.specs.declared.Verdict.the-variants.{Good, Bad}
 use Rattle.sections.proofs.LawsSections.{never-bad, symbols-each}

@@ -1,8 +1,5 @@
 -- What a folio is, on terms: the limits of document 01, "The folio".
---   isBlank      a term of one blank
---   IsShape AreShapes   "each 1 to 16 nodes, blanks counted, at depth at most 5", not one blank
---   IsScore      "one tree in preorder without blanks, 1 to 4,096 nodes, depth at most 64"
---   GoodSymbols  symbols that opening accepts; Scored: words that are a score's
+--   Scored       words that are a score's
 --   Folio        "1 to 32 symbols, each 0 to 4 children; 1 to 16 shapes; a score"
 --   Meaning      what the sections of a file mean
 --   Shaped GoodScore   tables such as opening writes; startsAt: where shapes begin
@@ -10,44 +7,18 @@
 --   shapeTerms   the shapes that shape words hold; scoreTerm the score that score words hold, a blank where they hold none
 use mathlib.Core.Path.{_≡_}
 use mathlib.Core.List.{List, [], _∷_}
-use mathlib.Core.Bool.{Bool, true, false}
-use mathlib.Core.Option.{Option, none, some}
+use mathlib.Core.Option.{none, some}
 use Prim.Native.Nat.{ℕ, _+_, _≤_}
-use lib.ListN.{length, getElem?}
+use lib.ListN.{length}
 use lib.Seq.{sets}
-use Rattle.kinds.specs.Limits.{mostSymbols, mostChildren, mostShapes, shapeNodes, scoreNodes, blankWord, noBlank, shapeLevels, scoreLevels}
+use Rattle.kinds.specs.Limits.{mostShapes, blankWord, noBlank, shapeLevels, scoreLevels}
 use Rattle.kinds.specs.Lists.{gather}
-use Rattle.kinds.specs.Members.{_∈_}
-use Rattle.term.specs.Terms.{Term, blank, node, span, depth, flatten, sizes, Fits, Whole, Read, parse, parseAll}
+use Rattle.term.specs.Terms.{Term, blank, span, flatten, sizes, Read, parse, parseAll}
+use Rattle.term.specs.Admitted.{AreShapes, Limits, IsScore}
 use Rattle.folio.specs.Opening.{Lent, OpenOutcome, lent, out, counts}
 use Rattle.folio.specs.declared.Opened.the-variants as opening
 use Rattle.sections.specs.Sections.{symbolsAt, shapesAt, scoreAt}
 use Rattle.sections.specs.declared.Places.{Places}
-
-abbrev pub isBlank : Term → Bool
-isBlank (blank w) = true
-isBlank (node f ts) = false
-
-pub record IsShape (ar : List ℕ) (t : Term) : Type 0 where
-  pub fits : Fits ar blankWord t
-  pub flat : depth t ≤ 5
-  pub small : span t ≤ shapeNodes
-  pub solid : isBlank t ≡ false
-
-abbrev pub AreShapes : List ℕ → List Term → Type 0
-AreShapes ar ts = (t : Term) → t ∈ ts → IsShape ar t
-
-pub record IsScore (ar : List ℕ) (t : Term) : Type 0 where
-  pub fits : Fits ar noBlank t
-  pub whole : Whole t
-  pub flat : depth t ≤ 64
-  pub small : span t ≤ scoreNodes
-
--- "1 to 32 of them", "0 to 4"
-pub record GoodSymbols (ar : List ℕ) : Type 0 where
-  pub some-symbol : 1 ≤ length ar
-  pub few-symbols : length ar ≤ mostSymbols
-  pub children : (f n : ℕ) → getElem? ar f ≡ some n → n ≤ mostChildren
 
 -- words that are those of a score
 pub record Scored (ar ws : List ℕ) : Type 0 where
@@ -56,17 +27,14 @@ pub record Scored (ar ws : List ℕ) : Type 0 where
   pub words : ws ≡ flatten tree
 
 pub record Folio (ar : List ℕ) (shapes : List Term) (score : Term) : Type 0 where
-  pub symbols : GoodSymbols ar
-  pub some-shape : 1 ≤ length shapes
-  pub few-shapes : length shapes ≤ mostShapes
-  pub are-shapes : AreShapes ar shapes
+  pub limits : Limits ar shapes
   pub is-score : IsScore ar score
 
 -- what the sections of a file mean
 pub record Meaning (file : List ℕ) (p : Places) : Type 0 where
   pub shapes : List Term
   pub score : Term
-  pub limits : Folio (symbolsAt file p) shapes score
+  pub folio : Folio (symbolsAt file p) shapes score
   pub shape-words : shapesAt file p ≡ gather flatten shapes
   pub score-words : scoreAt file p ≡ flatten score
 

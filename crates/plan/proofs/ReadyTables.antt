@@ -24,7 +24,8 @@ use Rattle.kinds.proofs.Options.{none-not}
 use Rattle.kinds.proofs.Places.{at-in, at-getD}
 use Rattle.term.specs.Terms.{Term, blank, node, Terms, tnil, tcons, count, span, flatten, flattens}
 use Rattle.term.specs.Places.{sub, dom}
-use Rattle.folio.specs.Folio.{IsShape, GoodSymbols, Shaped, startsAt, shapeTerms, AreShapes}
+use Rattle.folio.specs.Folio.{Shaped, startsAt, shapeTerms}
+use Rattle.term.specs.Admitted.{IsShape, GoodSymbols, AreShapes}
 use Rattle.checks.specs.Again.{shapesGood}
 use Rattle.folio.proofs.ShapesFound.{length-starts}
 use Rattle.folio.proofs.GoodTables.{shapes-good-shaped}
@@ -135,11 +136,7 @@ pub ready-for : (ar ws st tab : List ℕ) → GoodSymbols ar → Shaped ar ws st
 ready-for ar ws st tab g s long filled = record {
   shapes = s .trees;
   count = sym how-many;
-  some-shape = let h = s .some-shape in let e = how-many in omega arith;
-  few-shapes = let h = s .few-shapes in let e = how-many in omega arith;
-  few-symbols = g .few-symbols;
-  children = g .children;
-  is-shape = λ i t e. s .each t (at-in (s .trees) i e);
+  limits = record { symbols = g; some-shape = s .some-shape; few-shapes = s .few-shapes; are-shapes = s .each };
   tables = λ i h. table i h;
   tabled = tabled-of ar ws st tab long filled;
 }

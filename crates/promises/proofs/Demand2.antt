@@ -34,7 +34,7 @@ use Rattle.promises.proofs.Reported.{Right, report-right}
 
 module _ {file : List ℕ} (S : OneFile file) where
   path : (p : Pos) (n : ℕ) → number (scoreIn S) p ≡ some n → pathOf (spansIn S) n ≡ some p
-  path p n e = rw (score-spans S) (score-path (symbolsIn S) (scoreIn S) (is-folio S .symbols) (is-folio S .is-score) p n e)
+  path p n e = rw (score-spans S) (score-path (symbolsIn S) (scoreIn S) (is-folio S .limits .symbols) (is-folio S .is-score) p n e)
 
   module _ (choices : List ℕ) where
     abbrev mark : ℕ → ℕ
@@ -80,7 +80,7 @@ module _ {file : List ℕ} (S : OneFile file) where
         text : reported S choices ≡ reportIn test (shapesIn S) (scoreIn S) (S .size .states)
         text =
             ap (λ sp. report sp (S .size .states) (after S choices .marks)) (score-spans S)
-            ∙ report-right test (shapesIn S) (scoreIn S) (after S choices .marks) right (is-folio S .few-shapes)
+            ∙ report-right test (shapesIn S) (scoreIn S) (after S choices .marks) right (is-folio S .limits .few-shapes)
             (λ p n e. rw (score-spans S) at (path p n e)) (S .size .states)
 
 pub demand-2 : {file : List ℕ} (S : OneFile file) → Demand2 S
@@ -90,7 +90,7 @@ demand-2 S = record {
   score-words = score-words S;
   score-spans = score-spans S;
   plan = plan-is S;
-  construction = paper-says (let F = is-folio S in record { symbols = F .symbols; some-shape = F .some-shape; few-shapes = F .few-shapes; are-shapes = F .are-shapes });
+  construction = paper-says (is-folio S .limits);
   exactly = exactly S;
   no-other = no-other S;
   path = λ n j h.

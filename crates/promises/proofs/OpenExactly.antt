@@ -2,7 +2,6 @@
 --   refused-given given-refused   a refusal has its row; a row has its refusal
 --   refused-exactly               so a number is given exactly when its row says
 use mathlib.Core.Path.{_≡_, refl, ap, ap₂, sym, _∙_}
-use mathlib.Core.Logic.{_↔_}
 use mathlib.Core.List.{List}
 use Prim.Native.Nat.{ℕ, _+_, _-_, _*_, _<_}
 use native.Mathlib.Omega.{arith}
@@ -18,7 +17,8 @@ use Rattle.sections.specs.Sections.{trailerOf, symbolsOf, symbolsAt, shapesAt, 
 use Rattle.contents.specs.Tables.{ShapesRead, shapesOf, scoreOf}
 use Rattle.kinds.specs.Limits.{blankWord}
 use Rattle.folio.specs.Opening.{Lent, Room, OpenOutcome, refuseOpening, stored, held, opened}
-use Rattle.folio.specs.Folio.{GoodSymbols, Shaped, Scored}
+use Rattle.folio.specs.Folio.{Shaped, Scored}
+use Rattle.term.specs.Admitted.{GoodSymbols}
 use Rattle.sections.specs.declared.Places.{Places}
 use Rattle.sections.specs.declared.Sections.{Sections}
 use Rattle.sections.specs.declared.Sections.the-variants as sections

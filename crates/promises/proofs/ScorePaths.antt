@@ -13,7 +13,7 @@ use Rattle.term.proofs.Sizes.{length-sizes}
 use Rattle.term.proofs.Subterms.{sub-depth, fits-proper}
 use Rattle.following.proofs.FollowTree.{follow-at}
 use Rattle.kinds.specs.Limits.{noBlank}
-use Rattle.folio.specs.Folio.{GoodSymbols, IsScore}
+use Rattle.term.specs.Admitted.{GoodSymbols, IsScore}
 use Rattle.report.specs.Paths.{pathOf, Leads}
 use Rattle.report.proofs.FollowPath.{leads-path}
 

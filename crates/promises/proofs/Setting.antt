@@ -85,16 +85,16 @@ module _ {file : List ℕ} (S : OneFile file) where
 
   shapes-are : shapesIn S ≡ ss
   shapes-are = ap₂ shapeTerms symbols-are words-are
-      ∙ shape-terms (take (p .shapes) file) ss (acc .meaning .limits .are-shapes) (acc .meaning .limits .few-shapes)
+      ∙ shape-terms (take (p .shapes) file) ss (acc .meaning .folio .limits .are-shapes) (acc .meaning .folio .limits .few-shapes)
 
   score-is : scoreIn S ≡ t
-  score-is = ap₂ scoreTerm symbols-are nodes-are ∙ score-term (take (p .shapes) file) t (acc .meaning .limits .is-score)
+  score-is = ap₂ scoreTerm symbols-are nodes-are ∙ score-term (take (p .shapes) file) t (acc .meaning .folio .is-score)
 
   pub is-folio : Folio (symbolsIn S) (shapesIn S) (scoreIn S)
   is-folio =
       subst (λ a. Folio a (shapesIn S) (scoreIn S)) (sym symbols-are)
       (subst (λ xs. Folio (take (p .shapes) file) xs (scoreIn S)) (sym shapes-are)
-      (subst (λ u. Folio (take (p .shapes) file) ss u) (sym score-is) (acc .meaning .limits)))
+      (subst (λ u. Folio (take (p .shapes) file) ss u) (sym score-is) (acc .meaning .folio)))
 
   pub shape-words : wordsIn S ≡ gather flatten (shapesIn S)
   shape-words = words-are ∙ ap (gather flatten) (sym shapes-are)

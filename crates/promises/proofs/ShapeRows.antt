@@ -16,9 +16,7 @@ use Rattle.kinds.specs.declared.Reason.{Reason}
 use Rattle.kinds.specs.declared.Reason.the-variants as reason
 use Rattle.kinds.proofs.Members.{in-one, ∈-append, in-none}
 use Rattle.kinds.specs.Members.{here, there}
-use Rattle.kinds.proofs.Places.{at-in, on-in}
 use Rattle.kinds.proofs.ListLaws.{from, gather-append}
-use Rattle.kinds.proofs.Options.{none-not}
 use Rattle.term.specs.Terms.{Term, blank, span, flatten}
 use Rattle.term.specs.Reading.{met, reading}
 use Rattle.term.specs.declared.Fault.{Fault}
@@ -32,7 +30,8 @@ use Rattle.term.proofs.Sizes.{length-flatten}
 use Rattle.term.proofs.FirstFault.{fault-of, of-fault}
 use Rattle.contents.specs.Tables.{shapeLimits, shapeReason, ShapesRead, shapesRead, push, oneShape, shapesFrom, shapesOf}
 use Rattle.kinds.specs.Limits.{blankWord, shapeLevels}
-use Rattle.folio.specs.Folio.{IsShape, Shaped, AreShapes}
+use Rattle.folio.specs.Folio.{Shaped}
+use Rattle.term.specs.Admitted.{IsShape, AreShapes}
 use Rattle.contents.specs.declared.Shapes.{Shapes}
 use Rattle.contents.specs.declared.Shapes.the-variants as shapes
 use Rattle.contents.proofs.LawsTables.{shapes-none, shapes-some}

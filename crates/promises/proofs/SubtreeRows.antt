@@ -1,22 +1,20 @@
 -- The words of one subtree: those of the term that stands there, or none.
-use mathlib.Core.Path.{_≡_, refl, ap, _∙_}
+use mathlib.Core.Path.{_≡_, refl, _∙_}
 use mathlib.Core.Bool.{true, false}
 use mathlib.Core.List.{List, [], _++_}
 use mathlib.Core.Logic.{_⊎_, inl, inr}
 use Prim.Native.Nat.{ℕ, _<_}
 use native.Mathlib.Omega.{arith}
-use lib.ListN.{length, drop}
+use lib.ListN.{drop}
 use Rattle.kinds.specs.declared.Node.{Node}
 use Rattle.kinds.proofs.Bools.{test}
 use Rattle.kinds.proofs.Members.{∈-left, in-drop}
 use Rattle.kinds.specs.Members.{_∈_, Below}
-use Rattle.kinds.proofs.Places.{on-in}
 use Rattle.term.specs.Terms.{Term, blank, node, flatten}
-use Rattle.term.proofs.Sizes.{length-flatten, span-pos}
 use Rattle.contents.specs.Tables.{shapeLimits, scoreLimits}
 use Rattle.kinds.specs.Limits.{blankWord, shapeLevels, scoreLevels}
 use Rattle.checks.specs.Again.{symbolsGood, pieceAt, subtreeAt}
-use Rattle.folio.specs.Folio.{GoodSymbols, IsScore}
+use Rattle.term.specs.Admitted.{GoodSymbols, IsScore}
 use Rattle.checks.specs.declared.Asked.{Asked}
 use Rattle.checks.specs.declared.Asked.the-variants as asked
 use Rattle.checks.proofs.LawsAgain.{symbols-good-is}

@@ -21,9 +21,10 @@ use Rattle.kinds.specs.Kinds.{childOf, childSays}
 use Rattle.kinds.specs.Positions.{Pos}
 use Rattle.kinds.specs.declared.Position.{Position}
 use Rattle.kinds.specs.declared.Reason.{Reason}
-use Rattle.term.specs.Terms.{Term, span, flatten}
+use Rattle.term.specs.Terms.{span, flatten}
 use Rattle.folio.specs.Opening.{Lent, Room, OpenOutcome, opened, openedSays}
-use Rattle.folio.specs.Folio.{Meaning, GoodSymbols, Shaped, GoodScore, shapeTerms, answered}
+use Rattle.folio.specs.Folio.{Meaning, Shaped, GoodScore, shapeTerms, answered}
+use Rattle.term.specs.Admitted.{GoodSymbols}
 use Rattle.checks.specs.Again.{subtreeAt}
 use Rattle.checks.specs.declared.Asked.{Asked}
 use Rattle.sections.specs.declared.Places.{Places}

@@ -22,7 +22,7 @@ use Rattle.kinds.specs.declared.Position.{Position}
 use Rattle.kinds.specs.declared.Node.{Node}
 use Rattle.term.specs.Terms.{Term, span, depth, flatten, Fits}
 use Rattle.kinds.specs.Limits.{blankWord}
-use Rattle.folio.specs.Folio.{GoodSymbols, IsScore}
+use Rattle.term.specs.Admitted.{GoodSymbols, IsScore}
 use Rattle.checks.specs.declared.Asked.{Asked}
 use Rattle.checks.specs.declared.Asked.the-variants as asked
 use Rattle.following.specs.Following.{follow}

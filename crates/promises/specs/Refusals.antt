@@ -18,7 +18,8 @@ use Rattle.sections.specs.Bytes.{wordAt}
 use Rattle.sections.specs.Sections.{places, symbolsAt, shapesAt, scoreAt}
 use Rattle.term.specs.Reading.{limits}
 use Rattle.folio.specs.Opening.{Lent, Room}
-use Rattle.folio.specs.Folio.{AreShapes, GoodSymbols, Shaped, Scored}
+use Rattle.folio.specs.Folio.{Shaped, Scored}
+use Rattle.term.specs.Admitted.{AreShapes, GoodSymbols}
 use Rattle.sections.specs.declared.Places.{Places}
 
 -- ---- 1 to 4

@@ -50,7 +50,7 @@ use Rattle.states.proofs.WordArrays.{flat-back, flat-thirds, picked-few
 use Rattle.states.proofs.PartLaws.{held-good, on-symbol}
 use Rattle.states.proofs.StateLaws.{states-length, states-at, added, states-added, kept-added, added-behind}
 use Rattle.states.proofs.MeetLaws.{meet-big, meet-known, meet-full, meet-new, onto, meets-begin, meets-stop, meets-on, meets-end, row-stop, row-on, run-stop, run-on, run-end}
-use Rattle.decoding.proofs.GoodLaws.{good-start, good-label, good-next, deriv-low, deriv-room}
+use Rattle.decoding.proofs.GoodLaws.{ready-few, good-start, good-label, good-next, deriv-low, deriv-room}
 
 -- ---- one class
 module _ {goals : List ℕ} {n : ℕ} {dep : Square} (s : Squared goals n dep) (r : ℕ) where
@@ -418,7 +418,7 @@ module _ {ar tab : List ℕ} {n : ℕ} (sc₀ : List ℕ) where
   pub running-begin : Ready ar tab n → statesWords ≤ length sc₀ → (first sc : List ℕ)
       → first ≡ sets (replicate 96 0) 0 (flat (freshesW n 0)) → sc ≡ added sc₀ 0 first n → Running ar tab n sc sc 1 0 0 × (Behind sc₀ sc)
   running-begin ready long first sc e d =
-      let few = ready .few-shapes in
+      let few = ready-few ready in
       let many : length (freshesW n 0) ≡ n = length-map (range 0 n) (freshW 0) ∙ length-range 0 n in
       let wide : length first ≡ 96 = ap length e ∙ length-sets (replicate 96 0) 0 (flat (freshesW n 0)) in
       let is : goalsFrom first 0 n ≡ freshesW n 0 =

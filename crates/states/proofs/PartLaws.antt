@@ -29,7 +29,7 @@ use Rattle.classes.specs.Squares.{IsSquare, Squared, shares, Closes}
 use Rattle.decoding.specs.WordMachine.{words, placeIn, statesWords, stateIn, statesIn, Kept}
 use Rattle.decoding.specs.GoodStates.{GoodState}
 use Rattle.decoding.proofs.Room.{flat-length}
-use Rattle.decoding.proofs.GoodLaws.{good-low, good-label, deriv-low, deriv-room}
+use Rattle.decoding.proofs.GoodLaws.{ready-few, good-low, good-label, deriv-low, deriv-room}
 use Rattle.states.specs.Meeting.{AllGood, Held}
 use Rattle.states.specs.Parting.{derivedWords, OnSymbol, firsts, Named, goalsBy, classesBy, Lent, Parted}
 use Rattle.states.specs.declared.Parts.{Parts}
@@ -119,9 +119,9 @@ module _ {ar tab : List ℕ} {n : ℕ} {sc : List ℕ} {i c f : ℕ} (o : OnSymb
   pub derivable : (out : List ℕ) → derivedWords ≤ length out → Derivable tab n c f k gs out
   derivable out room =
       let label = good-label (o .good) in
-      let few = o .good .ready .children f k children in
+      let few = o .good .ready .limits .symbols .children f k children in
       let words = flat-length D in
-      (o .good .ready .few-shapes, omega (arith, o .label), omega (arith, few-derived))
+      (ready-few (o .good .ready), omega (arith, o .label), omega (arith, few-derived))
 
   pub derived : (old goals : List ℕ) (r : ℕ) → PutsFirst (flat D) r old goals → derivedWords ≤ length old → Derived tab goals (r / 3) D
   derived old goals r puts room =

@@ -1,5 +1,5 @@
 -- From a folio to what a walk is lent: its terms as the construction takes them, and the plan that is planned for them.
---   settingOf scoredOf   a folio within its limits
+--   scoredOf             a folio as the theory takes it
 --   on-plan              the words of a plan by the paper's construction, and any words behind them, are those of one folio
 use mathlib.Core.Path.{_≡_, ap, sym, _∙_}
 use mathlib.Core.List.{List, _++_}
@@ -7,55 +7,40 @@ use Prim.Native.Nat.{ℕ}
 use native.Mathlib.Omega.{arith}
 use lib.ListN.{length}
 use Rattle.kinds.specs.Positions.{Pos}
-use Rattle.kinds.proofs.Places.{at-in, at-below}
+use Rattle.kinds.proofs.Places.{at-below}
 use Rattle.term.specs.Terms.{Term}
-use Rattle.kinds.specs.Limits.{blankWord, noBlank}
 use Rattle.folio.specs.Folio.{Folio}
-use Rattle.folio.proofs.ShapesFound.{solid-node}
 use Rattle.automaton.specs.Paper.{paper}
 use Rattle.automaton.specs.Bare.{bare}
 use Rattle.automaton.specs.Goals.{State}
 use Rattle.automaton.specs.Exploring.{construction, Block, made, explored}
 use Rattle.automaton.specs.PlanWords.{plan-of, planWords, planned}
-use Rattle.automaton.specs.Walking.{Setting, Scored}
+use Rattle.automaton.specs.Walking.{settingOf, Scored}
 use Rattle.automaton.proofs.SamePlan.{same-plan}
 use Rattle.walking.specs.OneFolio.{OneFolio, planIn}
 use Rattle.automaton.proofs.Explored.{explored-numbered}
 use Rattle.walking.proofs.PlanRead.{plan-reads, on-planned}
 
 module _ {ar : List ℕ} {shapes : List Term} {score : Term} (folio : Folio ar shapes score) where
-  abbrev pub settingOf : Setting
-  settingOf = record {
-    counts = ar;
-    shapes = shapes;
-    blanks = blankWord;
-    children = folio .symbols .children;
-    some-shape = folio .some-shape;
-    few-shapes = folio .few-shapes;
-    fits = λ i x e. (folio .are-shapes x (at-in shapes i e)) .fits;
-    flat = λ i x e. (folio .are-shapes x (at-in shapes i e)) .flat;
-    solid = λ i x e. solid-node x ((folio .are-shapes x (at-in shapes i e)) .solid);
-  }
-
   abbrev pub scoredOf : Scored
-  scoredOf = record { setting = settingOf; score = score; score-blanks = noBlank; score-fits = folio .is-score .fits; whole = folio .is-score .whole }
+  scoredOf = record { setting = settingOf (folio .limits); score = score; is-score = folio .is-score }
 
   -- the words of the plan of these states and blocks, and any words behind them
   abbrev oneFolio : (states : List (State Pos)) (blocks : List Block) → explored (construction (bare shapes)) ar ≡ made states blocks
       → (behind : List ℕ)
       → OneFolio scoredOf
   oneFolio states blocks ex behind =
-      let n = explored-numbered settingOf states blocks ex in
+      let n = explored-numbered (settingOf (folio .limits)) states blocks ex in
       let m = at-below states 0 (n .first) in
       record {
-        few-symbols = folio .symbols .few-symbols;
+        few-symbols = folio .limits .symbols .few-symbols;
         few-nodes = (let n = folio .is-score .small in omega arith);
         states = states;
         blocks = blocks;
         is-explored = ex;
         words = planWords (construction (bare shapes)) (length ar) (length shapes) states blocks ++ behind;
         reads = plan-reads (construction (bare shapes)) (length ar) (length shapes) states blocks behind (n .blocks) (omega arith) (n .few)
-            (folio .symbols .some-symbol) (folio .symbols .few-symbols) (folio .some-shape) (folio .few-shapes);
+            (folio .limits .symbols .some-symbol) (folio .limits .symbols .few-symbols) (folio .limits .some-shape) (folio .limits .few-shapes);
       }
 
   pub on-plan {κ} : {Z : Type κ} (room m : ℕ) (w behind : List ℕ) → planned (construction (paper shapes)) ar (length shapes) room ≡ plan-of m w

@@ -33,7 +33,8 @@ use Rattle.automaton.specs.Exploring.{Succ, Block}
 use Rattle.automaton.specs.Walking.{Setting, Scored, calculus, Item, looks, placed, announces, Walked, step}
 use Rattle.automaton.proofs.Derivative.{expects-owes}
 use Rattle.automaton.proofs.Sound.{SoundState}
-use Rattle.term.proofs.Subterms.{sub-prefix, fits-at}
+use Rattle.term.proofs.Subterms.{sub-prefix}
+use Rattle.automaton.proofs.Within.{score-arity}
 use Rattle.automaton.proofs.Reachable.{reachable-sound}
 use Rattle.automaton.proofs.Announced.{on-outputs, announces-differ}
 use Rattle.automaton.proofs.Numbered.{Says, Numbered}
@@ -86,11 +87,11 @@ module _ {C : Scored} (F : OneFolio C) where
   abbrev bs : List Block
   bs = F .blocks
 
-  made : Numbered K (S .counts) ss bs
+  made : Numbered K (S .symbols) ss bs
   made = explored-numbered S ss bs (F .is-explored)
 
-  arity-at : (p : Pos) (f : ℕ) (us : Terms) → sub t p ≡ some (node f us) → getElem? (S .counts) f ≡ some (count us)
-  arity-at p f us e = fits-at (S .counts) (C .score-blanks) t (C .score-fits) p f us e
+  arity-at : (p : Pos) (f : ℕ) (us : Terms) → sub t p ≡ some (node f us) → getElem? (S .symbols) f ≡ some (count us)
+  arity-at p f us e = score-arity C p f us e
 
   -- one item of a walk, at symbol f
   module _ (cs ds : List Item) (read : List Pos) (told : List Announcement) (y : ℕ × Pos) (w : Walked C (cs ++ (posItem ss y ∷ ds)) read told)
@@ -101,10 +102,10 @@ module _ {C : Scored} (F : OneFolio C) where
     sound : SoundState S st
     sound = reachable-sound S ((walked-invariant C w) .reach (posItem ss y) (∈-right cs (here refl)))
 
-    arity : getElem? (S .counts) f ≡ some (count ts)
+    arity : getElem? (S .symbols) f ≡ some (count ts)
     arity = arity-at (looks S (posItem ss y)) f ts seen
 
-    blk : (b : Block) × (getElem? bs (y .0 * length (S .counts) + f) ≡ some b) × Says K ss st f (count ts) b
+    blk : (b : Block) × (getElem? bs (y .0 * length (S .symbols) + f) ≡ some b) × Says K ss st f (count ts) b
     blk = made .block (y .0) f st (count ts) (at-getD ss (y .0) [] known) arity
 
     in-outputs : (a : Announcement) → a ∈ blk .0 .out → a ∈ outputs K st f (count ts)
@@ -148,7 +149,7 @@ module _ {C : Scored} (F : OneFolio C) where
               map (λ x. wordItem t (succItem (y .1) x)) (blk .0 .succs);
         })
     look-is =
-        look-of (planIn F) (flatten t) (sizes t) (length ss) (length (S .counts)) (length (S .shapes))
+        look-of (planIn F) (flatten t) (sizes t) (length ss) (length (S .symbols)) (length (S .shapes))
         (F .reads .counts-good) (F .reads .states-are) (F .reads .symbols-are) (F .reads .shapes-are)
         (y .0) (num t (y .1)) (code (label K st)) (num t (looks S (posItem ss y))) f
         (map outPair (blk .0 .out)) (map succPair (blk .0 .succs)) (map (outWord t (y .1)) (blk .0 .out))
@@ -156,7 +157,7 @@ module _ {C : Scored} (F : OneFolio C) where
         (F .reads .label-read (y .0) st (at-getD ss (y .0) [] known))
         (target-num t (y .1) (label K st) (node f ts) (F .few-nodes) (label-small S st sound) seen)
         (word-at t (looks S (posItem ss y)) f ts (num t (looks S (posItem ss y))) seen (num-is t (looks S (posItem ss y)) (node f ts) seen))
-        (F .reads .block-read (y .0) f (blk .0) known (at-below (S .counts) f arity) (blk .1))
+        (F .reads .block-read (y .0) f (blk .0) known (at-below (S .symbols) f arity) (blk .1))
         (targets-of (length (S .shapes)) (target (length (flatten t)) (sizes t) (num t (y .1))) (λ a. a .shape) (λ a. code (a .at))
         (λ a. num t (y .1 ++ a .at)) (blk .0 .out) (λ a m. let o = out-ok a m in (o .below, o .to)))
         (targets-of (length ss) (target (length (flatten t)) (sizes t) (num t (y .1))) (λ x. x .to) (λ x. code (x .by)) (λ x. num t (y .1 ++ x .by))

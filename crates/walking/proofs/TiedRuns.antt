@@ -41,7 +41,7 @@ module _ {C : Scored} (F : OneFolio C) where
   abbrev ss : List (State Pos)
   ss = F .states
 
-  made : Numbered (calculus (C .setting)) (C .setting .counts) ss (F .blocks)
+  made : Numbered (calculus (C .setting)) (C .setting .symbols) ss (F .blocks)
   made = explored-numbered (C .setting) ss (F .blocks) (F .is-explored)
 
   abbrev zeros : List ℕ

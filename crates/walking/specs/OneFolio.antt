@@ -38,13 +38,13 @@ pub record ReadsAs {S : Type 0} (C : Construction S) (k n : ℕ) (ss : List S) (
       → blockOf words (length ss) k s f ≡ some (map outPair (b .out), map succPair (b .succs))
 
 pub record OneFolio (C : Scored) : Type 0 where
-  pub few-symbols : length (C .setting .counts) ≤ 32
+  pub few-symbols : length (C .setting .symbols) ≤ 32
   pub few-nodes : span (C .score) ≤ 65536
   pub states : List (State Pos)
   pub blocks : List Block
-  pub is-explored : explored (construction (calculus (C .setting))) (C .setting .counts) ≡ made states blocks
+  pub is-explored : explored (construction (calculus (C .setting))) (C .setting .symbols) ≡ made states blocks
   pub words : List ℕ
-  pub reads : ReadsAs (construction (calculus (C .setting))) (length (C .setting .counts)) (length (C .setting .shapes)) states blocks words
+  pub reads : ReadsAs (construction (calculus (C .setting))) (length (C .setting .symbols)) (length (C .setting .shapes)) states blocks words
 
 module _ {C : Scored} (F : OneFolio C) where
   abbrev pub planIn : List ℕ

@@ -1,4 +1,5 @@
 use Rattle.states.proofs.ExploreLaws.{Running, running-begin, running-on, running-stop, running-end, fresh-room}
+use Rattle.decoding.proofs.GoodLaws.{ready-few}
 use lib.ListN.{length, getD}
 use Prim.Native.Nat.{ℕ, _≤_, _<_, _+_, _-_, _*_, _/_, _%_}
 use mathlib.Core.Path.{_≡_, refl, ap, ap₂, sym, _∙_}
@@ -24,7 +25,7 @@ slice-aggregate-put-fresh c = search needs
 put-fresh-requires : tie.Need-put-fresh-requires Inv-loop μ-loop
 put-fresh-requires c κs =
     let entry = c .before .before .before .before in
-    (entry .pre .0 .few-shapes, fresh-room (entry .args .shapes) (entry .pre .0 .few-shapes))
+    (ready-few (entry .pre .0), fresh-room (entry .args .shapes) (ready-few (entry .pre .0)))
 
 slice-aggregate-add-state : tie.Need-slice-aggregate-add-state Inv-loop μ-loop
 slice-aggregate-add-state c = search needs

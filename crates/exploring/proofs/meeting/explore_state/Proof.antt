@@ -81,7 +81,7 @@ add-words c =
     let s =
     rowing-on (at-loop .inv) (at-loop-test .taken) _ (at-explore-symbol .result) _ _ (c .before .all .given .1)
     (at-explore-symbol .ensures .0) (at-explore-symbol .ensures .1) (at-explore-symbol .kept .1 .1 .1 .0) in
-    omega (arith, s .sum, s .below, held-good (entry .pre .0) (entry .pre .1) .ready .few-symbols)
+    omega (arith, s .sum, s .below, held-good (entry .pre .0) (entry .pre .1) .ready .limits .symbols .few-symbols)
 
 enum-known-reason : tie.Need-enum-known-reason Inv-loop μ-loop
 enum-known-reason c = search needs
@@ -125,7 +125,7 @@ same-length-2 c = c .before .loop .inv .long
 returns-2 : tie.Need-returns-2 Inv-loop μ-loop
 returns-2 c =
     let entry = c .before .before .before .before .before .before .before .before .before in (
-      rowing-end (c .before .loop .inv) (c .loop-test .left) (held-good (entry .pre .0) (entry .pre .1) .ready .few-symbols),
+      rowing-end (c .before .loop .inv) (c .loop-test .left) (held-good (entry .pre .0) (entry .pre .1) .ready .limits .symbols .few-symbols),
       c .before .loop .inv .behind,
     )
 
@@ -135,7 +135,7 @@ cast-i c = search needs
 cast-t29 : tie.Need-cast-t29 Inv-loop μ-loop
 cast-t29 c =
     let entry = c .before .before .before .before .before .before .before .before .before .before in
-    omega (arith, c .before .loop-test .taken, held-good (entry .pre .0) (entry .pre .1) .ready .few-symbols)
+    omega (arith, c .before .loop-test .taken, held-good (entry .pre .0) (entry .pre .1) .ready .limits .symbols .few-symbols)
 
 pub explore-state-spec : {M : Type 1} → statement M
 explore-state-spec =

@@ -27,7 +27,7 @@ add-total c =
     let e =
     ended-is (entry .args .symbols .now) (entry .args .tab .now) (entry .args .shapes) (at-explore .result) _ _ _ (c .before .m .given .1)
     (at-explore .ensures .0) in
-    let s = ended-counts _ _ _ e (entry .pre .0 .few-symbols) in
+    let s = ended-counts _ _ _ e (entry .pre .0 .limits .symbols .few-symbols) in
     omega (arith, s .states, s .starts, s .blocks)
 
 mul-total : tie.Need-mul-total
@@ -37,7 +37,7 @@ mul-total c =
     let e =
     ended-is (entry .args .symbols .now) (entry .args .tab .now) (entry .args .shapes) (at-explore .result) _ _ _ (c .before .m .given .1)
     (at-explore .ensures .0) in
-    let s = ended-counts _ _ _ e (entry .pre .0 .few-symbols) in
+    let s = ended-counts _ _ _ e (entry .pre .0 .limits .symbols .few-symbols) in
     omega (arith, s .states, s .starts, s .blocks)
 
 add-total-2 : tie.Need-add-total-2
@@ -47,7 +47,7 @@ add-total-2 c =
     let e =
     ended-is (entry .args .symbols .now) (entry .args .tab .now) (entry .args .shapes) (at-explore .result) _ _ _ (c .before .m .given .1)
     (at-explore .ensures .0) in
-    let s = ended-counts _ _ _ e (entry .pre .0 .few-symbols) in
+    let s = ended-counts _ _ _ e (entry .pre .0 .limits .symbols .few-symbols) in
     omega (arith, s .states, s .starts, s .blocks)
 
 add-total-3 : tie.Need-add-total-3
@@ -57,7 +57,7 @@ add-total-3 c =
     let e =
     ended-is (entry .args .symbols .now) (entry .args .tab .now) (entry .args .shapes) (at-explore .result) _ _ _ (c .before .m .given .1)
     (at-explore .ensures .0) in
-    let s = ended-counts _ _ _ e (entry .pre .0 .few-symbols) in
+    let s = ended-counts _ _ _ e (entry .pre .0 .limits .symbols .few-symbols) in
     omega (arith, s .states, s .starts, s .blocks)
 
 same-length : tie.Need-same-length

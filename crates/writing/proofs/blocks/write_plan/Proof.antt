@@ -1,6 +1,6 @@
 use Rattle.writing.proofs.WriteLaws.{head-length, Planned, planned-begin, planned-on, planned-end, plan-room, plan-word, row-writable}
 use Rattle.states.proofs.PartLaws.{held-good, held-count, held-stored}
-use Rattle.decoding.proofs.GoodLaws.{good-label}
+use Rattle.decoding.proofs.GoodLaws.{ready-few, good-label}
 use lib.ListN.{length, set, length-set}
 use Prim.Native.Nat.{_-_}
 use mathlib.Core.Path.{refl, _∙_}
@@ -26,7 +26,7 @@ slice-write-plan : tie.Need-slice-write-plan Inv-loop μ-loop
 slice-write-plan c = omega (arith, plan-room (c .before .before .before .before .pre))
 
 cast-plan-2 : tie.Need-cast-plan-2 Inv-loop μ-loop
-cast-plan-2 c = omega (arith, c .before .before .before .before .pre .ready .few-symbols)
+cast-plan-2 c = omega (arith, c .before .before .before .before .pre .ready .limits .symbols .few-symbols)
 
 slice-write-plan-2 : tie.Need-slice-write-plan-2 Inv-loop μ-loop
 slice-write-plan-2 c =
@@ -34,7 +34,7 @@ slice-write-plan-2 c =
     omega (arith, plan-room (entry .pre), length-set (entry .args .plan .now) 0 (entry .args .m))
 
 cast-plan-3 : tie.Need-cast-plan-3 Inv-loop μ-loop
-cast-plan-3 c = omega (arith, c .before .before .before .before .pre .ready .few-shapes)
+cast-plan-3 c = omega (arith, ready-few (c .before .before .before .before .pre .ready))
 
 slice-write-plan-3 : tie.Need-slice-write-plan-3 Inv-loop μ-loop
 slice-write-plan-3 c =

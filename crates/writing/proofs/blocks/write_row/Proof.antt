@@ -94,7 +94,7 @@ cast-starts c = search needs
 cast-t19 : tie.Need-cast-t19 Inv-loop μ-loop
 cast-t19 c =
     let entry = c .before .before .before .before .before .before .before in
-    omega (arith, c .loop-test .taken, held-good (entry .pre .held) (entry .pre .inside) .ready .few-symbols)
+    omega (arith, c .loop-test .taken, held-good (entry .pre .held) (entry .pre .inside) .ready .limits .symbols .few-symbols)
 
 pub write-row-spec : {M : Type 1} → statement M
 write-row-spec =
