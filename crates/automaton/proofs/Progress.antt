@@ -28,7 +28,7 @@ use Rattle.automaton.specs.Exploring.{Construction, Succ, Block, Met, st
 use Rattle.automaton.specs.Exploring.{andThen, thenBlock, thenMore, meet, meets, row, run, explored}
 use Rattle.automaton.specs.FinalBlocks.{allBlocks}
 use Rattle.automaton.specs.PlanWords.{Plan, halted, too-long, plan-of, toPlan, planned}
-use Rattle.automaton.specs.Progress.{Known, New, ClassAt, Reached, AllMet, OverGoals, OverStates, wordsOf, TooLong, Fits}
+use Rattle.automaton.specs.Progress.{Known, New, ClassAt, Reached, AllMet, NextClass, OverGoals, OverStates, wordsOf, TooLong, Fits}
 use Rattle.automaton.specs.Progress as progress
 use Rattle.automaton.proofs.BlocksAgain.{blocks-again}
 
@@ -213,17 +213,16 @@ module _ {S : Type 0} (C : Construction S) where
     rest (progress.next-symbol s n r a b e) = at-symbol s a (class-end s n e (to-class (few r) (rest r) s n a b))
     rest (progress.next-state r l e) = next-rest (few r) l e (rest r)
 
+    next-stop : {i : ℕ} (r : Reason) (k : NextClass C ar i) → meet C (k .states) (k .part) ≡ stopped r → explored C ar ≡ refused r i
+    next-stop r k e =
+        let a = k .is in
+        class-stop (a .state) (a .children) (k .part) r (a .class-is) e (from-class (few (k .reached)) (rest (k .reached)) a)
+
     pub over-goals : (i : ℕ) → OverGoals C ar i → explored C ar ≡ refused ManyGoals i
-    over-goals i o =
-        let a = o .is in
-        class-stop (a .state) (a .children) (o .part) ManyGoals (a .class-is) (meet-over (o .states) (o .part) (o .over))
-        (from-class (few (o .reached)) (rest (o .reached)) a)
+    over-goals i o = next-stop ManyGoals (o .class) (meet-over (o .class .states) (o .class .part) (o .over))
 
     pub over-states : (i : ℕ) → OverStates C ar i → explored C ar ≡ refused ManyStates i
-    over-states i o =
-        let a = o .is in
-        class-stop (a .state) (a .children) (o .part) ManyStates (a .class-is) (meet-full (o .states) (o .part) (o .few) (o .is-new) (o .full))
-        (from-class (few (o .reached)) (rest (o .reached)) a)
+    over-states i o = next-stop ManyStates (o .class) (meet-full (o .class .states) (o .class .part) (o .few) (o .is-new) (o .full))
 
     pub all-met : (ss : List S) → AllMet C ar ss → (bs : List Block) × (explored C ar ≡ made ss bs)
     all-met ss r = go (rest r)
@@ -265,6 +264,9 @@ module _ {S : Type 0} (C : Construction S) where
             let here-is = ap (λ l. getElem? l c) e ∙ ap (getElem? (pre ++ (k ∷ ks))) ec ∙ at-middle pre k ks in
             record { state = s; children = n; state-is = a; children-are = b; class-is = here-is }
 
+        next : NextClass C ar i
+        next = record { states = ss; symbol = f; number = c; part = k; reached = r; is = at }
+
         on : (ss′ : List S) (zs : List Succ) → meet C ss k ≡ met ss′ zs → MeetsEnd i s f n (meets C ss′ ks) → MeetsEnd i s f n (meets C ss (k ∷ ks))
         on ss′ zs d m = rw (meets-on ss k ks ss′ zs d) (meets-after zs m)
 
@@ -278,18 +280,7 @@ module _ {S : Type 0} (C : Construction S) where
             let z = few r in
             let full : length ss ≡ 128 = omega arith in
             rw (meets-stop ss k ks ManyStates (meet-full ss k h w full))
-            (meets-halt (at-states (record {
-              states = ss;
-              symbol = f;
-              number = c;
-              part = k;
-              reached = r;
-              is = at;
-              few = h;
-              is-new = w;
-              full =
-                  full;
-            })))
+            (meets-halt (at-states (record { class = next; few = h; is-new = w; full = full })))
 
         placed : C .size k ≤ 32 → (o : Option ℕ) → find (C .same (C .lift k)) ss 0 ≡ o
             → ((ss′ : List S) → Reached C ar ss′ i f (suc c) → getElem? ss′ i ≡ some s → MeetsEnd i s f n (meets C ss′ ks))
@@ -305,7 +296,7 @@ module _ {S : Type 0} (C : Construction S) where
             → MeetsEnd i s f n (meets C ss (k ∷ ks))
         goals (yes h) ih =
             rw (meets-stop ss k ks ManyGoals (meet-over ss k h))
-            (meets-halt (at-goals (record { states = ss; symbol = f; number = c; part = k; reached = r; is = at; over = h })))
+            (meets-halt (at-goals (record { class = next; over = h })))
         goals (no h) ih = placed (omega arith) (find (C .same (C .lift k)) ss 0) refl ih
 
     data RowEnd (i : ℕ) : Made S → Type 0 where

@@ -6,7 +6,8 @@
 --   Reached      the states met when class number c of state number i on symbol f is looked at next; behind the last class the next symbol,
 --                behind the last symbol the next state
 --   AllMet       every class of every state was looked at
---   OverGoals    the class to look at next, of state number i, has over 32 goals
+--   NextClass    the class to look at next, of state number i
+--   OverGoals    it has over 32 goals
 --   OverStates   it has not, and is new, and 128 states are met
 --   wordsOf      the plan of the states met: its blocks are said by these alone
 --   TooLong Fits "plan longer than its buffer or than 65,535 words", and not
@@ -52,25 +53,23 @@ module _ {S : Type 0} (C : Construction S) where
     abbrev pub AllMet : List S → Type 0
     AllMet ss = Reached ss (length ss) 0 0
 
-    pub record OverGoals (i : ℕ) : Type 0 where
+    pub record NextClass (i : ℕ) : Type 0 where
       pub states : List S
       pub symbol : ℕ
       pub number : ℕ
       pub part : S
       pub reached : Reached states i symbol number
       pub is : ClassAt states i symbol number part
-      pub over : 32 < C .size part
+
+    pub record OverGoals (i : ℕ) : Type 0 where
+      pub class : NextClass i
+      pub over : 32 < C .size (class .part)
 
     pub record OverStates (i : ℕ) : Type 0 where
-      pub states : List S
-      pub symbol : ℕ
-      pub number : ℕ
-      pub part : S
-      pub reached : Reached states i symbol number
-      pub is : ClassAt states i symbol number part
-      pub few : C .size part ≤ 32
-      pub is-new : New states part
-      pub full : length states ≡ 128
+      pub class : NextClass i
+      pub few : C .size (class .part) ≤ 32
+      pub is-new : New (class .states) (class .part)
+      pub full : length (class .states) ≡ 128
 
     -- of n shapes
     abbrev pub wordsOf : ℕ → List S → List ℕ

@@ -113,39 +113,39 @@ pub build-determined : (κs : _) (a : _) (r r′ : _) (e e′ : _) → build.Lea
 build-determined κs a r r′ e e′ h h′ = let x = h ∙ sym h′ in
     (ap (λ (o : BuildOutcome). o .answer) x, ap (λ (o : BuildOutcome). o .plan) x, ap (λ (o : BuildOutcome). o .scratch) x)
 
+same-walk : (o o′ : WalkOutcome) → o ≡ o′ → (o .answer ≡ o′ .answer) × (o .walk .items ≡ o′ .walk .items) × (o .walk .log ≡ o′ .walk .log)
+    × (o .walk .marks ≡ o′ .walk .marks)
+same-walk o o′ x = (
+  ap (λ (y : WalkOutcome). y .answer) x,
+  ap (λ (y : WalkOutcome). y .walk .items) x,
+  ap (λ (y : WalkOutcome). y .walk .log) x,
+  ap (λ (y : WalkOutcome). y .walk .marks) x,
+)
+
+same-line : (o o′ : LineOutcome) → o ≡ o′ → (o .answer ≡ o′ .answer) × (o .out ≡ o′ .out)
+same-line o o′ x = (ap (λ (y : LineOutcome). y .answer) x, ap (λ (y : LineOutcome). y .out) x)
+
 pub start-determined : (κs : _) (a : _) (r r′ : _) (e e′ : _) → start.Learnt κs a r e → start.Learnt κs a r′ e′ → (r ≡ r′)
     × (now (e .1 .1 .1 .0) ≡ now (e′ .1 .1 .1 .0)) × (now (e .1 .1 .1 .1 .0) ≡ now (e′ .1 .1 .1 .1 .0))
     × (now (e .1 .1 .1 .1 .1 .0) ≡ now (e′ .1 .1 .1 .1 .1 .0))
-start-determined κs a r r′ e e′ h h′ =
-    let x = h ∙ sym h′ in (
-      ap (λ (o : WalkOutcome). o .answer) x,
-      ap (λ (o : WalkOutcome). o .walk .items) x,
-      ap (λ (o : WalkOutcome). o .walk .log) x,
-      ap (λ (o : WalkOutcome). o .walk .marks) x,
-    )
+start-determined κs a r r′ e e′ h h′ = same-walk _ _ (h ∙ sym h′)
 
 pub step-determined : (κs : _) (a : _) (r r′ : _) (e e′ : _) → step.Learnt κs a r e → step.Learnt κs a r′ e′ → (r ≡ r′)
     × (now (e .1 .1 .1 .0) ≡ now (e′ .1 .1 .1 .0)) × (now (e .1 .1 .1 .1 .0) ≡ now (e′ .1 .1 .1 .1 .0))
     × (now (e .1 .1 .1 .1 .1 .0) ≡ now (e′ .1 .1 .1 .1 .1 .0))
-step-determined κs a r r′ e e′ h h′ =
-    let x = h ∙ sym h′ in (
-      ap (λ (o : WalkOutcome). o .answer) x,
-      ap (λ (o : WalkOutcome). o .walk .items) x,
-      ap (λ (o : WalkOutcome). o .walk .log) x,
-      ap (λ (o : WalkOutcome). o .walk .marks) x,
-    )
+step-determined κs a r r′ e e′ h h′ = same-walk _ _ (h ∙ sym h′)
 
 pub put-line-determined : (κs : _) (a : _) (r r′ : _) (e e′ : _) → put-line.Learnt κs a r e → put-line.Learnt κs a r′ e′ → (r ≡ r′)
     × (now (e .1 .1 .1 .0) ≡ now (e′ .1 .1 .1 .0))
-put-line-determined κs a r r′ e e′ h h′ = let x = h ∙ sym h′ in (ap (λ (o : LineOutcome). o .answer) x, ap (λ (o : LineOutcome). o .out) x)
+put-line-determined κs a r r′ e e′ h h′ = same-line _ _ (h ∙ sym h′)
 
 pub put-refusal-determined : (κs : _) (a : _) (r r′ : _) (e e′ : _) → put-refusal.Learnt κs a r e → put-refusal.Learnt κs a r′ e′ → (r ≡ r′)
     × (now (e .1 .1 .0) ≡ now (e′ .1 .1 .0))
-put-refusal-determined κs a r r′ e e′ h h′ = let x = h ∙ sym h′ in (ap (λ (o : LineOutcome). o .answer) x, ap (λ (o : LineOutcome). o .out) x)
+put-refusal-determined κs a r r′ e e′ h h′ = same-line _ _ (h ∙ sym h′)
 
 pub put-first-determined : (κs : _) (a : _) (r r′ : _) (e e′ : _) → put-first.Learnt κs a r e → put-first.Learnt κs a r′ e′ → (r ≡ r′)
     × (now (e .1 .1 .1 .1 .0) ≡ now (e′ .1 .1 .1 .1 .0))
-put-first-determined κs a r r′ e e′ h h′ = let x = h ∙ sym h′ in (ap (λ (o : LineOutcome). o .answer) x, ap (λ (o : LineOutcome). o .out) x)
+put-first-determined κs a r r′ e e′ h h′ = same-line _ _ (h ∙ sym h′)
 
 -- ---- the view's calls
 -- The checker reads no contract off a call that takes or gives a view: here each clause itself is shown to be one equation for the result.
