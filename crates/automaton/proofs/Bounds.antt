@@ -1,26 +1,19 @@
--- S5 and S6: the label has at most five numbers, so positions have at most six; a derivative of 32 goals has at most 96.
+-- S5 and S6: the label has at most five numbers, so positions have at most six.
 --   root-label                  the label is owed by a root goal and has at most five numbers
 --   deriv-small lift-small      obligation positions
 --   ann-small gcp-small         announcements, and the displacement of a class
---   owed-code ann-code          their codes are at most 15,624
---   deriv-length deriv-few      how many goals
-use mathlib.Core.Path.{_≡_, _∙_}
-use mathlib.Core.Bool.{not}
-use mathlib.Core.List.{[], _∷_, _++_}
-use Prim.Native.Nat.{ℕ, zero, suc, _+_, _*_, _≤_}
+use mathlib.Core.Path.{_≡_}
+use mathlib.Core.List.{[]}
+use Prim.Native.Nat.{ℕ, _≤_}
 use native.Mathlib.Omega.{arith}
-use lib.ListN.{length, length-append, length-map}
-use Rattle.kinds.specs.Lists.{filter, gather, range, isNil}
-use Rattle.kinds.specs.Positions.{Pos, strip, code}
-use Rattle.kinds.proofs.Bools.{and-l}
-use Rattle.kinds.proofs.Members.{filter-split, filter-at-most, filter-le, gather-length, length-range}
+use lib.ListN.{length}
+use Rattle.kinds.specs.Positions.{Pos, strip}
 use Rattle.kinds.specs.Members.{_∈_}
 use Rattle.kinds.proofs.Prefixes.{strip-join}
-use Rattle.kinds.proofs.Codes.{Small, small-prefix, small-rest, small-snoc, small-code}
+use Rattle.kinds.proofs.Codes.{Small, small-prefix, small-rest, small-snoc}
 use Rattle.term.specs.Terms.{node}
-use Rattle.automaton.specs.Goals.{Calculus, Goal, State, has, label, reduced, met, deriv}
+use Rattle.automaton.specs.Goals.{Calculus, Goal, State, label, deriv}
 use Rattle.automaton.specs.Classes.{gcp, lift}
-use Rattle.automaton.specs.Bare.{fresh}
 use Rattle.automaton.specs.Walking.{Setting, calculus}
 use Rattle.term.proofs.Subterms.{sub-depth}
 use Rattle.automaton.proofs.Root.{gcp-below}
@@ -65,36 +58,3 @@ module _ (S : Setting) where
 
   pub gcp-small : (k : State Pos) → Sound S k → (g : Goal Pos) → g ∈ k → Small (gcp k)
   gcp-small k w g m = small-prefix (gcp-below k g m) (ann-small k w g m)
-
-  pub owed-code : (s : State Pos) → Sound S s → (o : Pos) → Owes s o → code o ≤ 15624
-  owed-code s w o m = small-code o (w .small o m)
-
-  pub ann-code : (s : State Pos) → Sound S s → (g : Goal Pos) → g ∈ s → code (g .ann) ≤ 15624
-  ann-code s w g m = small-code (g .ann) (ann-small s w g m)
-
-  pub deriv-length : (s : State Pos) (f n : ℕ) → length (deriv K s f n) ≤ length s + n * length (S .shapes)
-  deriv-length s f n =
-      let b₁ = filter-at-most (λ g. not (isNil (g .obs))) (met K s f n) in
-      let b₂ = length-map (filter (K .expects f (label K s)) s) (reduced K (label K s) n) in
-      let b₃ = filter-le (K .expects f (label K s)) (λ g. has K (label K s) (g .obs)) s (λ g e. and-l _ e) in
-      let b₄ = filter-split (λ g. has K (label K s) (g .obs)) s in
-      let c = new-ones in
-      rw (length-append, length-append) (omega arith)
-    where
-      each : (p : Pos) → length (K .fresh p) ≡ length (S .shapes)
-      each p = length-map (range 0 (length (S .shapes))) (fresh p) ∙ length-range 0 (length (S .shapes))
-
-      new-ones : length (gather (λ i. K .fresh (label K s ++ (i ∷ []))) (range 1 n)) ≡ n * length (S .shapes)
-      new-ones = gather-length (λ i. K .fresh (label K s ++ (i ∷ []))) (length (S .shapes)) (range 1 n) (λ i. each (label K s ++ (i ∷ [])))
-          ∙ rw (length-range 1 n)
-
-  pub deriv-few : (s : State Pos) (f n : ℕ) → length s ≤ 32 → n ≤ 4 → length (deriv K s f n) ≤ 96
-  deriv-few s f n a c = let h = deriv-length s f n in let z = product n (length (S .shapes)) c (S .limits .few-shapes) in omega arith
-    where
-      product : (n m : ℕ) → n ≤ 4 → m ≤ 16 → n * m ≤ 64
-      product zero m c b = omega arith
-      product (suc zero) m c b = omega arith
-      product (suc (suc zero)) m c b = omega arith
-      product (suc (suc (suc zero))) m c b = omega arith
-      product (suc (suc (suc (suc zero)))) m c b = omega arith
-      product (suc (suc (suc (suc (suc n))))) m c b = absurd (omega arith)

@@ -21,7 +21,7 @@ use Rattle.kinds.proofs.Options.{none-not}
 use Rattle.kinds.proofs.Members.{on-map, map-in, in-sort, sort-in, sort-perm}
 use Rattle.kinds.specs.Members.{_∈_, here, there, _⊆_, Pairwise}
 use Rattle.kinds.proofs.Sums.{sum-map, sum-perm, sum-zero}
-use Rattle.kinds.proofs.Places.{on-in, at-below, at-some, getD-at}
+use Rattle.kinds.proofs.Places.{on-in, at-some, getD-at}
 use Rattle.automaton.specs.Goals.{Goal, State, Calculus}
 use Rattle.automaton.specs.Classes.{Square, cell, picked, leads, rowsFrom, dep, Dependent, closed, classBefore, classes}
 use Rattle.automaton.specs.Walking.{one}

@@ -1,31 +1,26 @@
 -- What is explored from a setting, over bare positions.
 --   explored-numbered        the states and blocks
---   numbered-sound numbered-few   each state is sound and has at most 32 goals
 --   label-small out-small succ-small   the ranges of what a plan says: positions have at most six numbers, shape and state numbers are in range
 --   named links-go           the successors that a block names may go on for the items that follow
 use mathlib.Core.Path.{_≡_, refl, ap}
 use mathlib.Core.List.{List, [], _∷_, _++_, map}
 use mathlib.Core.Option.{some}
-use mathlib.Core.Logic.{⊎-elim}
-use Prim.Native.Nat.{ℕ, _<_, _≤_}
-use native.Mathlib.Omega.{arith}
-use lib.ListN.{length, getD, getElem?, length-map}
-use Rattle.kinds.specs.Lists.{range}
+use Prim.Native.Nat.{ℕ, _<_}
+use lib.ListN.{length, getD, getElem?}
 use Rattle.kinds.specs.Positions.{Pos}
-use Rattle.kinds.proofs.Members.{same-refl, length-range}
+use Rattle.kinds.proofs.Members.{same-refl}
 use Rattle.kinds.specs.Members.{_∈_, here, there, _⊆_}
 use Rattle.kinds.proofs.Places.{at-in, at-below, getD-at}
 use Rattle.kinds.proofs.Codes.{Small}
-use Rattle.automaton.specs.Goals.{Calculus, State, initial, label, deriv, Announcement, outputs}
+use Rattle.automaton.specs.Goals.{Calculus, State, label, deriv, Announcement, outputs}
 use Rattle.automaton.specs.Classes.{classes, lift}
-use Rattle.automaton.specs.Bare.{fresh}
 use Rattle.automaton.specs.Exploring.{construction, Succ, Block, made, explored}
 use Rattle.automaton.specs.Walking.{Setting, calculus, Reachable, Alike, Item, goesOn, follows, Goes, none-go, one-goes}
 use Rattle.automaton.proofs.Classes.{class-is, class-some}
 use Rattle.automaton.proofs.Sound.{SoundState}
 use Rattle.automaton.proofs.Apart.{label-owes}
 use Rattle.automaton.proofs.Bounds.{ann-small, gcp-small}
-use Rattle.automaton.proofs.Reachable.{reachable-sound, deriv-sound, class-sound}
+use Rattle.automaton.proofs.Reachable.{deriv-sound, class-sound}
 use Rattle.automaton.proofs.Alike.{same-alike}
 use Rattle.automaton.proofs.Announced.{on-outputs}
 use Rattle.automaton.proofs.Numbered.{Links, no-link, link, Says, Numbered, numbered}
@@ -49,16 +44,6 @@ module _ (S : Setting) where
       rw d (at-below (S .shapes) (g .shape) (r .is-shape), ann-small S s (w .goals) g j)
 
   module _ (ss : List (State Pos)) (bs : List Block) (num : Numbered K (S .symbols) ss bs) where
-    pub numbered-sound : (s : State Pos) → s ∈ ss → SoundState S s
-    numbered-sound s m = reachable-sound S (num .reach s m)
-
-    pub numbered-few : (s : State Pos) → s ∈ ss → length s ≤ 32
-    numbered-few s m = ⊎-elim (λ (e : s ≡ initial K). let z = first-few in rw e (omega arith)) (λ h. h) (num .small s m)
-      where
-        first-few : length (initial K) ≤ 16
-        first-few = let a = length-map (range 0 (length (S .shapes))) (fresh []) in let b = length-range 0 (length (S .shapes)) in let c =
-            S .limits .few-shapes in omega arith
-
     abbrev pub named : Item → Succ → Item
     named it x = record { state = getD ss (x .to) []; at = it .at ++ x .by }
 

@@ -6,24 +6,20 @@
 --   reach-same                      what is reachable stays so
 --   plan-same                       so the same plan is made, or refused
 use mathlib.Core.Path.{_≡_, refl, ap, ap₂, sym, _∙_, subst}
-use mathlib.Core.Bool.{Bool, true, false, cond, not, _&&_, _||_}
+use mathlib.Core.Bool.{Bool, true, false, cond, not, _&&_}
 use mathlib.Core.List.{List, [], _∷_, _++_, map}
-use mathlib.Core.Option.{Option, none, some}
 use mathlib.Core.Logic.{⊎-elim}
-use Prim.Native.Nat.{ℕ, zero, suc}
-use lib.Dec.{eqb, ltb, leb}
-use lib.ListN.{length, getD, length-map, List·getD-map}
-use Rattle.kinds.specs.Lists.{same, filter, any, all, sort, gather, range, find, isNil}
-use Rattle.kinds.specs.Positions.{Pos, before, commonPrefix, strip, code}
-use Rattle.kinds.specs.declared.Reason.{Reason}
-use Rattle.kinds.specs.declared.Reason.the-variants.{ManyGoals, ManyStates}
-use Rattle.kinds.proofs.Bools.{and-l, and-r, eqb-is, ltb-is}
+use Prim.Native.Nat.{ℕ}
+use lib.Dec.{eqb}
+use lib.ListN.{length-map}
+use Rattle.kinds.specs.Lists.{same, filter, any, all, sort, gather, range, isNil}
+use Rattle.kinds.specs.Positions.{Pos, before, commonPrefix, strip}
+use Rattle.kinds.proofs.Bools.{and-l, and-r, eqb-is}
 use Rattle.kinds.proofs.Members.{∈-append, in-filter, on-map, map-in, on-gather, same-is}
-use Rattle.kinds.specs.Members.{_∈_, here, there}
+use Rattle.kinds.specs.Members.{_∈_}
 use Rattle.kinds.proofs.ListLaws.{map-append, map-map, map-same, filter-map, filter-same, any-map, any-same, all-map, all-same, sort-map, gather-same, map-gather, gather-map, nil-same}
-use Rattle.kinds.proofs.Places.{getD-in}
 use Rattle.kinds.proofs.Prefixes.{_≼_}
-use Rattle.automaton.specs.Goals.{Goal, State, Calculus, isRoot, has, firstFrom, first, allObs, label, initial, reduced, met, deriv, announcement, annBefore, outputs}
+use Rattle.automaton.specs.Goals.{Goal, State, Calculus, isRoot, has, firstFrom, first, allObs, label, reduced, met, deriv, announcement, annBefore, outputs}
 use Rattle.automaton.specs.Classes.{dep, square, closed, picked, rowsFrom, classBefore, classes, gcpFrom, gcp, liftGoal, lift, sameGoal, sameState}
 use Rattle.automaton.specs.Exploring.{construction}
 use Rattle.automaton.specs.PlanWords.{planned}

@@ -2,10 +2,10 @@
 --   Open Seen Known     a node of a goal's shape is still owed, or was read and is in the score
 --   Due                 a shape at a position read: announced, still waiting, or refuted by what was read
 --   Invariant           W1 to W4
---   some-sum unread open-unread   what an item sees, owes or has open was not read
-use mathlib.Core.Path.{_≡_, _∙_}
+--   some-sum unread               what an item sees or owes was not read
+use mathlib.Core.Path.{_≡_}
 use mathlib.Core.Bool.{Bool, true}
-use mathlib.Core.List.{List, _++_, map, append-assoc}
+use mathlib.Core.List.{List, _++_, map}
 use mathlib.Core.Option.{some}
 use mathlib.Core.Logic.{_⊎_}
 use Prim.Native.Nat.{ℕ, _+_, _≤_}
@@ -15,12 +15,12 @@ use Rattle.kinds.specs.Lists.{same, sum}
 use Rattle.kinds.specs.Positions.{Pos, prefix}
 use Rattle.kinds.proofs.Members.{any-of, same-refl}
 use Rattle.kinds.specs.Members.{_∈_, here, there, Pairwise}
-use Rattle.kinds.proofs.Prefixes.{_≼_, ≼-refl, below-prefix, prefix-append}
+use Rattle.kinds.proofs.Prefixes.{_≼_, ≼-refl, below-prefix}
 use Rattle.term.specs.Terms.{Term}
 use Rattle.term.specs.Places.{sub, headAt}
 use Rattle.automaton.specs.Goals.{Goal, Announcement}
 use Rattle.automaton.specs.Walking.{Scored, Reachable, Item, sees, one, waits, times}
-use Rattle.automaton.proofs.Derivative.{Owes, owes}
+use Rattle.automaton.proofs.Derivative.{Owes}
 
 -- an obligation stands at or above p
 pub record Open (g : Goal Pos) (p : Pos) : Type 0 where
@@ -82,12 +82,3 @@ pub unread : {C : Scored} {items : List Item} {R : List Pos} {told : List Announ
     → (o : Pos) → Owes (it .state) o → (it .at ++ o) ∈ R → ⊥
 unread inv it m o b l = sees-unread inv it m (it .at ++ o) (any-of (λ y. prefix (it .at ++ y) (it .at ++ o)) b (below-prefix (≼-refl (it .at ++ o))))
     l
-
--- W2: a node that is open was not read
-pub open-unread : {C : Scored} {items : List Item} {R : List Pos} {told : List Announcement} → Invariant C items R told
-    → (it : Item) → it ∈ items → (g : Goal Pos) → g ∈ it .state → (r : Pos) → Open g (g .ann ++ r) → ((it .at ++ g .ann) ++ r) ∈ R → ⊥
-open-unread inv it m g k r o l =
-    let e : (it .at ++ g .ann) ++ r ≡ it .at ++ (g .ann ++ r) = append-assoc (it .at) (g .ann) r in
-    sees-unread inv it m (it .at ++ (g .ann ++ r))
-    (any-of (λ y. prefix (it .at ++ y) (it .at ++ (g .ann ++ r))) (owes k (o .in-obs))
-    (prefix-append (it .at) (o .at) (g .ann ++ r) ∙ below-prefix (o .over))) (rw e at l)

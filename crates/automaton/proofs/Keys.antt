@@ -1,6 +1,5 @@
 -- S3: no two goals have the same shape and announcement, in a derivative, a class of it, and that class lifted; so their number is the list's length.
---   keyed-one keyed-distinct
---   freshes-keyed met-keyed deriv-keyed class-keyed lift-keyed
+--   keyed-one freshes-keyed met-keyed deriv-keyed class-keyed lift-keyed
 use mathlib.Core.Path.{_≡_, refl, ap, sym, _∙_}
 use mathlib.Core.Bool.{true, not, false≢true}
 use mathlib.Core.List.{[], _∷_, _++_}
@@ -11,9 +10,9 @@ use lib.ListN.{length, length-append}
 use Rattle.kinds.specs.Lists.{filter, gather, range, isNil}
 use Rattle.kinds.specs.Positions.{Pos}
 use Rattle.kinds.proofs.Bools.{and-l}
-use Rattle.kinds.proofs.Members.{∈-append, in-filter, on-map, on-gather, Distinct}
+use Rattle.kinds.proofs.Members.{∈-append, in-filter, on-map, on-gather}
 use Rattle.kinds.specs.Members.{_∈_, Pairwise}
-use Rattle.kinds.proofs.Pairwise.{pairwise-append, pairwise-filter, pairwise-two, pairwise-distinct, pairwise-map, pairwise-gather, pairwise-range}
+use Rattle.kinds.proofs.Pairwise.{pairwise-append, pairwise-filter, pairwise-two, pairwise-map, pairwise-gather, pairwise-range}
 use Rattle.kinds.proofs.ListLaws.{append-same}
 use Rattle.kinds.proofs.Prefixes.{_≼_, ≼-trans, ≼-length, strip-join}
 use Rattle.automaton.specs.Goals.{Calculus, Goal, State, has, label, reduced, met, deriv}
@@ -29,9 +28,6 @@ use Rattle.automaton.proofs.Apart.{label-owes, child-below}
 pub keyed-one : (s : State Pos) → Pairwise Other s → (g h : Goal Pos) → g ∈ s → h ∈ s → SameKey g h → g ≡ h
 keyed-one s a g h i j k = ⊎-elim (λ (e : g ≡ h). e) (λ (o : Other g h). absurd (o k))
     (pairwise-two Other (λ x y o e. o (sym (e .0), sym (e .1))) s a g h i j)
-
-pub keyed-distinct : (s : State Pos) → Pairwise Other s → Distinct s
-keyed-distinct s a = pairwise-distinct Other (λ g o. o (refl, refl)) s a
 
 last-same : (p : Pos) (i j : ℕ) → p ++ (i ∷ []) ≡ p ++ (j ∷ []) → i ≡ j
 last-same p i j e = let z : i ∷ [] ≡ j ∷ [] = append-same p (i ∷ []) (j ∷ []) e in cc

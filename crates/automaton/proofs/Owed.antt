@@ -1,6 +1,6 @@
 -- S1 of a derivative: what is owed is a symbol of the shape, and each goal owes in document order.
 --   fresh-real deriv-real lift-real
---   deriv-ordered lift-ordered ordered-distinct
+--   deriv-ordered lift-ordered
 --   below-gcp       what a class owes lies below its greatest common prefix
 use mathlib.Core.Path.{_≡_, refl, sym, _∙_}
 use mathlib.Core.Bool.{Bool, true, false, cond}
@@ -11,9 +11,9 @@ use native.Mathlib.Omega.{arith}
 use lib.ListN.{length, getElem?}
 use Rattle.kinds.specs.Lists.{same, gather}
 use Rattle.kinds.specs.Positions.{Pos, strip}
-use Rattle.kinds.proofs.Members.{on-map, same-is, same-refl, Distinct}
+use Rattle.kinds.proofs.Members.{on-map, same-is, same-refl}
 use Rattle.kinds.specs.Members.{_∈_, here, there, Pairwise}
-use Rattle.kinds.proofs.Pairwise.{pairwise-append, pairwise-map, pairwise-distinct}
+use Rattle.kinds.proofs.Pairwise.{pairwise-append, pairwise-map}
 use Rattle.kinds.proofs.Places.{at-some}
 use Rattle.kinds.proofs.Prefixes.{_≼_, ≼-trans, strip-self, strip-more, strip-strip, strip-join}
 use Rattle.kinds.proofs.Ordered.{Before, before-irrefl, before-more, more-before, before-append, child-before}
@@ -58,9 +58,6 @@ inPlace-ordered p put (q ∷ os) pn un alone a = go (same p q) refl (inPlace-ord
         (λ j d. rw ((un x i) .eq) (more-before p ((un x i) .by) y (rw qp (a .0 y j)) (λ h. differ d (alone y (there j) h))))
         (λ j d. absurd (before-irrefl p (rw (← qp) at (a .0 p j)))))
     go false e ih = (λ y m. on-inPlace p put os m (λ j d. a .0 y j) (λ j d. rw ((un y d) .eq) (before-more q p ((un y d) .by) (a .0 p j))), ih)
-
-pub ordered-distinct : (g : Goal Pos) → Pairwise Before (g .obs) → Distinct (g .obs)
-ordered-distinct g a = pairwise-distinct Before before-irrefl (g .obs) a
 
 one-ordered : (p : Pos) → Pairwise Before (p ∷ [])
 one-ordered p = (λ y m. elim m [ ], tt)

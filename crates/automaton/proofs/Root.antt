@@ -3,8 +3,7 @@
 --   gcp-below gcp-least top-is-gcp        the greatest common prefix is the least position above all announcements
 --   dep-comparable                        goals with a common obligation position have comparable announcements
 --   Top class-top                         a class has a goal that announces at its greatest common prefix
---   gcp-shortest                          which is the shortest announcement of the class
-use mathlib.Core.Path.{_≡_, refl, sym}
+use mathlib.Core.Path.{_≡_, refl}
 use mathlib.Core.Bool.{true}
 use mathlib.Core.List.{[], _∷_}
 use mathlib.Core.Option.{some}
@@ -125,10 +124,3 @@ module _ {O : Type 0} (K : Calculus O) where
               class-at K s k c gk λ j aj dj.
               all-below s low (b .goal .ann) (dependent-join K s (dependent-sym K s di) dj) (b .goal) ai (≼-refl (b .goal .ann))
               (λ y h d ah. b .least h (class-has K s k c y ah (dependent-join K s di d))) g aj
-
-  pub gcp-shortest : (s : State O) → AllBelow s → (k : State O) → k ∈ classes K s → (g : Goal O) → g ∈ k
-      → ((h : Goal O) → h ∈ k → length (g .ann) ≤ length (h .ann)) → gcp k ≡ g .ann
-  gcp-shortest s low k m g i sh =
-      let t = class-top s low k m in
-      let l = sh (t .goal) (t .inside) in
-      sym (≼-same (gcp-below k g i) (rw (t .at) l))

@@ -4,7 +4,6 @@
 --   waiting-at-most   no more items wait than positions are unread
 --   ends-read         none waits exactly if all are read
 --   announced-so-far  after every step: announced is what matches, with every score node read on which a node of the shape falls that is no blank
---   announced-once    nothing is announced twice
 --   announced-at-end  at the end: announced is what matches
 --   ends-alike        two finished walks announce the same
 use mathlib.Core.Path.{_≡_, refl}
@@ -15,7 +14,7 @@ use Prim.Native.Nat.{ℕ, _+_, _≤_}
 use lib.ListN.{length, getElem?}
 use Rattle.kinds.specs.Positions.{Pos}
 use Rattle.kinds.proofs.Members.{∈-right, Distinct}
-use Rattle.kinds.specs.Members.{_∈_, here, _⊆_, Pairwise}
+use Rattle.kinds.specs.Members.{_∈_, here, _⊆_}
 use Rattle.term.specs.Terms.{Term, Terms, count, span}
 use Rattle.term.specs.Places.{headAt, Matches}
 use Rattle.automaton.specs.Goals.{Announcement}
@@ -38,9 +37,6 @@ module _ (C : Scored) {items : List Item} {read : List Pos} {told : List Announc
   pub announced-so-far : (i : ℕ) (x : Term) → getElem? (C .setting .shapes) i ≡ some x → (q : Pos)
       → (announced i q ∈ told) ↔ (Matches x (C .score) q × ((r : Pos) (k : ℕ) → headAt x r ≡ some k → (q ++ r) ∈ read))
   announced-so-far = told-exactly C (walked-invariant C w)
-
-  pub announced-once : Pairwise (λ a b. a ≡ b → ⊥) told
-  announced-once = (walked-invariant C w) .differ
 
 module _ (C : Scored) where
   pub can-step : (before after : List Item) (read : List Pos) (told : List Announcement) (it : Item) → Walked C (before ++ (it ∷ after)) read told

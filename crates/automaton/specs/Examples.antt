@@ -1,13 +1,12 @@
 -- Inside: document 000's running example, ℓ = f(f(ω, g(ω)), g(ω)), computed: Examples 4.1 to 4.6. The paper takes the second of two labels in state s₁ where
 -- document 01 takes the first, so its examples stand here with f's arguments turned round.
 use mathlib.Core.Path.{_≡_, refl}
-use mathlib.Core.List.{List, [], _∷_, map}
-use Prim.Native.Nat.{ℕ}
+use mathlib.Core.List.{[], _∷_, map}
 use lib.ListN.{length, getD}
 use Rattle.kinds.specs.Positions.{Pos}
-use Rattle.term.specs.Terms.{Term, blank, node, Terms, tnil, tcons}
+use Rattle.term.specs.Terms.{Term, blank, node, tnil, tcons}
 use Rattle.automaton.specs.Goals.{Goal, State, Calculus, label, initial, deriv, outputs}
-use Rattle.automaton.specs.Classes.{classes, gcp, lift}
+use Rattle.automaton.specs.Classes.{classes, lift}
 use Rattle.automaton.specs.Paper.{Ob, paper}
 
 -- f(x, y) and g(ω); f is symbol 0, g is symbol 1

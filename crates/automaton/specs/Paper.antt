@@ -13,7 +13,7 @@ use lib.Dec.{eqb}
 use Rattle.kinds.specs.Lists.{same, any, gather, mapAt}
 use Rattle.kinds.specs.Positions.{Pos, strip}
 use Rattle.term.specs.Terms.{Term, blank, node, Terms, tnil, tcons}
-use Rattle.automaton.specs.Goals.{Goal, State, Calculus}
+use Rattle.automaton.specs.Goals.{Goal, Calculus}
 
 pub record Ob : Type 0 where
   pub pat : Term

@@ -7,14 +7,14 @@
 --   Plan         its words and the number of its states, or why there is none
 --   planned      20 or 21; then 22, "plan longer than its buffer or than 65,535 words"
 use mathlib.Core.List.{List, [], _∷_, _++_, map}
-use mathlib.Core.Bool.{Bool, cond, _||_}
+use mathlib.Core.Bool.{cond, _||_}
 use Prim.Native.Nat.{ℕ, _+_, _*_}
 use lib.Dec.{ltb}
 use lib.ListN.{length}
 use Rattle.kinds.specs.Lists.{gather, concat}
 use Rattle.kinds.specs.Positions.{code}
 use Rattle.kinds.specs.declared.Reason.{Reason}
-use Rattle.automaton.specs.Exploring.{Construction, Succ, Block, Made, refused, made, explored}
+use Rattle.automaton.specs.Exploring.{Construction, Block, Made, refused, made, explored}
 
 abbrev pub blockWords : Block → List ℕ
 blockWords b =

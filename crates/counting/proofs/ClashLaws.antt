@@ -1,21 +1,21 @@
 -- The pass's test at a node is the clashing of each match there.
-use Prim.Native.Nat.{ℕ, zero, suc, _+_, _-_, _*_, _^_, _<_, _≤_}
-use mathlib.Core.Path.{_≡_, refl, ap, ap₂, sym, _∙_}
-use mathlib.Core.List.{List, [], _∷_}
-use mathlib.Core.Bool.{Bool, true, false, not, cond, _&&_, _||_}
+use Prim.Native.Nat.{ℕ, zero, suc, _+_, _^_, _<_, _≤_}
+use mathlib.Core.Path.{_≡_, refl, ap, sym, _∙_}
+use mathlib.Core.List.{List}
+use mathlib.Core.Bool.{Bool, true, false, cond, _&&_, _||_}
 use native.Mathlib.Omega.{arith}
 use native.Mathlib.Numerals.{add-one}
 use native.Mathlib.Decide.{ℕ-discrete, decLt}
-use mathlib.Core.Logic.{_⊎_, inl, inr, ⊎-elim}
+use mathlib.Core.Logic.{_⊎_, inl, inr}
 use lib.Dec.{eqb, ltb, leb}
-use lib.Count.{ones, ones-le}
+use lib.Count.{ones}
 use lib.ListN.{length, getD, List·getD-eq-default}
-use borrow.Author.Tests.{eqb-true, eqb-false, eq-eqb, ne-eqb, ltb-true, ltb-false, lt-ltb, le-ltb, leb-true, le-leb, lt-leb}
+use borrow.Author.Tests.{eqb-true, eq-eqb, ne-eqb, ltb-true, lt-ltb, le-ltb, leb-true, le-leb, lt-leb}
 use Rattle.kinds.specs.Bits.{bit, sumTo}
-use Rattle.kinds.proofs.Bools.{and-l, and-r, both, or-l, or-r, or-case, on-or, false-true, bool-ext}
+use Rattle.kinds.proofs.Bools.{and-l, and-r, both, or-l, or-r, on-or, false-true, bool-ext}
 use Rattle.kinds.proofs.BitLaws.{ones-bits, up-ext, up-zero, up-last, bit-le, on-ones, on-other, ones-some, ones-two, ones-none, ones-zero}
 use Rattle.counting.specs.Counting.{anyTo, Match, matchAt, found, someMatch, numberAt}
-use Rattle.counting.specs.Clashes.{isOver, clash, other, clashing, clashNumber}
+use Rattle.counting.specs.Clashes.{isOver, clash, other, clashing}
 use Rattle.counting.specs.Passing.{markedIn, hits, further}
 use Rattle.counting.proofs.AnyLaws.{any-of, on-any, any-none}
 

@@ -1,8 +1,8 @@
 -- Direct dependency in words is that of the construction.
-use mathlib.Core.Path.{_≡_, refl, ap, ap₂, sym, _∙_}
+use mathlib.Core.Path.{_≡_, refl, ap₂, sym, _∙_}
 use mathlib.Core.List.{List, [], _∷_, _++_, map}
-use mathlib.Core.Bool.{Bool, true, false, _||_}
-use Prim.Native.Nat.{ℕ, _≤_, _<_}
+use mathlib.Core.Bool.{_||_}
+use Prim.Native.Nat.{ℕ, _<_}
 use native.Mathlib.Omega.{arith}
 use native.Mathlib.Decide.{ℕ-discrete}
 use borrow.Author.Tests.{eq-eqb, ne-eqb}
@@ -10,15 +10,15 @@ use lib.Dec.{eqb}
 use lib.ListN.{length}
 use Rattle.automaton.specs.Classes.{dep}
 use Rattle.automaton.specs.Bare.{bare}
-use Rattle.kinds.proofs.Codes.{Proper, code-same}
+use Rattle.kinds.proofs.Codes.{code-same}
 use Rattle.kinds.proofs.Members.{on-map}
-use Rattle.kinds.specs.Members.{_∈_, here, there}
+use Rattle.kinds.specs.Members.{here, there}
 use Rattle.kinds.specs.Lists.{any, same}
 use Rattle.kinds.specs.Positions.{Pos, code, decode}
 use Rattle.decoding.proofs.LabelDecoded.{Fit}
 use Rattle.decoding.proofs.GoalDecoded.{Fine, owed-is}
 use Rattle.decoding.specs.Decoding.{select, shapeAt, goalMeant, TableOf}
-use Rattle.goals.specs.GoalWords.{GoalWords, owedBy}
+use Rattle.goals.specs.GoalWords.{GoalWords}
 use Rattle.goals.specs.WordStages.{hasCode, sharing, depW}
 use Rattle.term.specs.Places.{dom}
 use Rattle.term.specs.Terms.{Term}

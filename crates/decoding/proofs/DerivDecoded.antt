@@ -1,28 +1,26 @@
 -- The derivative and the label on words are those of the construction.
 use mathlib.Core.Path.{_≡_, refl, ap, ap₂, sym, _∙_}
-use mathlib.Core.List.{List, [], _∷_, _++_, map, append-assoc, append-nil}
-use mathlib.Core.Bool.{Bool, true, false, cond, not, _&&_, _||_}
-use mathlib.Core.Option.{Option, none, some}
-use Prim.Native.Nat.{ℕ, zero, suc, _+_, _-_, _*_, _/_, _%_, _^_, _≤_, _<_}
+use mathlib.Core.List.{List, [], _∷_, _++_, map, append-nil}
+use mathlib.Core.Bool.{Bool, true, false, cond, not}
+use mathlib.Core.Option.{some}
+use Prim.Native.Nat.{ℕ, _+_, _*_, _≤_, _<_}
 use native.Mathlib.Omega.{arith}
-use borrow.Author.Tests.{eq-eqb, ne-eqb, lt-ltb}
-use lib.Dec.{eqb, ltb}
 use lib.ListN.{length, length-append}
 use Rattle.automaton.specs.Bare.{bare, fresh}
-use Rattle.automaton.specs.Goals.{Goal, State, reduced, label, deriv}
+use Rattle.automaton.specs.Goals.{Goal, reduced, label, deriv}
 use Rattle.kinds.proofs.Codes.{Proper, proper-nil, proper-cons, proper-append, codeFrom-append, decode-proper}
-use Rattle.kinds.proofs.Members.{∈-append, ∈-left, ∈-right, in-range}
+use Rattle.kinds.proofs.Members.{in-range}
 use Rattle.kinds.specs.Members.{_∈_, here, there}
 use Rattle.kinds.proofs.ListLaws.{map-append}
 use Rattle.kinds.specs.Lists.{any, filter, gather, range, same, isNil}
-use Rattle.kinds.specs.Positions.{Pos, before, code, codeFrom, decodeTo, decode}
-use Rattle.decoding.proofs.MaskReduced.{select-one, dom-below, below, gather-append}
-use Rattle.decoding.proofs.GoalDecoded.{Fine, owed-is, stays-is, moves-is}
+use Rattle.kinds.specs.Positions.{Pos, code, decode}
+use Rattle.decoding.proofs.MaskReduced.{select-one, dom-below, below}
+use Rattle.decoding.proofs.GoalDecoded.{Fine, stays-is, moves-is}
 use Rattle.decoding.specs.Decoding.{select, shapeAt, goalMeant, stateMeant, TableOf}
-use Rattle.goals.specs.GoalWords.{GoalWords, owedBy, pad, firstCode, rootCodes, labelCode}
+use Rattle.goals.specs.GoalWords.{GoalWords}
 use Rattle.goals.specs.WordStages.{stays, moves, freshW, freshesW, bornW, derivW}
-use Rattle.term.specs.Places.{sub, dom}
-use Rattle.term.specs.Terms.{count, Term, blank, node, Terms, span}
+use Rattle.term.specs.Places.{sub}
+use Rattle.term.specs.Terms.{count, Term, blank, node, Terms}
 use Rattle.kinds.specs.Limits.{blankWord}
 
 last : (b : Bool) (h : (Goal Pos)) (ys : List (Goal Pos)) → cond b (h ∷ []) [] ++ ys ≡ cond b (h ∷ ys) ys

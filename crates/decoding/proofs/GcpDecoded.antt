@@ -1,20 +1,19 @@
 -- The greatest common prefix of a class in words: the least announcement code.
 use mathlib.Core.Path.{_≡_, refl, ap, ap₂, sym, _∙_}
-use mathlib.Core.List.{List, [], _∷_, _++_, map, append-nil}
-use mathlib.Core.Bool.{Bool, true, false, cond}
-use mathlib.Core.Logic.{_⊎_, inl, inr, ⊎-elim}
-use Prim.Native.Nat.{ℕ, _+_, _≤_, _<_}
+use mathlib.Core.List.{List, [], _∷_, _++_, append-nil}
+use mathlib.Core.Bool.{cond}
+use mathlib.Core.Logic.{_⊎_, inl, inr}
+use Prim.Native.Nat.{ℕ, _≤_, _<_}
 use native.Mathlib.Omega.{arith}
-use native.Mathlib.Nat.{mul-one}
 use native.Mathlib.Decide.{decLt}
 use borrow.Author.Tests.{lt-ltb, le-ltb, eq-eqb}
-use lib.Dec.{ltb, eqb}
+use lib.Dec.{ltb}
 use Rattle.automaton.specs.Classes.{gcp, gcpFrom}
 use Rattle.automaton.specs.Goals.{Goal, State}
 use Rattle.kinds.proofs.Codes.{code-of, code-le}
 use Rattle.kinds.specs.Members.{_∈_, here, there}
-use Rattle.kinds.specs.Positions.{Pos, code, commonPrefix, decode}
-use Rattle.decoding.specs.Decoding.{goalMeant, stateMeant, codesEnd}
+use Rattle.kinds.specs.Positions.{Pos, code, commonPrefix}
+use Rattle.decoding.specs.Decoding.{stateMeant, codesEnd}
 use Rattle.goals.specs.GoalWords.{GoalWords, noCode}
 use Rattle.goals.specs.WordStages.{leastCode, displacementW}
 use Rattle.term.specs.Terms.{Term}

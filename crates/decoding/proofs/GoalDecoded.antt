@@ -1,18 +1,18 @@
 -- The construction on words is the construction, under the decoding.
 use mathlib.Core.Path.{_≡_, refl, ap, ap₂, sym, _∙_}
-use mathlib.Core.List.{List, [], _∷_, _++_, map, append-assoc, append-nil}
-use mathlib.Core.Bool.{Bool, true, false, cond, not, _&&_, _||_, false≢true}
-use mathlib.Core.Option.{Option, none, some}
-use Prim.Native.Nat.{ℕ, zero, suc, _+_, _-_, _*_, _/_, _%_, _^_, _≤_, _<_}
+use mathlib.Core.List.{List, [], _∷_, _++_, map, append-nil}
+use mathlib.Core.Bool.{Bool, true, false, cond, not, _||_, false≢true}
+use mathlib.Core.Option.{some}
+use Prim.Native.Nat.{ℕ, zero, suc, _+_, _*_, _/_, _%_, _^_, _≤_, _<_}
 use native.Mathlib.Omega.{arith}
 use native.Mathlib.Nat.{add-zero, zero-add, div-one, div-div-eq-div-mul, pow-succ'}
 use borrow.Author.Tests.{eq-eqb, ne-eqb, lt-ltb}
 use native.Mathlib.Decide.{ℕ-discrete}
 use lib.Dec.{eqb, ltb}
 use lib.ListN.{length, getD, getElem?}
-use mathlib.Core.Logic.{_⊎_, inl, inr, ⊎-elim}
+use mathlib.Core.Logic.{⊎-elim}
 use native.Mathlib.Nat.{eq-or-lt-of-le}
-use lib.Pow.{pow-lt, pow-pos, shl-lt}
+use lib.Pow.{pow-lt, shl-lt}
 use lib.Bits.{or-lt, xor-lt}
 use lib.Seq.{getD-at}
 use Rattle.automaton.specs.Bare.{bare, owed, argsOf, headsOf, args}
@@ -22,7 +22,7 @@ use Rattle.kinds.proofs.Codes.{Proper, code-join, code-of, decode-proper, code-
 use Rattle.kinds.proofs.Members.{same-refl, any-of}
 use Rattle.kinds.specs.Members.{_∈_, here, there}
 use Rattle.kinds.proofs.Prefixes.{strip-append}
-use Rattle.kinds.specs.Lists.{any, filter, gather, bind, same, isNil}
+use Rattle.kinds.specs.Lists.{any, gather, same, isNil}
 use Rattle.kinds.specs.Positions.{Pos, code, decode}
 use Rattle.decoding.proofs.ShapeNodes.{Node, node-of, kidsIn, headWord}
 use Rattle.decoding.proofs.MaskReduced.{below, args-select, swap-mask, dom-below, span-below, roots-below, swapped}
@@ -31,7 +31,7 @@ use Rattle.decoding.specs.Decoding.{select, roots, shapeAt, goalMeant, T
 use Rattle.goals.specs.GoalWords.{GoalWords, codeAt, sizeOf, symOf, kidsOf, owedFrom, owedBy, nodeFrom, nodeAt, maskAfter}
 use Rattle.goals.specs.WordStages.{stays, moves, reduct, goesOn, withMask, unexpected}
 use Rattle.term.specs.Places.{sub, dom}
-use Rattle.term.specs.Terms.{count, Term, blank, node, Terms, tnil, tcons, span, flatten}
+use Rattle.term.specs.Terms.{count, Term, blank, node, Terms, span}
 use Rattle.term.proofs.Subterms.{length-dom}
 use Rattle.kinds.specs.Limits.{blankWord}
 

@@ -1,15 +1,13 @@
 -- S2 of a decoded goal gives the field `apart` of its words.
-use mathlib.Core.Path.{_≡_, refl, ap, sym, _∙_}
-use mathlib.Core.List.{List, [], _∷_, _++_, map, append-assoc}
+use mathlib.Core.Path.{_≡_}
+use mathlib.Core.List.{List, [], _++_, append-assoc}
 use Prim.Native.Nat.{ℕ, _/_, _%_, _^_}
 use Rattle.term.specs.Terms.{Term, span}
 use Rattle.kinds.specs.Positions.{Pos, decode}
 use Rattle.goals.specs.GoalWords.{GoalWords}
-use Rattle.automaton.specs.Goals.{Goal}
-use Rattle.decoding.specs.Decoding.{select, shapeAt, goalMeant}
-use Rattle.term.specs.Places.{dom}
+use Rattle.decoding.specs.Decoding.{shapeAt, goalMeant}
 use Rattle.kinds.proofs.Members.{map-in}
-use Rattle.kinds.specs.Members.{_∈_, here, there}
+use Rattle.kinds.specs.Members.{_∈_}
 use Rattle.decoding.proofs.ShapeNodes.{Node}
 use Rattle.decoding.proofs.OpenApart.{Lone, lone-apart}
 

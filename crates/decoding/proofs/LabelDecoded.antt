@@ -2,10 +2,10 @@
 use mathlib.Core.Path.{_≡_, refl, ap, ap₂, sym, _∙_}
 use mathlib.Core.List.{List, [], _∷_, _++_, map}
 use mathlib.Core.Bool.{Bool, true, false, cond}
-use Prim.Native.Nat.{ℕ, zero, suc, _+_, _/_, _%_, _^_, _≤_, _<_}
+use Prim.Native.Nat.{ℕ, _/_, _%_, _≤_, _<_}
 use native.Mathlib.Omega.{arith}
 use borrow.Author.Tests.{lt-ltb}
-use lib.Dec.{eqb, ltb}
+use lib.Dec.{eqb}
 use lib.ListN.{length}
 use Rattle.automaton.specs.Bare.{bare}
 use Rattle.automaton.specs.Goals.{Goal, isRoot, first, firstFrom, allObs, label}
@@ -14,7 +14,7 @@ use Rattle.kinds.proofs.Codes.{Proper, pad-lt}
 use Rattle.kinds.proofs.Members.{on-gather, in-filter, on-map}
 use Rattle.kinds.specs.Members.{_∈_, here, there}
 use Rattle.kinds.proofs.ListLaws.{map-append}
-use Rattle.kinds.specs.Lists.{filter, gather}
+use Rattle.kinds.specs.Lists.{filter}
 use Rattle.kinds.specs.Positions.{Pos, before, code, decodeTo, decode}
 use Rattle.decoding.proofs.GoalDecoded.{Fine, owed-is}
 use Rattle.decoding.specs.Decoding.{select, shapeAt, goalMeant, stateMeant, TableOf}

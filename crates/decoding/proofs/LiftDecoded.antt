@@ -1,17 +1,14 @@
 -- Lifting in words: what is left of a code below another is the code of what is left of the position.
 use mathlib.Core.Path.{_≡_, refl, ap, ap₂, sym, _∙_}
 use mathlib.Core.List.{List, [], _∷_, _++_, map, append-assoc, append-nil}
-use mathlib.Core.Bool.{Bool, true, false, cond}
 use Prim.Native.Nat.{ℕ, zero, suc, _+_, _*_, _/_, _%_, _^_, _≤_, _<_}
 use native.Mathlib.Omega.{arith}
 use native.Mathlib.Nat.{pow-suc, mul-assoc, mul-comm, mul-one, one-mul, mul-add-mod-self-right, mod-eq-of-lt}
 use borrow.Author.Tests.{lt-ltb, le-ltb}
 use native.Mathlib.Numerals.{add-one}
-use lib.Dec.{ltb}
 use lib.ListN.{length, length-append}
 use Rattle.automaton.specs.Bare.{bare}
 use Rattle.automaton.specs.Classes.{liftGoal}
-use Rattle.automaton.specs.Goals.{Goal}
 use Rattle.kinds.proofs.Codes.{Proper, codeFrom-append, code-join, decode-proper, code-of, proper-nil, proper-cons, proper-head, proper-tail, proper-append}
 use Rattle.kinds.proofs.Prefixes.{strip-append}
 use Rattle.kinds.proofs.ListLaws.{map-map, map-same}

@@ -1,15 +1,13 @@
 -- Reducing a goal's mask is reducing its list of obligations.
 use mathlib.Core.Path.{_≡_, refl, ap, ap₂, sym, _∙_}
 use mathlib.Core.List.{List, [], _∷_, _++_, map, append-assoc, append-nil}
-use mathlib.Core.Bool.{Bool, false, cond, not}
-use mathlib.Core.Option.{Option, none, some}
-use Prim.Native.Nat.{ℕ, zero, suc, _+_, _-_, _*_, _/_, _%_, _^_, _≤_, _<_, min, max}
+use mathlib.Core.Bool.{false, cond}
+use Prim.Native.Nat.{ℕ, suc, _+_, _*_, _/_, _%_, _^_, _≤_, _<_}
 use native.Mathlib.Omega.{arith}
-use native.Mathlib.Nat.{add-zero, zero-add, pow-suc, add-mul, mul-assoc, mul-comm, one-mul, mod-lt, mul-le-mul-right, suc-mul}
-use lib.Dec.{lit<}
-use lib.Bits.{bitOr, bitXor, xor-block, or-block, or-shifted, xor-step, xor-zero-r, or-zero-r, or-lt, xor-lt}
-use lib.Pow.{split, pow-pos, pow-add, pow-lt}
-use lib.ListN.{length, getD, length-map, length-append}
+use native.Mathlib.Nat.{add-zero, pow-suc, mul-assoc, mul-comm, one-mul, mod-lt, mul-le-mul-right, suc-mul}
+use lib.Bits.{bitOr, bitXor, xor-block, or-block, or-shifted, xor-step, xor-zero-r, or-zero-r}
+use lib.Pow.{split, pow-pos, pow-add}
+use lib.ListN.{length, length-map}
 use Rattle.automaton.specs.Bare.{args}
 use Rattle.kinds.proofs.Members.{same-refl}
 use Rattle.kinds.specs.Members.{_∈_, here, there}

@@ -1,15 +1,12 @@
 -- S2 in bits: where no two open positions of a goal are one under the other, nothing else is open under an open node.
 use mathlib.Core.Path.{_≡_, refl, ap, ap₂, sym, _∙_}
 use mathlib.Core.List.{List, [], _∷_, _++_, map, append-assoc}
-use mathlib.Core.Bool.{Bool, true, false, cond}
-use Prim.Native.Nat.{ℕ, zero, suc, _+_, _-_, _*_, _/_, _%_, _^_, _≤_, _<_}
+use Prim.Native.Nat.{ℕ, suc, _+_, _*_, _/_, _%_, _^_, _<_}
 use native.Mathlib.Omega.{arith}
 use native.Mathlib.Nat.{pow-succ', mod-lt}
-use native.Mathlib.Decide.{ℕ-discrete}
 use borrow.Author.Tests.{eq-eqb}
-use lib.Dec.{eqb}
 use lib.Pow.{pow-pos, split}
-use lib.ListN.{length, getD, length-map}
+use lib.ListN.{length, length-map}
 use Rattle.term.specs.Terms.{Term, blank, node, Terms, tnil, tcons, span}
 use Rattle.kinds.specs.Positions.{Pos}
 use Rattle.decoding.specs.Decoding.{select}
@@ -20,7 +17,7 @@ use Rattle.kinds.specs.Members.{_∈_, here, there}
 use Rattle.decoding.proofs.Selecting.{select-append, select-none, select-sub}
 use Rattle.decoding.proofs.ShapeNodes.{Node}
 use Rattle.decoding.proofs.MaskReduced.{below, dom-below, span-below}
-use mathlib.Core.Logic.{_⊎_, inl, inr, ⊎-elim}
+use mathlib.Core.Logic.{⊎-elim}
 
 -- no open position stands under another
 abbrev pub Lone : ℕ → Term → Type 0

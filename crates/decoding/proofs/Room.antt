@@ -1,17 +1,16 @@
 -- A derivative has room: at most as many goals as the state, and a fresh one for each shape at each child.
-use Prim.Native.Nat.{ℕ, zero, suc, _+_, _-_, _*_, _<_, _≤_}
-use mathlib.Core.Path.{_≡_, refl, ap, ap₂, sym, _∙_}
-use mathlib.Core.List.{List, [], _∷_, _++_, map}
+use Prim.Native.Nat.{ℕ, _+_, _*_, _≤_}
+use mathlib.Core.Path.{_≡_, refl, ap, ap₂, _∙_}
+use mathlib.Core.List.{List, [], _∷_, _++_}
 use mathlib.Core.Bool.{Bool, true, false, cond}
 use native.Mathlib.Omega.{arith}
-use native.Mathlib.Nat.{mul-comm, suc-mul}
+use native.Mathlib.Nat.{suc-mul}
 use lib.Dec.{eqb, ltb}
 use lib.ListN.{length, length-append, length-map}
 use Rattle.kinds.specs.Lists.{gather, range}
-use Rattle.goals.specs.GoalWords.{GoalWords, Low, flat, nodeAt, symOf, kidsOf, maskAfter}
-use Rattle.goals.specs.WordStages.{stays, moves, reduct, goesOn, withMask, freshW, freshesW, bornW, derivW, unexpected}
+use Rattle.goals.specs.GoalWords.{GoalWords, flat, nodeAt, symOf, kidsOf, maskAfter}
+use Rattle.goals.specs.WordStages.{stays, moves, goesOn, withMask, freshW, freshesW, bornW, derivW, unexpected}
 use Rattle.kinds.proofs.Members.{length-range}
-use Rattle.deriving.proofs.DeriveLaws.{flat-append}
 
 pub flat-length : (gs : List GoalWords) → length (flat gs) ≡ 3 * length gs
 unfolding flat
@@ -59,7 +58,3 @@ module _ (tab : List ℕ) (n c f k : ℕ) where
       let d : length (bornW n c k) ≡ k * n = born-from (range 1 k) ∙ ap (λ x. x * n) (length-range 1 k) in
       let i = kept gs in
       omega (arith, a, b, d, i)
-
-pub low-append : (gs hs : List GoalWords) → Low gs → Low hs → Low (gs ++ hs)
-low-append [] hs a b = b
-low-append (g ∷ gs) hs a b = (a .0, low-append gs hs (a .1) b)

@@ -1,16 +1,14 @@
 -- The elements that a mask selects.
-use mathlib.Core.Path.{_≡_, refl, ap, ap₂, sym, _∙_}
-use mathlib.Core.List.{List, [], _∷_, _++_, map, append-assoc}
-use mathlib.Core.Bool.{Bool, true, false, cond, not, false≢true}
-use Prim.Native.Nat.{ℕ, zero, suc, _+_, _-_, _*_, _/_, _%_, _^_, _≤_, _<_}
+use mathlib.Core.Path.{_≡_, refl, ap, sym, _∙_}
+use mathlib.Core.List.{List, [], _∷_, _++_, map}
+use mathlib.Core.Bool.{Bool, true, false, cond, false≢true}
+use Prim.Native.Nat.{ℕ, zero, suc, _+_, _*_, _/_, _%_, _^_, _<_}
 use native.Mathlib.Omega.{arith}
-use native.Mathlib.Nat.{add-zero, zero-add, pow-suc, mul-one, div-one, div-div-eq-div-mul, pow-succ'}
-use native.Mathlib.Numerals.{add-one}
-use borrow.Author.Tests.{eq-eqb, ne-eqb}
+use native.Mathlib.Nat.{pow-suc, div-one, div-div-eq-div-mul, pow-succ'}
+use borrow.Author.Tests.{eq-eqb}
 use lib.Dec.{eqb}
 use lib.Bits.{block-half, block-odd}
 use lib.ListN.{length, getD}
-use Rattle.kinds.proofs.Bools.{eqb-is}
 use Rattle.kinds.specs.Members.{_∈_, here, there}
 use Rattle.decoding.specs.Decoding.{select}
 

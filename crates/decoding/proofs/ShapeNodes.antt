@@ -1,15 +1,14 @@
 -- Node r of a term: where it stands in the preorder lists.
 use mathlib.Core.Path.{_≡_, refl, ap, ap₂, sym, _∙_}
 use mathlib.Core.List.{List, [], _∷_, _++_, map, append-assoc, append-nil}
-use mathlib.Core.Bool.{Bool, true, false, cond, not, _&&_}
-use mathlib.Core.Option.{Option, none, some}
-use mathlib.Core.Logic.{_⊎_, inl, inr, ⊎-elim}
-use Prim.Native.Nat.{ℕ, zero, suc, _+_, _-_, _*_, _/_, _%_, _^_, _≤_, _<_}
+use mathlib.Core.Bool.{false}
+use mathlib.Core.Option.{some}
+use mathlib.Core.Logic.{⊎-elim}
+use Prim.Native.Nat.{ℕ, zero, suc, _+_, _-_, _*_, _^_, _≤_, _<_}
 use native.Mathlib.Omega.{arith}
-use native.Mathlib.Nat.{add-zero, zero-add, add-assoc, zero-mul}
+use native.Mathlib.Nat.{add-zero, add-assoc, zero-mul}
 use native.Mathlib.Decide.{decLt}
 use borrow.Author.Tests.{eq-eqb, ne-eqb}
-use lib.Dec.{eqb}
 use lib.ListN.{length, getD, length-append, length-map, List·getD-append}
 use lib.Seq.{getD-append-add}
 use Rattle.kinds.proofs.Members.{∈-append, on-map}
@@ -17,8 +16,8 @@ use Rattle.kinds.specs.Members.{_∈_, here, there}
 use Rattle.kinds.proofs.ListLaws.{map-append, map-map}
 use Rattle.kinds.specs.Lists.{bind, same}
 use Rattle.kinds.specs.Positions.{Pos}
-use Rattle.decoding.specs.Decoding.{roots, solid, kidMasks, kidMaskss}
-use Rattle.term.specs.Places.{nth, child, sub, dom, doms}
+use Rattle.decoding.specs.Decoding.{roots, kidMasks, kidMaskss}
+use Rattle.term.specs.Places.{nth, sub, dom, doms}
 use Rattle.term.specs.Terms.{Term, blank, node, Terms, tnil, tcons, span, spans, flatten, flattens}
 use Rattle.term.proofs.Subterms.{length-dom}
 use Rattle.term.proofs.Sizes.{length-flatten}

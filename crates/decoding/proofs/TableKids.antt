@@ -1,17 +1,17 @@
 -- The masks of children, and the words, of the term that stands there.
-use mathlib.Core.Path.{_≡_, refl, ap, ap₂, sym, _∙_}
-use mathlib.Core.List.{List, [], _∷_, _++_, map}
-use Prim.Native.Nat.{ℕ, zero, suc, _+_, _-_, _*_, _/_, _%_, _^_, _≤_, _<_}
+use mathlib.Core.Path.{_≡_, ap, sym, _∙_}
+use mathlib.Core.List.{List, _++_}
+use Prim.Native.Nat.{ℕ, zero, suc, _+_, _-_, _*_, _%_, _^_, _≤_, _<_}
 use native.Mathlib.Omega.{arith}
 use native.Mathlib.Nat.{add-zero, zero-mul}
 use lib.Pow.{pow-add}
 use native.Mathlib.Decide.{decLt}
 use lib.ListN.{length, getD, List·getD-append}
 use lib.Seq.{getD-append-add}
-use Rattle.term.specs.Terms.{Term, blank, node, Terms, tnil, tcons, span, spans, count, flatten, flattens, Fits, Fitss}
-use Rattle.decoding.specs.Decoding.{roots, solid, kidMasks, kidMaskss}
+use Rattle.term.specs.Terms.{Term, blank, node, Terms, tnil, tcons, span, spans, Fits, Fitss}
+use Rattle.decoding.specs.Decoding.{roots, kidMasks, kidMaskss}
 use Rattle.decoding.proofs.ShapeNodes.{length-kids}
-use Rattle.tables.specs.ShapeTables.{wordAt, spanAt, kidsFrom, kidsAt}
+use Rattle.tables.specs.ShapeTables.{kidsFrom, kidsAt}
 use Rattle.tables.proofs.TableLaws.{kids-there, kids-on, kids-off}
 use Rattle.decoding.proofs.TableSeek.{Stands, Standss, span-is}
 use Rattle.kinds.specs.Limits.{blankWord}

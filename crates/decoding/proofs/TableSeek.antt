@@ -1,25 +1,19 @@
 -- The tables' words are those of the term that stands there.
-use mathlib.Core.Path.{_≡_, refl, ap, ap₂, sym, _∙_}
+use mathlib.Core.Path.{_≡_, refl, ap, sym, _∙_}
 use mathlib.Core.List.{List, [], _∷_, _++_, map}
-use mathlib.Core.Bool.{Bool, true, false, cond}
-use mathlib.Core.Option.{Option, none, some}
-use Prim.Native.Nat.{ℕ, zero, suc, _+_, _-_, _*_, _/_, _%_, _^_, _≤_, _<_}
+use mathlib.Core.Option.{some}
+use Prim.Native.Nat.{ℕ, zero, suc, _+_, _-_, _*_, _%_, _≤_, _<_}
 use native.Mathlib.Omega.{arith}
-use native.Mathlib.Nat.{add-zero, zero-add, add-assoc, zero-mul, one-mul, mul-one, mul-zero}
-use native.Mathlib.Numerals.{add-one}
+use native.Mathlib.Nat.{add-zero, zero-add}
 use native.Mathlib.Decide.{decLt}
-use borrow.Author.Tests.{eq-eqb, ne-eqb, lt-ltb, le-ltb}
-use lib.Dec.{eqb, ltb}
-use lib.ListN.{length, getD, getElem?, length-map, List·getD-append, List·getD-map}
-use lib.Seq.{getD-append-add}
-use Rattle.term.specs.Terms.{Term, blank, node, Terms, tnil, tcons, span, spans, count, flatten, Fits, Fitss}
-use Rattle.kinds.specs.Positions.{Pos, code, codeFrom}
-use Rattle.decoding.specs.Decoding.{roots, solid}
+use lib.ListN.{length, getD, getElem?}
+use Rattle.term.specs.Terms.{Term, blank, node, Terms, tnil, tcons, span, spans, count, Fits, Fitss}
+use Rattle.kinds.specs.Positions.{Pos, codeFrom}
 use Rattle.term.specs.Places.{dom, doms}
 use Rattle.term.proofs.Subterms.{length-dom}
 use Rattle.term.proofs.Sizes.{span-pos}
-use Rattle.tables.specs.ShapeTables.{wordAt, spanFrom, spanAt, seekFrom, kidsFrom, kidsAt}
-use Rattle.tables.proofs.TableLaws.{span-none, span-next, seek-there, seek-down, seek-on, kids-there, kids-on, kids-off}
+use Rattle.tables.specs.ShapeTables.{wordAt, spanFrom, spanAt, seekFrom}
+use Rattle.tables.proofs.TableLaws.{span-none, span-next, seek-there, seek-down, seek-on}
 use Rattle.kinds.specs.Limits.{blankWord}
 
 -- the term's words stand from `at` on

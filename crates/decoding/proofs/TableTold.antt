@@ -1,20 +1,19 @@
 -- TableOf each shape that stands at its start.
-use mathlib.Core.Path.{_≡_, refl, ap, ap₂, sym, _∙_}
-use mathlib.Core.List.{List, [], _∷_, _++_, map}
+use mathlib.Core.Path.{_≡_, refl, ap, sym, _∙_}
+use mathlib.Core.List.{List, [], _∷_, _++_}
 use Prim.Native.Nat.{ℕ, zero, suc, _+_, _-_, _*_, _/_, _%_, _^_, _≤_, _<_}
 use native.Mathlib.Omega.{arith}
 use native.Mathlib.Nat.{add-zero, zero-add, pow-succ', one-mul}
 use native.Mathlib.Decide.{decLt}
 use lib.ListN.{length, getD, List·getD-append}
-use lib.Pow.{pow-pos}
 use lib.Seq.{getD-append-add}
-use Rattle.term.specs.Terms.{Term, blank, node, Terms, tnil, tcons, span, spans, flatten, flattens, Fits, Fitss}
+use Rattle.term.specs.Terms.{Term, blank, node, Terms, tnil, tcons, span, spans, flatten, flattens, Fits}
 use Rattle.kinds.specs.Positions.{Pos, code}
 use Rattle.kinds.proofs.Codes.{five-pos}
 use Rattle.decoding.specs.Decoding.{kidMasks, TableOf}
 use Rattle.term.specs.Places.{dom}
 use Rattle.term.proofs.Sizes.{length-flatten, span-pos}
-use Rattle.tables.specs.ShapeTables.{wordAt, spanAt, kidsAt, nodeWord, entryW}
+use Rattle.tables.specs.ShapeTables.{wordAt, kidsAt, nodeWord, entryW}
 use Rattle.tables.proofs.TableLaws.{entry-in, word-0, word-1, word-2, word-3, word-4}
 use Rattle.decoding.proofs.TableSeek.{Stands, Standss, span-is, val, val-code, seek-term}
 use Rattle.decoding.proofs.TableKids.{kids-node}

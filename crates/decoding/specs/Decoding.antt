@@ -6,12 +6,12 @@
 --   goalMeant stateMeant    the goal, and the state, that words mean
 --   TableOf                 the tables say a shape's nodes: positions, powers, words and children
 use mathlib.Core.List.{List, [], _∷_, _++_, map}
-use mathlib.Core.Bool.{Bool, true, false, cond}
+use mathlib.Core.Bool.{cond}
 use mathlib.Core.Path.{_≡_}
-use Prim.Native.Nat.{ℕ, zero, suc, _+_, _*_, _/_, _%_, _^_, _≤_, _<_}
+use Prim.Native.Nat.{ℕ, suc, _+_, _*_, _/_, _%_, _^_, _<_}
 use lib.Dec.{eqb}
 use lib.ListN.{length, getD}
-use Rattle.term.specs.Terms.{Term, blank, node, Terms, tnil, tcons, span, spans, flatten}
+use Rattle.term.specs.Terms.{Term, blank, node, Terms, tnil, tcons, span, flatten}
 use Rattle.term.specs.Places.{dom}
 use Rattle.kinds.specs.Positions.{Pos, code, decode}
 use Rattle.automaton.specs.Goals.{Goal, State}

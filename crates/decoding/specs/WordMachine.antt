@@ -12,8 +12,8 @@ use Rattle.kinds.specs.Lists.{range}
 use Rattle.kinds.specs.Positions.{decode}
 use Rattle.automaton.specs.Goals.{Announcement}
 use Rattle.automaton.specs.Exploring.{Construction}
-use Rattle.goals.specs.GoalWords.{GoalWords, goalsFrom, Low, labelCode}
-use Rattle.goals.specs.WordStages.{freshesW, derivW, sameStateW, leastCode, liftW, classesW, outputsW, displacementW, liftedW}
+use Rattle.goals.specs.GoalWords.{GoalWords, goalsFrom, labelCode}
+use Rattle.goals.specs.WordStages.{freshesW, derivW, sameStateW, classesW, outputsW, displacementW, liftedW}
 
 abbrev pub announcementW : GoalWords → Announcement
 announcementW g = record { shape = g .sh; at = decode (g .an) }

@@ -16,7 +16,6 @@ use Rattle.kinds.specs.Lists.{unless, gather}
 use Rattle.kinds.specs.declared.Reason.{Reason}
 use Rattle.kinds.specs.declared.Reason.the-variants as reason
 use Rattle.kinds.proofs.Members.{in-take, in-drop}
-use Rattle.kinds.proofs.ListLaws.{stored-back}
 use Rattle.term.specs.Terms.{Term, span, flatten}
 use Rattle.term.specs.Spans.{spansOf}
 use Rattle.term.proofs.OneTerm.{once}
@@ -193,21 +192,3 @@ score-term ar t s =
     let h = s .flat in
     ap (λ (x : List ℕ). scoreTerm ar x) (sym (append-nil (flatten t)))
     ∙ ap orBlank (parse-flatten ar noBlank t scoreLevels [] (s .fits) (omega arith))
-
-module _ (file : List ℕ) (l : Lent) (a : Accepted file l) where
-  abbrev symbols : List ℕ
-  symbols = take (a .places .shapes) file
-
-  -- as many words of the tables as are answered
-  pub table-shapes : shapeTerms symbols (take (length (gather flatten (a .meaning .shapes))) (opened file l .tables .words)) ≡ a .meaning .shapes
-  table-shapes =
-      ap (λ (o : OpenOutcome). shapeTerms symbols (take (length (gather flatten (a .meaning .shapes))) (o .tables .words))) (a .is)
-      ∙ ap (shapeTerms symbols) (stored-back (gather flatten (a .meaning .shapes)) (l .words) (a .room .words))
-      ∙ shape-terms symbols (a .meaning .shapes) (a .meaning .folio .limits .are-shapes) (a .meaning .folio .limits .few-shapes)
-
-  pub table-score : scoreTerm symbols (take (span (a .meaning .score)) (opened file l .tables .score)) ≡ a .meaning .score
-  table-score =
-      ap (λ (o : OpenOutcome). scoreTerm symbols (take (span (a .meaning .score)) (o .tables .score))) (a .is)
-      ∙ ap (λ (n : ℕ). scoreTerm symbols (take n (sets (l .score) 0 (flatten (a .meaning .score))))) (sym (length-flatten (a .meaning .score)))
-      ∙ ap (scoreTerm symbols) (stored-back (flatten (a .meaning .score)) (l .score) (rw (length-flatten (a .meaning .score)) (a .room .score)))
-      ∙ score-term symbols (a .meaning .score) (a .meaning .folio .is-score)

@@ -2,7 +2,7 @@
 --   one-shifted or-with bit-same bit-other bit-le   a bit set, and the others
 --   clear-or-set no-bit bits-same            a bit is 0 or 1; numbers with the same bits are the same
 --   bit-zero bit-suc                         the lowest bit, and the bits of the half
---   raises ones-bits on-ones on-other ones-some ones-two ones-none ones-zero   how many are set
+--   ones-bits on-ones on-other ones-some ones-two ones-none ones-zero   how many are set
 --   up-ext up-zero up-last                           sums over the first numbers
 use Prim.Native.Nat.{ℕ, zero, suc, _+_, _-_, _*_, _/_, _%_, _^_, _<_, _≤_, max}
 use mathlib.Core.Path.{_≡_, refl, ap, ap₂, sym, _∙_}
@@ -14,7 +14,7 @@ use native.Mathlib.Decide.{decLt}
 use lib.Dec.{eqb, lit<}
 use lib.Arith.{lt-one}
 use lib.Bits.{bitOr, or-step, or-block, or-zero-r, or-shr, or-mod}
-use lib.Count.{ones, ones-step, ones-cat}
+use lib.Count.{ones, ones-step}
 use lib.Pow.{split, pow-pos, pow-add, pow-lt, shl-shr, shl-exact, high}
 use Rattle.kinds.specs.Bits.{bit, withBit, sumTo}
 
@@ -58,20 +58,6 @@ module _ (m j : ℕ) where
           let q : m / 2 ^ j / 2 * 2 + 1 ≡ m / 2 ^ j = omega arith in
           ap (λ (x : ℕ). x * 2 ^ j + m % 2 ^ j) q ∙ parts ∙ sym (ap (λ (t : ℕ). cond (eqb t 1) m (m + 2 ^ j)) e)
       go (suc (suc b)) e h = absurd (omega arith)
-
-  -- a bit that was clear is one more
-  pub raises : bit m j ≡ 0 → ones (withBit m j) ≡ ones m + 1
-  raises clear =
-      let q = m / 2 ^ j in
-      let r = m % 2 ^ j in
-      let h : r < 2 ^ j = mod-lt m (pow-pos j) in
-      let up : ones (m + 2 ^ j) ≡ ones (q + 1) + ones r = ap ones (sym next-parts) ∙ ones-cat j (q + 1) r h in
-      let was : ones m ≡ ones q + ones r = ap ones (sym parts) ∙ ones-cat j q r h in
-      let half : (q + 1) / 2 ≡ q / 2 = omega arith in
-      let up-q : ones (q + 1) ≡ (q + 1) % 2 + ones (q / 2) = ones-step (q + 1) ∙ ap (λ (x : ℕ). (q + 1) % 2 + ones x) half in
-      let was-q : ones q ≡ q % 2 + ones (q / 2) = ones-step q in
-      ap (λ (t : ℕ). ones (cond (eqb t 1) m (m + 2 ^ j))) clear
-      ∙ omega (arith, up, was, up-q, was-q)
 
 -- 2 ^ j has no bit but j
 one-bit : (i j : ℕ) → (i ≡ j → ⊥) → 2 ^ j / 2 ^ i % 2 ≡ 0

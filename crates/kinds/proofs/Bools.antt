@@ -6,14 +6,14 @@
 --   eqb-is is-eqb ltb-is is-ltb leb-is is-leb, ltb-not leb-not   what a test of two numbers says
 --   Order order, ltb-irrefl ltb-suc ltb-shift eqb-shift   less, equal or more
 --   half-leb key-order                        with half of a number; of two numbers in one
-use mathlib.Core.Path.{_≡_, refl, ap, sym, _∙_}
+use mathlib.Core.Path.{_≡_, refl, sym, _∙_}
 use mathlib.Core.Bool.{Bool, true, false, not, _&&_, _||_, false≢true}
 use mathlib.Core.Logic.{_⊎_, inl, inr}
 use Prim.Native.Nat.{ℕ, suc, _+_, _*_, _/_, _<_, _≤_}
 use native.Mathlib.Omega.{arith}
 use native.Mathlib.Decide.{decLt, decLe}
 use borrow.Author.Tests.{ltb-true, ltb-false, leb-true, leb-false, eqb-true, lt-ltb, le-ltb, le-leb, lt-leb, eq-eqb, ne-eqb}
-use lib.Dec.{T, eqb, ltb, leb, leb·suc-suc}
+use lib.Dec.{eqb, ltb, leb, leb·suc-suc}
 
 pub and-l : {a : Bool} (b : Bool) → (a && b) ≡ true → a ≡ true
 and-l {a = true} b h = refl

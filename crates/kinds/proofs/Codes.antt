@@ -14,13 +14,13 @@ use Prim.Native.Nat.{ℕ, zero, suc, _+_, _-_, _*_, _/_, _%_, _^_, _≤_, _<_}
 use native.Mathlib.Omega.{arith}
 use native.Mathlib.Nat.{zero-add, zero-mul, suc-mul, add-mul, mul-assoc, mul-comm, mod-lt, pow-suc, mul-le-mul-left, mul-le-mul-right}
 use borrow.Author.Tests.{eq-eqb, ne-eqb, le-ltb}
-use lib.Dec.{eqb, ltb, leb, lit<}
+use lib.Dec.{eqb, ltb, lit<}
 use lib.ListN.{length, length-append}
 use lib.Pow.{pow-add}
 use Rattle.kinds.specs.Lists.{same}
 use Rattle.kinds.specs.Positions.{Pos, before, code, codeFrom, decode, decodeTo, padTo, codeGood}
-use Rattle.kinds.proofs.Bools.{and-l, and-r, both, and-false, is-eqb, ltb-is, is-ltb, leb-is, is-leb, ltb-irrefl, ltb-shift, eqb-shift, ltb-suc, Order, less, equal, more, order}
-use Rattle.kinds.proofs.Members.{∈-left, ∈-right, ∈-append, all-at, all-of, same-is, same-refl}
+use Rattle.kinds.proofs.Bools.{both, and-false, is-eqb, is-ltb, is-leb, ltb-irrefl, ltb-shift, eqb-shift, ltb-suc, Order, less, equal, more, order}
+use Rattle.kinds.proofs.Members.{∈-left, ∈-right, ∈-append, all-of, same-is, same-refl}
 use Rattle.kinds.specs.Members.{_∈_, here, there}
 use Rattle.kinds.proofs.Prefixes.{_≼_, ≼-length}
 

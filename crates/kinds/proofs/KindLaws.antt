@@ -6,7 +6,7 @@
 --   pads-less pads-more pads-same           document order by padded codes
 use mathlib.Core.Path.{_≡_, refl, ap, sym, _∙_}
 use mathlib.Core.Bool.{Bool, true, false, _&&_, _||_}
-use mathlib.Core.List.{[], _∷_, _++_}
+use mathlib.Core.List.{[], _∷_}
 use Prim.Native.Nat.{ℕ, suc, _+_, _-_, _*_, _/_, _%_, _^_, _≤_, _<_}
 use native.Mathlib.Omega.{arith}
 use native.Mathlib.Nat.{mul-assoc, mul-one, pow-succ', mul-le-mul-left}
@@ -14,15 +14,13 @@ use borrow.Author.Tests.{eq-eqb, ne-eqb, lt-ltb, le-ltb, le-leb, lt-leb}
 use lib.Dec.{eqb, ltb}
 use lib.ListN.{length, length-append}
 use Rattle.kinds.specs.Lists.{all}
-use Rattle.kinds.specs.Positions.{Pos, before, code, decode, padTo, largest, codeGood}
+use Rattle.kinds.specs.Positions.{before, decode, padTo, largest, codeGood}
 use Rattle.kinds.specs.Kinds.{position, childOf}
 use Rattle.kinds.specs.declared.Position.{Position}
 use Rattle.kinds.specs.declared.Child.the-variants.{At, Beyond}
 use Rattle.kinds.proofs.Bools.{and-true, and-false}
-use Rattle.kinds.proofs.Members.{∈-right}
-use Rattle.kinds.specs.Members.{here}
 use Rattle.kinds.proofs.ListLaws.{all-append}
-use Rattle.kinds.proofs.Codes.{five-pos, code-snoc, codeFrom-is, Small, small-code, proper-head, decode-nil, decode-more, decode-short, decode-digits, code-decode, pad-code, pad-lt, before-pad}
+use Rattle.kinds.proofs.Codes.{five-pos, decode-nil, decode-more, decode-short, decode-digits, code-decode, pad-code, pad-lt, before-pad}
 
 module _ (p : Position) (i : ℕ) where
   pub child-bad : codeGood (p .0) ≡ false → childOf p i ≡ Beyond

@@ -20,7 +20,7 @@ use native.Mathlib.Numerals.{add-one}
 use borrow.Author.Tests.{eq-eqb, ne-eqb}
 use lib.ListN.{length, getD, take, drop, set, length-append, length-drop, drop-of-length-le}
 use lib.Seq.{take-add, take-all, drop-cons, sets, sets-eq, set-comm, take-set-le, drop-set-lt, getD-set-other, take-at, drop-at, take-append-le, drop-append-le, length-take-le, length-sets, take-append-seam, drop-append-seam}
-use Rattle.kinds.specs.Lists.{same, filter, any, all, insert, sort, gather, concat, mapAt, range, onto, isNil}
+use Rattle.kinds.specs.Lists.{same, filter, any, all, insert, sort, gather, concat, range, onto, isNil}
 use Rattle.kinds.proofs.Bools.{is-eqb}
 use Rattle.kinds.proofs.Members.{same-is, same-refl, in-sort}
 use Rattle.kinds.specs.Members.{_∈_, here, there}

@@ -5,12 +5,12 @@
 --   map-in on-map, gather-in on-gather           in what is made of each
 --   same-is same-refl                            equality of lists of numbers as a test
 --   Distinct distinct-map, Without without distinct-le   no element twice; the pigeonhole
---   filter-split filter-le filter-at-most gather-length   how many
+--   gather-length              how many
 --   Perm perm-refl perm-sym perm-length perm-in insert-perm sort-perm sort-in in-sort   the same elements, each as often
 --   range-in in-range length-range       numbers in a row
 --   in-take in-drop                              in a part
 use mathlib.Core.Path.{_≡_, refl, ap, sym, _∙_}
-use mathlib.Core.Bool.{Bool, true, false, cond, not, false≢true}
+use mathlib.Core.Bool.{Bool, true, false, cond, false≢true}
 use mathlib.Core.List.{List, [], _∷_, _++_, map}
 use mathlib.Core.Logic.{_⊎_, inl, inr, ⊎-elim, ⊎-map}
 use Prim.Native.Nat.{ℕ, zero, suc, _+_, _*_, _<_, _≤_}
@@ -143,17 +143,6 @@ module _ {ℓ} {A : Type ℓ} where
       le : (w : Without x ys) → length xs ≤ length (w .rest) → suc (length xs) ≤ length ys
       le w l = rw (w .shorter) (omega arith)
 
-  pub filter-split : (p : A → Bool) (xs : List A) → length (filter p xs) + length (filter (λ x. not (p x)) xs) ≡ length xs
-  filter-split p [] = refl
-  filter-split p (x ∷ xs) = go (p x) (filter p xs) (filter (λ y. not (p y)) xs) (filter-split p xs)
-    where
-      go : (b : Bool) (F G : List A) → length F + length G ≡ length xs → length (cond b (x ∷ F) F) + length (cond (not b) (x ∷ G) G) ≡ suc (length xs)
-      go true F G e = omega arith
-      go false F G e = omega arith
-
-  pub filter-at-most : (p : A → Bool) (xs : List A) → length (filter p xs) ≤ length xs
-  filter-at-most p xs = let h = filter-split p xs in omega arith
-
   -- the same elements, each as often
   pub data Perm : List A → List A → Type ℓ where
     done : Perm [] []
@@ -218,17 +207,6 @@ length-range c zero = refl
 length-range c (suc n) = ap suc (length-range (suc c) n)
 
 -- ---- how many
-pub filter-le : {A : Type 0} (p q : A → Bool) (xs : List A) → ((x : A) → p x ≡ true → q x ≡ true) → length (filter p xs) ≤ length (filter q xs)
-filter-le p q [] h = omega arith
-filter-le p q (x ∷ xs) h = go (p x) refl (q x) refl (filter-le p q xs h)
-  where
-    go : (a : Bool) → p x ≡ a → (b : Bool) → q x ≡ b → length (filter p xs) ≤ length (filter q xs)
-        → length (cond a (x ∷ filter p xs) (filter p xs)) ≤ length (cond b (x ∷ filter q xs) (filter q xs))
-    go true e true d ih = omega arith
-    go true e false d ih = absurd (false≢true (sym d ∙ h x e))
-    go false e true d ih = omega arith
-    go false e false d ih = ih
-
 pub gather-length : {A B : Type 0} (f : A → List B) (c : ℕ) (xs : List A) → ((x : A) → length (f x) ≡ c) → length (gather f xs) ≡ length xs * c
 gather-length f c [] h = omega arith
 gather-length f c (x ∷ xs) h = rw (length-append, h x, gather-length f c xs h) (mul-suc (length xs) c)

@@ -5,17 +5,15 @@
 --   strip-append strip-join strip-self strip-below strip-back strip-more strip-strip   what is left below a prefix
 --   prefix-is is-prefix below-prefix prefix-append   above, as a test
 use mathlib.Core.Path.{_≡_, refl, ap, sym, _∙_}
-use mathlib.Core.Bool.{Bool, true, false, cond, not, _&&_, false≢true}
+use mathlib.Core.Bool.{Bool, true, false, cond, false≢true}
 use mathlib.Core.List.{[], _∷_, _++_, append-assoc, append-nil}
 use mathlib.Core.Logic.{_⊎_, inl, inr}
 use Prim.Native.Nat.{ℕ, _≤_}
 use native.Mathlib.Omega.{arith}
 use lib.Dec.{eqb}
 use lib.ListN.{length, length-append}
-use Rattle.kinds.specs.Lists.{same}
 use Rattle.kinds.specs.Positions.{Pos, prefix, commonPrefix, strip}
 use Rattle.kinds.proofs.Bools.{and-l, and-r, both, eqb-is, is-eqb}
-use Rattle.kinds.proofs.Members.{same-refl}
 
 pub record _≼_ (p q : Pos) : Type 0 where
   pub by : Pos

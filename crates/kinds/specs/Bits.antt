@@ -3,7 +3,7 @@
 --   withBit   m with bit j set
 --   sumTo      f 0 + f 1 + … + f (k - 1)
 use Prim.Native.Nat.{ℕ, zero, suc, _+_, _/_, _%_, _^_}
-use mathlib.Core.Bool.{Bool, cond}
+use mathlib.Core.Bool.{cond}
 use lib.Dec.{eqb}
 
 abbrev pub bit : ℕ → ℕ → ℕ

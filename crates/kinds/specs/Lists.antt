@@ -9,7 +9,7 @@
 --   bind need        go on with what there is; go on only if the test holds
 --   orElse           a number that there is, or another
 --   onto             words in front, the others as they were
-use mathlib.Core.List.{List, [], _∷_, _++_, map}
+use mathlib.Core.List.{List, [], _∷_, _++_}
 use mathlib.Core.Bool.{Bool, true, false, cond, _&&_, _||_}
 use mathlib.Core.Option.{Option, none, some}
 use Prim.Native.Nat.{ℕ, zero, suc, _+_}

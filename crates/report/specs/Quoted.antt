@@ -1,7 +1,7 @@
 -- A quoted text as its bytes.
 --   bytes   the code of each character; quoted texts here have none past 127
 use Prim.Native.Nat.{ℕ}
-use Prim.Native.Char.{Char, code}
+use Prim.Native.Char.{code}
 use Prim.Native.String.{String, [], _∷_}
 use mathlib.Core.List.{List, [] as none, _∷_ as _then_}
 

@@ -14,11 +14,11 @@
 --   stepOf pathIn numbersIn   what the parts of the code answer: a child, a path at a buffer's start, how many numbers it has
 use Prim.Native.Nat.{ℕ, zero, suc, _+_, _/_, _%_}
 use mathlib.Core.List.{List, [], _∷_, _++_}
-use mathlib.Core.Bool.{Bool, cond}
+use mathlib.Core.Bool.{cond}
 use mathlib.Core.Option.{Option, none, some, Option·map}
 use lib.Dec.{ltb}
 use lib.ListN.{length, take}
-use Rattle.kinds.specs.Limits.{numberDigits, pathNumbers}
+use Rattle.kinds.specs.Limits.{numberDigits}
 use Rattle.kinds.specs.Lists.{gather}
 use Rattle.kinds.specs.Positions.{Pos}
 use Rattle.kinds.specs.Reasons.{numberOf}

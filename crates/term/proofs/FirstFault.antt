@@ -2,8 +2,8 @@
 --   fault-of of-fault   from the reader to the fault, and back
 --   fault-is            exactly
 use mathlib.Core.Path.{_≡_, refl, ap, ap₂, sym, _∙_}
-use mathlib.Core.Logic.{_⊎_, inl, inr, _↔_}
-use mathlib.Core.List.{List, _∷_, _++_, append-assoc}
+use mathlib.Core.Logic.{inl, inr, _↔_}
+use mathlib.Core.List.{List, _++_, append-assoc}
 use mathlib.Core.Bool.{Bool, true, false, cond}
 use mathlib.Core.Option.{some}
 use Prim.Native.Nat.{ℕ, zero, suc, _+_, _-_, _<_, _≤_}
@@ -14,7 +14,7 @@ use borrow.Author.Tests.{ltb-true, ltb-false, leb-true, leb-false}
 use lib.Dec.{ltb, leb}
 use lib.ListN.{length, getD, getElem?, drop}
 use Rattle.kinds.proofs.Places.{at-below, at-getD, getD-at}
-use Rattle.term.specs.Terms.{Term, Terms, tnil, tcons, count, span, spans, depth, depths, flatten, flattens, Fits, Fitss}
+use Rattle.term.specs.Terms.{Terms, tnil, tcons, count, span, spans, depths, flatten, flattens, Fitss}
 use Rattle.term.specs.Reading.{childrenOf, below, headOf, met, after, enter, kidsOf, reading}
 use Rattle.term.specs.Reading.{next as and-on}
 use Rattle.term.specs.declared.Limits.{Limits}

@@ -1,8 +1,8 @@
 -- The paper's match against a test that computes: document 000, section 2.
 --   agreesAt    a shape against what stands somewhere, node by node
 --   matches-is matches-of   a shape matches at a position exactly if it agrees with what stands there
-use mathlib.Core.Path.{_≡_, refl, ap, sym, _∙_}
-use mathlib.Core.List.{List, [], _∷_, _++_}
+use mathlib.Core.Path.{_≡_, refl}
+use mathlib.Core.List.{List, [], _∷_}
 use mathlib.Core.Bool.{Bool, true, false, _&&_, false≢true}
 use mathlib.Core.Option.{Option, none, some, Option·none-ne-some}
 use Prim.Native.Nat.{ℕ, zero, suc}

@@ -7,12 +7,11 @@
 --   reading      one term, at most d levels deep: what was met, or the first fault in preorder and its word
 use Prim.Native.Nat.{ℕ, zero, suc, _+_}
 use mathlib.Core.List.{List}
-use mathlib.Core.Bool.{Bool, cond}
+use mathlib.Core.Bool.{cond}
 use lib.Dec.{ltb, leb}
 use lib.ListN.{length, getD}
 use Rattle.term.specs.declared.Limits.{Limits}
 use Rattle.term.specs.declared.Met.{Met}
-use Rattle.term.specs.declared.Fault.{Fault}
 use Rattle.term.specs.declared.Fault.the-variants.{Ends, NoSymbol, Many, Deep}
 use Rattle.term.specs.declared.Count.{Count}
 use Rattle.term.specs.declared.Count.the-variants.{Kids, Bad}

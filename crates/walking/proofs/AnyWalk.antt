@@ -1,5 +1,4 @@
 -- What is promised of every walk over words: plan and score of one folio, any buffers that starting accepts, any choices, refused ones among them.
---   never-34              no step is refused 34
 --   refused-32            a choice that is not below the number waiting is refused 32, and changes nothing
 --   taken one-logged      any other is taken, and logs one node
 --   bits-clear            the announcements of a step differ, and each sets a bit that was clear
@@ -20,7 +19,7 @@ use native.Mathlib.Omega.{arith}
 use lib.ListN.{length, getD, getElem?, take, length-map}
 use Rattle.kinds.specs.Bits.{bit}
 use Rattle.kinds.specs.Positions.{Pos}
-use Rattle.kinds.specs.declared.Reason.the-variants.{NoSuchItem, OutOfRange}
+use Rattle.kinds.specs.declared.Reason.the-variants.{NoSuchItem}
 use Rattle.kinds.proofs.BitLaws.{bits-same}
 use Rattle.kinds.proofs.Options.{on-bind}
 use Rattle.kinds.proofs.Members.{on-map, map-in, Distinct, distinct-map}
@@ -35,8 +34,7 @@ use Rattle.automaton.proofs.Invariant.{announced}
 use Rattle.automaton.proofs.Steps.{walked-invariant}
 use Rattle.automaton.proofs.Counts.{read-all}
 use Rattle.automaton.proofs.Walks as walks
-use Rattle.walk.specs.declared.Record.{Record}
-use Rattle.walk.specs.declared.Walked.the-variants.{On, Refused}
+use Rattle.walk.specs.declared.Walked.the-variants.{On}
 use Rattle.walk.specs.Starting.{Walk, WalkOutcome, refuseWalk, begun}
 use Rattle.walk.specs.Stepping.{Finding, look}
 use Rattle.walking.specs.OneFolio.{OneFolio, planIn, scoreIn, spansIn, EnoughLent, stepIn, walkIn, acceptedIn}
@@ -67,19 +65,6 @@ module _ {C : Scored} (F : OneFolio C) where
 
     step-is : (i : ℕ) → Stepping F W i
     step-is i = stepping F W same-walk i
-
-    pub never-34 : (i : ℕ) → stepIn F i (walkIn F choices w) .answer ≡ Refused OutOfRange → ⊥
-    never-34 i e = go (step-is i)
-      where
-        other : {c : Record} → On c ≡ Refused OutOfRange → ⊥
-        other z = let y : _≡_ {A = ℕ} 0 1 = cc in omega arith
-
-        go : Stepping F W i → ⊥
-        go (moves h n d) = other (sym (ap (λ (o : WalkOutcome). o .answer) d) ∙ e)
-        go (refuses h d) =
-            let z : Refused NoSuchItem ≡ Refused OutOfRange = sym (ap (λ (o : WalkOutcome). o .answer) d) ∙ e in
-            let y : _≡_ {A = ℕ} 0 1 = cc in
-            omega arith
 
     pub refused-32 : (i : ℕ) → walkIn F choices w .count .waiting ≤ i → stepIn F i (walkIn F choices w) ≡ refuseWalk NoSuchItem (walkIn F choices w)
     refused-32 i l = go (step-is i)
