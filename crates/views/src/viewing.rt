@@ -25,6 +25,32 @@ pub fn lengths_at(words: &[u16], states: u16, symbols: u16, state: State, symbol
     lengths_in(view(words, states, symbols), state, symbol)
 }
 
+pub fn announcement_at(
+    words: &[u16],
+    states: u16,
+    symbols: u16,
+    state: State,
+    symbol: Symbol,
+    i: usize,
+) -> Announcement
+    ensures { λ r. ⌜ r ≡ announcementOf (now (words .entry)) states symbols (state .0) (symbol .0) i ⌝ }
+{
+    announcement_in(view(words, states, symbols), state, symbol, i)
+}
+
+pub fn successor_at(
+    words: &[u16],
+    states: u16,
+    symbols: u16,
+    state: State,
+    symbol: Symbol,
+    i: usize,
+) -> Successor
+    ensures { λ r. ⌜ r ≡ successorOf (now (words .entry)) states symbols (state .0) (symbol .0) i ⌝ }
+{
+    successor_in(view(words, states, symbols), state, symbol, i)
+}
+
 pub fn view<'a>(words: &'a [u16], states: u16, symbols: u16) -> PlanView<'a>
     ensures { λ r. ⌜ (r .words ≡ words .entry) × (r .states ≡ states) × (r .symbols ≡ symbols) ⌝ }
 {
