@@ -1,4 +1,5 @@
--- A view is made of plain parameters and passed to a reader of it, as in `label_in(view(words, states, symbols), state)`. What the proofs of the four such calls share: their signatures and contracts, what each of the two calls asks and gives, and how the walk ends.
+-- A view is made of plain parameters and passed to a reader of it, as in `label_in(view(words, states, symbols), state)`. What the proofs of the four such
+-- calls share: their signatures and contracts, what each of the two calls asks and gives, and how the walk ends.
 --     Laws ss          what a walk needs of the parameters behind the counts.        nothing-else, also        of none, and of one more
 --     Reader           what a reader is asked beside the view, what it answers, and by which definition
 --     makes-view, reads-view      the two calls as steps of a walk.        exits      its end.        meets      from a walk to the contract
@@ -23,12 +24,12 @@ use types.Kit.{Given, Item, ‵, raw, _⊛_, ⋆, some, later, Post, runs, lands
 use types.Run.{Opds}
 use sound.WpLaws.{FmC, WpFn-mono}
 use denote.RattleType.{RattleType, Denots, Valss, flat, owns}
-use denote.Laws.{Is, Ises, Are, Spells, Tells, Tellss, valss, shows}
+use denote.Laws.{Typed, Is, Ises, Are, Lawful, Spells, Tells, Tellss, valss, shows}
 use denote.Builtin.{u16, usize}
 use denote.Exit.{yes, Last, left}
 use denote.Plain.{uint-vals, uint-tells}
 use denote.Ref.{RefT, NamedLft, now}
-use denote.Signature.{Slot, Signature, plain, shrSliceOf, namedLft, typesAt}
+use denote.Signature.{Slot, plain, shrSliceOf, namedLft, typesAt}
 use denote.Slice.{sliceVal, ShrSlice, slice-vals, shr-slice-tells}
 use denote.Steps.{peeks, heard, nothing}
 use denote.Struct.Laws as LL
@@ -36,7 +37,7 @@ use denote.Triple.Statement.{Contract, Triple}
 use denote.Triple.Call.{calls-at}
 use denote.Triple.Clauses.{Ended, Clauses, ensured, lasts, closing}
 use denote.Triple.End.{Fins, all}
-use denote.Triple.Entry.{Vals, onEntry}
+use denote.Triple.Entry.{Args, Vals, onEntry}
 use denote.Triple.Spec.{Meets, tripleOf}
 use denote.Triple.Walked.{says, Stays, stay-dropped, fitsOf, hasOf, walkOf, AllGo, goes-dropped, ends-at, walked, walk-meets}
 use Rattle.kinds.proofs.State as state
@@ -103,6 +104,7 @@ pub record Reader : Type 3 where
   pub asked : List (Slot 1)
   pub laws : Laws asked
   pub answer : RattleType
+  pub lawful : {M : Type 1} (𝓤 : URA M) (H : Heap 𝓤) (A : Atoms 𝓤) → Given 𝓤 H A → Lawful 𝓤 H A answer
   pub found : (κs : Lfts 1) → List ℕ → ℕ → ℕ → Denots (typesAt asked κs) → answer .Denot
 
 -- one call: its lifetime and share, and what it is passed
@@ -137,6 +139,9 @@ module _ (F : Reader) where
     };
     kept = (yes, (yes, (yes, all yes (F .asked))));
   }
+
+  abbrev params : List (Slot 1)
+  params = at-ended .signature .params
 
   module _ {M : Type 1} (𝓤 : URA M) where
     abbrev pub in-clauses : Clauses 𝓤 in-ended
@@ -182,35 +187,38 @@ module _ (F : Reader) where
     abbrev vss : Valss (typesAt (F .asked) (κ, tt))
     vss = valss (typesAt (F .asked) (κ, tt)) (F .laws .spells (κ, tt)) a
 
-    -- what `view` is passed, and all that is passed
-    abbrev pub at-new : Vals new.signature (κ, tt)
+    abbrev args : Args (at-ended .signature) (κ, tt)
+    args = (s, (m, (k, a)))
+
+    -- the machine values that `view` is passed, and all
+    abbrev at-new : Vals new.signature (κ, tt)
     at-new = (sliceVal (s .ptr) (length (s .now)) ∷ [], (vint w16 m ∷ [], (vint w16 k ∷ [], tt)))
 
-    abbrev pub at : Vals (at-ended .signature) (κ, tt)
+    abbrev at : Vals (at-ended .signature) (κ, tt)
     at = (at-new .0, (at-new .1 .0, (at-new .1 .1 .0, vss)))
 
     abbrev pub passed : List Val
     passed = sliceVal (s .ptr) (length (s .now)) ∷ vint w16 m ∷ vint w16 k ∷ flat (typesAt (F .asked) (κ, tt)) vss
 
     abbrev pub entry : SProp 𝓤
-    entry = onEntry 𝓤 H A (at-ended .signature) (κ, tt) (q, tt) (s, (m, (k, a))) at
+    entry = onEntry 𝓤 H A (at-ended .signature) (κ, tt) (q, tt) args at
 
     abbrev pub Ends : Val → SProp 𝓤
-    Ends = walkOf 𝓤 H A at-ended (let-go (at-ended .signature .params)) (at-clauses 𝓤) .post (((κ, tt), (q, tt), tt, (s, (m, (k, a))), at), tt)
+    Ends = walkOf 𝓤 H A at-ended (let-go params) (at-clauses 𝓤) .post (((κ, tt), (q, tt), tt, args, at), tt)
 
-    abbrev pub Asked : Fml
+    abbrev Asked : Fml
     Asked = owns (typesAt (F .asked) (κ, tt)) a vss
 
     abbrev Token : Item 𝓤
     Token = ‵ (flft κ q) ⊛ ‵ ftrue
 
-    abbrev pub to-new : New 𝓤 H A mem run .Ghost
+    abbrev to-new : New 𝓤 H A mem run .Ghost
     to-new = (((κ, tt), (q, tt), tt, (s, (m, (k, tt))), at-new), tt)
 
     -- what is owned on entry gives what `view` asks, and the rest is kept for the reader
-    pub goes-new : ent 𝓤 entry (sep 𝓤 (New 𝓤 H A mem run .pre to-new) (sem 𝓤 H A Asked))
+    goes-new : ent 𝓤 entry (sep 𝓤 (New 𝓤 H A mem run .pre to-new) (sem 𝓤 H A Asked))
     goes-new =
-        qed W (Token ∷ ‵ (owns (ShrSlice (named 0) κ u16 ∷ u16 ∷ u16 ∷ typesAt (F .asked) (κ, tt)) (s, (m, (k, a))) at) ∷ []) ∵
+        qed W (Token ∷ ‵ (owns (ShrSlice (named 0) κ u16 ∷ u16 ∷ u16 ∷ typesAt (F .asked) (κ, tt)) args at) ∷ []) ∵
         move ! (1 ∷ []) $ fsplit ! $ move ! (1 ∷ []) $ fsplit ! $ move ! (1 ∷ []) $ fsplit ! $
         -- [what k owns; what the rest owns; what m owns; what s owns; the token]
         nothing ! $ move ! (1 ∷ 0 ∷ []) $ fjoin ! $ move ! (2 ∷ 0 ∷ []) $ fjoin ! $ move ! (2 ∷ 0 ∷ []) $ fjoin ! $ move ! (2 ∷ 0 ∷ []) $
@@ -225,61 +233,65 @@ module _ (F : Reader) where
     new-said r = exE 𝓤 _ (λ ws. snd∗ 𝓤 (sem 𝓤 H A (lasts new.ended (κ, tt) (s, (m, (k, tt))) ws)) (fact 𝓤 (Made r)))
 
     -- the reader is called at the view r with the machine value u
-    abbrev pub to-next : PlanView → Val → Next 𝓤 H A mem run .Ghost
+    abbrev to-next : PlanView → Val → Next 𝓤 H A mem run .Ghost
     to-next r u = (((κ, tt), (q, tt), tt, (r, a), (u ∷ [], vss)), tt)
 
-    pub goes-next : (r : PlanView) (u : Val) → ent 𝓤 (⋆ 𝓤 H A (‵ (B (κ, tt) .own r (u ∷ [])) ∷ Token ∷ ‵ Asked ∷ [])) (Next 𝓤 H A mem run .pre (to-next r u))
-    goes-next r u = qed W (‵ (B (κ, tt) .own r (u ∷ [])) ∷ Token ∷ ‵ Asked ∷ []) ∵ move ! (0 ∷ 2 ∷ []) $ fjoin ! $ move ! (1 ∷ 0 ∷ []) $ join ! $ frame ! $
-        done !
+    goes-next : (r : PlanView) (u : Val) → ent 𝓤 (⋆ 𝓤 H A (‵ (B (κ, tt) .own r (u ∷ [])) ∷ Token ∷ ‵ Asked ∷ [])) (Next 𝓤 H A mem run .pre (to-next r u))
+    goes-next r u = qed W (‵ (B (κ, tt) .own r (u ∷ [])) ∷ Token ∷ ‵ Asked ∷ []) ∵ move ! (0 ∷ 2 ∷ []) $ fjoin ! $ move ! (1 ∷ 0 ∷ []) $ join ! $
+        frame ! $ done !
 
     abbrev pub Answered : F .answer .Denot → Type 0
     Answered t = t ≡ F .found (κ, tt) (now s) m k a
 
-    answered : (r : PlanView) → Made r → (t : F .answer .Denot) → t ≡ F .found (κ, tt) (now (r .words)) (r .states) (r .symbols) a → Answered t
+    -- what the reader says of the view r
+    abbrev Read : PlanView → F .answer .Denot → Type 0
+    Read r t = t ≡ F .found (κ, tt) (now (r .words)) (r .states) (r .symbols) a
+
+    answered : (r : PlanView) → Made r → (t : F .answer .Denot) → Read r t → Answered t
     answered r e t h = h ∙ (ap (λ (x : RefT (List ℕ)). F .found (κ, tt) (now x) (r .states) (r .symbols) a) (e .0)
         ∙ (ap (λ (x : ℕ). F .found (κ, tt) (now s) x (r .symbols) a) (e .1) ∙ ap (λ (x : ℕ). F .found (κ, tt) (now s) m x a) (e .2)))
 
-    next-said : (r : PlanView) (t : F .answer .Denot) → ent 𝓤 (ensured 𝓤 H A in-ended (in-clauses 𝓤) (κ, tt) (r, a) tt t)
-        (fact 𝓤 (t ≡ F .found (κ, tt) (now (r .words)) (r .states) (r .symbols) a))
-    next-said r t = exE 𝓤 _ (λ ws. snd∗ 𝓤 (sem 𝓤 H A (lasts in-ended (κ, tt) (r, a) ws))
-        (fact 𝓤 (t ≡ F .found (κ, tt) (now (r .words)) (r .states) (r .symbols) a)))
+    next-said : (r : PlanView) (t : F .answer .Denot) → ent 𝓤 (ensured 𝓤 H A in-ended (in-clauses 𝓤) (κ, tt) (r, a) tt t) (fact 𝓤 (Read r t))
+    next-said r t = exE 𝓤 _ (λ ws. snd∗ 𝓤 (sem 𝓤 H A (lasts in-ended (κ, tt) (r, a) ws)) (fact 𝓤 (Read r t)))
 
     pub exits : (t : F .answer .Denot) (u : Val) → Answered t → ent 𝓤 (⋆ 𝓤 H A (‵ (F .answer .own t (u ∷ [])) ∷ Token ∷ [])) (Ends u)
     exits t u e =
-        let ws : Fins (κ, tt) (at-ended .signature .params) (at-ended .kept) (s, (m, (k, a))) = plain-laws (F .laws) .ends (κ, tt) (s, (m, (k, a))) in
+        let ws : Fins (κ, tt) params (at-ended .kept) args = plain-laws (F .laws) .ends (κ, tt) args in
         qed W (‵ (F .answer .own t (u ∷ [])) ∷ Token ∷ []) ∵
-        suffices ! _ (ends-at 𝓤 H A at-ended (let-go (at-ended .signature .params)) (at-clauses 𝓤) W (((κ, tt), (q, tt), tt, (s, (m, (k, a))), at), tt) u t
-        ws (fits-all (κ, tt) (at-ended .signature .params) (s, (m, (k, a))) ws)) $ says ! e $
-        move ! (1 ∷ []) $ frame ! $ use0 W (‵ (hasOf (κ, tt) (at-ended .signature .params) (at-ended .kept) (let-go (at-ended .signature .params)) (s, (m, (k, a))) ws at))
-        (has-none 𝓤 H A (κ, tt) (at-ended .signature .params) (s, (m, (k, a))) ws at) $ frame ! $ done !
+        suffices ! _ (ends-at 𝓤 H A at-ended (let-go params) (at-clauses 𝓤) W (((κ, tt), (q, tt), tt, args, at), tt) u t ws
+        (fits-all (κ, tt) params args ws)) $ says ! e $
+        move ! (1 ∷ []) $ frame ! $ use0 W (‵ (hasOf (κ, tt) params (at-ended .kept) (let-go params) args ws at))
+        (has-none 𝓤 H A (κ, tt) params args ws at) $ frame ! $ done !
+
+    -- In a local of a body MIR erases the lifetime of the view's type; what a view owns does not say the lifetime's name.
+    in-local : (r : PlanView) (u : Val) → Is (B (κ, tt)) r (u ∷ []) → Holds (hasTy (T′.mir erased) u) × WT u
+    in-local r u is = let αᵉ : NamedLft = record { mir = erased; lft = κ } in LL.lawful (T.the-type αᵉ) (T′.the-laws αᵉ) 𝓤 H A W .typed r _ is .0
 
     -- ---- the two calls as steps of a walk
-    module _ {K : Type 0} {Γ : List (Item 𝓤)} {E : Env 𝓤 H} {C : Calls 𝓤 H} {Λ : Loops 𝓤 H} {p : Post 𝓤 H} {d : Place} {xs : List Operand} {rest : Body} where
+    module _ {K : Type 0} {Γ : List (Item 𝓤)} {E : Env 𝓤 H} {C : Calls 𝓤 H} {Λ : Loops 𝓤 H} {p : Post 𝓤 H} {d : Place} {xs : List Operand}
+        {rest : Body} where
       pub makes-view : K → FmC 𝓤 H (W .laws) C → Triple 𝓤 (C #view) (New 𝓤 H A mem run)
-          → Opds K W (raw (New 𝓤 H A mem run .pre to-new) ∷ Γ) E xs (New 𝓤 H A mem run .args to-new)
-          → ((r : PlanView) (u : Val) → Made r → Is (B (κ, tt)) r (u ∷ []) → Seq K W (‵ (B (κ, tt) .own r (u ∷ [])) ∷ Token ∷ Γ) (lands C Λ E d u rest p))
-          → Seq K W (raw (New 𝓤 H A mem run .pre to-new) ∷ Γ) (runs C Λ E (seq (call #view xs d) rest) p)
-      makes-view t fm known os go = calls-at t fm (New 𝓤 H A mem run) known to-new os (λ u.
-          use1 W (later (some (λ (r : PlanView). (Token ⊛ ‵ (B (κ, tt) .own r (u ∷ []))) ⊛ raw
+          → Opds K W (raw (New 𝓤 H A mem run .pre to-new) ∷ ‵ Asked ∷ Γ) E xs (New 𝓤 H A mem run .args to-new)
+          → ((r : PlanView) (u : Val) → Made r → Holds (hasTy (T′.mir erased) u) × WT u
+          → Seq K W (‵ (B (κ, tt) .own r (u ∷ [])) ∷ Token ∷ ‵ Asked ∷ Γ) (lands C Λ E d u rest p))
+          → Seq K W (raw entry ∷ Γ) (runs C Λ E (seq (call #view xs d) rest) p)
+      makes-view t fm known os go = use1 W (raw (New 𝓤 H A mem run .pre to-new) ⊛ ‵ Asked) goes-new $ split t $ calls-at t fm (New 𝓤 H A mem run) known
+          to-new os (λ u. use1 W (later (some (λ (r : PlanView). (Token ⊛ ‵ (B (κ, tt) .own r (u ∷ []))) ⊛ raw
           (ensured 𝓤 H A new.ended (new.clauses 𝓤 H A mem run) (κ, tt) (s, (m, (k, tt))) tt r)))) (id⊢ 𝓤 _) $ await t tt $ pick t (λ r.
           split t $ move t (1 ∷ []) $ use1 W (raw (fact 𝓤 (Made r))) (new-said r) $ heard t (Made r) (λ e. split t $ move t (1 ∷ []) $
-          peeks t (B (κ, tt)) (Is (B (κ, tt))) (shows 𝓤 H A (B (κ, tt))) r (u ∷ []) (λ is. go r u e is))))
+          peeks t (B (κ, tt)) (Is (B (κ, tt))) (shows 𝓤 H A (B (κ, tt))) r (u ∷ []) (λ is. go r u e (in-local r u is)))))
 
       pub reads-view : K → FmC 𝓤 H (W .laws) C → {f : Name} → Triple 𝓤 (C f) (Next 𝓤 H A mem run) → (r : PlanView) (u : Val) → Made r
           → Opds K W (raw (Next 𝓤 H A mem run .pre (to-next r u)) ∷ Γ) E xs (Next 𝓤 H A mem run .args (to-next r u))
-          → ((t : F .answer .Denot) (w : Val) → Answered t → Is (F .answer) t (w ∷ []) → Seq K W (‵ (F .answer .own t (w ∷ [])) ∷ Token ∷ Γ)
-          (lands C Λ E d w rest p))
-          → Seq K W (raw (Next 𝓤 H A mem run .pre (to-next r u)) ∷ Γ) (runs C Λ E (seq (call f xs d) rest) p)
-      reads-view t fm known r u made os go = calls-at t fm (Next 𝓤 H A mem run) known (to-next r u) os (λ w.
-          use1 W (later (some (λ (x : F .answer .Denot). (Token ⊛ ‵ (F .answer .own x (w ∷ []))) ⊛ raw
+          → ((t : F .answer .Denot) (w : Val) → Answered t → Typed (F .answer .mir) (w ∷ [])
+          → Seq K W (‵ (F .answer .own t (w ∷ [])) ∷ Token ∷ Γ) (lands C Λ E d w rest p))
+          → Seq K W (‵ (B (κ, tt) .own r (u ∷ [])) ∷ Token ∷ ‵ Asked ∷ Γ) (runs C Λ E (seq (call f xs d) rest) p)
+      reads-view t fm known r u made os go = use3 W (raw (Next 𝓤 H A mem run .pre (to-next r u))) (goes-next r u) $ calls-at t fm
+          (Next 𝓤 H A mem run) known (to-next r u) os (λ w. use1 W (later (some (λ (x : F .answer .Denot). (Token ⊛ ‵ (F .answer .own x (w ∷ []))) ⊛ raw
           (ensured 𝓤 H A in-ended (in-clauses 𝓤) (κ, tt) (r, a) tt x)))) (id⊢ 𝓤 _) $ await t tt $ pick t (λ x.
-          split t $ move t (1 ∷ []) $ use1 W (raw (fact 𝓤 (x ≡ F .found (κ, tt) (now (r .words)) (r .states) (r .symbols) a))) (next-said r x) $ heard t
-          (x ≡ F .found (κ, tt) (now (r .words)) (r .states) (r .symbols) a) (λ e. split t $ move t (1 ∷ []) $
-          peeks t (F .answer) (Is (F .answer)) (shows 𝓤 H A (F .answer)) x (w ∷ []) (λ is. go x w (answered r made x e) is))))
-
-    -- In a local of a body MIR erases the lifetime of the view's type; what a view owns does not say the lifetime's name.
-    pub in-local : (r : PlanView) (u : Val) → Is (B (κ, tt)) r (u ∷ []) → Holds (hasTy (T′.mir erased) u) × WT u
-    in-local r u is = let αᵉ : NamedLft = record { mir = erased; lft = κ } in LL.lawful (T.the-type αᵉ) (T′.the-laws αᵉ) 𝓤 H A W .typed r _ is .0
+          split t $ move t (1 ∷ []) $ use1 W (raw (fact 𝓤 (Read r x))) (next-said r x) $ heard t (Read r x) (λ e. split t $ move t (1 ∷ []) $
+          peeks t (F .answer) (Is (F .answer)) (shows 𝓤 H A (F .answer)) x (w ∷ [])
+          (λ is. go x w (answered r made x e) (F .lawful 𝓤 H A W .typed x (w ∷ []) is)))))
 
   -- ---- from a walk of the call's code to its contract
   module _ {M : Type 1} (𝓤 : URA M) (H : Heap 𝓤) (A : Atoms 𝓤) (W : Given 𝓤 H A) (mem : Memory → SProp 𝓤) (run : Routine → Fun 𝓤) (code : Fn) where
@@ -291,9 +303,9 @@ module _ (F : Reader) where
     pub meets : (𝓣 : Tables 𝓤 H) → Walk (𝓣 .C) (𝓣 .Λ)
         → Meets 𝓤 H A (at-ended .signature) (WpFn 𝓤 H (𝓣 .C) (𝓣 .Λ) code) (closing 𝓤 H A at-ended (at-clauses 𝓤))
     meets 𝓣 walk =
-        walk-meets 𝓤 H A at-ended (let-go (at-ended .signature .params)) W (plain-laws (F .laws) .goes 𝓤 H A W) (at-clauses 𝓤)
+        walk-meets 𝓤 H A at-ended (let-go params) W (plain-laws (F .laws) .goes 𝓤 H A W) (at-clauses 𝓤)
         (WpFn 𝓤 H (𝓣 .C) (𝓣 .Λ) code) (WpFn-mono 𝓤 H (W .laws) 𝓣 code)
-        (walked 𝓤 H A at-ended (let-go (at-ended .signature .params)) (at-clauses 𝓤) (WpFn 𝓤 H (𝓣 .C) (𝓣 .Λ) code) (plain-laws (F .laws) .spells)
+        (walked 𝓤 H A at-ended (let-go params) (at-clauses 𝓤) (WpFn 𝓤 H (𝓣 .C) (𝓣 .Λ) code) (plain-laws (F .laws) .spells)
         (plain-laws (F .laws) .tells) (λ κs qs bounds a g are. via 𝓤 _ (fst∗ 𝓤 _ (emp 𝓤))
         (walk record {
           lft = κs .0;
