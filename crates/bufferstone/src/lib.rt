@@ -43,10 +43,13 @@ pub use readers::reading::successor_of;
 
 // The same by a view of them.
 pub use views::PlanView;
+pub use views::viewing::announcement_at;
 pub use views::viewing::announcement_in;
 pub use views::viewing::label_at;
 pub use views::viewing::label_in;
+pub use views::viewing::lengths_at;
 pub use views::viewing::lengths_in;
+pub use views::viewing::successor_at;
 pub use views::viewing::successor_in;
 pub use views::viewing::view;
 

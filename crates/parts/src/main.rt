@@ -11,14 +11,17 @@ use bufferstone::Reason;
 use bufferstone::State;
 use bufferstone::Successor;
 use bufferstone::Symbol;
+use bufferstone::announcement_at;
 use bufferstone::announcement_of;
 use bufferstone::equal;
 use bufferstone::follow;
 use bufferstone::label_at;
 use bufferstone::label_of;
+use bufferstone::lengths_at;
 use bufferstone::lengths_of;
 use bufferstone::number;
 use bufferstone::subtree;
+use bufferstone::successor_at;
 use bufferstone::successor_of;
 use libc::STDOUT_FILENO;
 
@@ -126,25 +129,32 @@ fn show_label(answer: Label) {
     }
 }
 
-// How long a block is, and its pairs: one more of each than there are.
+// How long a block is, and its pairs, one more of each than there are: by the words and by a view of them.
 fn show_block(plan: &[u16], state: State, symbol: Symbol) {
     say(b"  symbol ", symbol.0 as usize);
-    match lengths_of(plan, 3, 3, state, symbol) {
-        Block::Of(l) => {
-            say(b" announcements ", l.announcements);
-            say(b" successors ", l.successors);
-        }
-        Block::Refused(why) => refused(why),
-    }
+    show_lengths(lengths_of(plan, 3, 3, state, symbol));
+    show_lengths(lengths_at(plan, 3, 3, state, symbol));
     show_pairs(plan, state, symbol, 0);
     show_pairs(plan, state, symbol, 1);
     show_pairs(plan, state, symbol, 2);
     end();
 }
 
+fn show_lengths(answer: Block) {
+    match answer {
+        Block::Of(l) => {
+            say(b" announcements ", l.announcements);
+            say(b" successors ", l.successors);
+        }
+        Block::Refused(why) => refused(why),
+    }
+}
+
 fn show_pairs(plan: &[u16], state: State, symbol: Symbol, i: usize) {
     show_announcement(announcement_of(plan, 3, 3, state, symbol, i));
+    show_announcement(announcement_at(plan, 3, 3, state, symbol, i));
     show_successor(successor_of(plan, 3, 3, state, symbol, i));
+    show_successor(successor_at(plan, 3, 3, state, symbol, i));
 }
 
 fn show_announcement(answer: Announcement) {

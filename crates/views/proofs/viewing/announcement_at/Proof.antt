@@ -1,0 +1,38 @@
+-- `announcement_at` meets its contract: its code is that of `PassingPairs` at `announcement_in`, and is walked there. All
+-- that the proof knows of `view` and of `announcement_in` is that each meets its contract.
+use contract.Running.{givenOf, tables, tablesOf}
+use sound.WpLaws.{fmOf}
+use denote.Triple.Spec.{tripleOf}
+use denote.Triple.Table.{entered, cited}
+use Rattle.readers.specs.PlanParts.{announcementOf}
+use Rattle.readers.proofs.Announcement as S
+use Rattle.readers.proofs.Announcement.Laws as S′
+use Rattle.views.proofs.Passing as P
+use Rattle.views.proofs.PassingPairs as pairs
+use Rattle.views.proofs.viewing.view.Symbol as new-def
+use Rattle.views.proofs.viewing.view.Symbol.{name as #view}
+use Rattle.views.proofs.viewing.view.Met as new-thm
+use Rattle.views.proofs.viewing.announcement_in.Symbol as next-def
+use Rattle.views.proofs.viewing.announcement_in.Symbol.{name as #announcement-in}
+use Rattle.views.proofs.viewing.announcement_in.Met as next-thm
+use Rattle.views.proofs.viewing.announcement_at.Key.{name as #announcement-at}
+use Rattle.views.proofs.viewing.announcement_at as top
+use Rattle.views.proofs.viewing.announcement_at.Statement as stated
+use Rattle.views.proofs.viewing.announcement_at.Code as code
+
+abbrev reader : P.Reader
+reader = pairs.reader S.the-type S′.the-laws tt announcementOf
+
+pub announcement-at-spec : {M : Type 1} → stated.statement M
+unfolding code.routine tablesOf
+announcement-at-spec 𝓤 H 𝓜 𝓖 𝓡 =
+    let W = givenOf 𝓤 H 𝓜 𝓖 in
+    let 𝓣 = tablesOf 𝓤 H 𝓜 (tables 𝓤 H 𝓜 𝓡 code.env) in
+    entered 𝓤 H (tripleOf 𝓤 H (𝓖 .A) top.signature (top.spec 𝓤 H (𝓖 .A) (𝓜 .mem) (𝓡 .run)))
+    (tables 𝓤 H 𝓜 𝓡 code.env .C) (tables 𝓤 H 𝓜 𝓡 code.env .Λ) #announcement-at code.function (code.unfolded 𝓤 H 𝓜 𝓡)
+    (P.meets reader 𝓤 H (𝓖 .A) W (𝓜 .mem) (𝓡 .run) code.function 𝓣
+    (pairs.walk S.the-type S′.the-laws tt announcementOf 𝓤 H (𝓖 .A) W (𝓜 .mem) (𝓡 .run) (𝓣 .C) (𝓣 .Λ) (fmOf 𝓤 H (W .laws) 𝓣)
+    (cited 𝓤 H (P.New reader 𝓤 H (𝓖 .A) (𝓜 .mem) (𝓡 .run)) 𝓜 𝓡 code.env #view new-def.routine code.calls-views·viewing·view (new-thm.met 𝓤 H 𝓜 𝓖 𝓡))
+    #announcement-in
+    (cited 𝓤 H (P.Next reader 𝓤 H (𝓖 .A) (𝓜 .mem) (𝓡 .run)) 𝓜 𝓡 code.env #announcement-in next-def.routine code.calls-views·viewing·announcement-in
+    (next-thm.met 𝓤 H 𝓜 𝓖 𝓡))))
