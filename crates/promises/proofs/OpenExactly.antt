@@ -3,7 +3,7 @@
 --   refused-exactly               so a number is given exactly when its row says
 use mathlib.Core.Path.{_≡_, refl, ap, ap₂, sym, _∙_}
 use mathlib.Core.List.{List}
-use Prim.Native.Nat.{ℕ, _+_, _-_, _*_, _<_}
+use Prim.Native.Nat.{ℕ, _+_, _-_, _*_, _<_, _≤_}
 use native.Mathlib.Omega.{arith}
 use native.Mathlib.Decide.{decLt}
 use lib.ListN.{length, take, drop, length-drop}
@@ -30,6 +30,7 @@ use Rattle.contents.specs.declared.Score.{Score}
 use Rattle.contents.specs.declared.Score.the-variants as score
 use Rattle.folio.specs.declared.Counts.{Counts}
 use Rattle.folio.specs.declared.Opened.the-variants as opening
+use Rattle.sections.specs.Bytes.{wordsOf}
 use Rattle.sections.proofs.LawsBytes.{length-words}
 use Rattle.sections.proofs.LawsSections.{Placed, trailer-in, sections-trailer, sections-symbols, sections-good}
 use Rattle.folio.proofs.LawsOpening.{stored-words, stored-starts, stored-score, stored-spans, stored-all, held-shapes, held-score, held-on, opened-refused, opened-at}
@@ -51,27 +52,21 @@ no-refusal {κ} : {C : Type κ} {c : Counts} {r : Reason} {p : ℕ} → opening.
 no-refusal e = let z : _≡_ {A = ℕ} 0 1 = cc in absurd (omega arith)
 
 module _ (file : List ℕ) (l : Lent) where
+  -- a section of k words, from byte a to byte b
+  section-ends : (a b k : ℕ) → b ≡ a + 2 * k → b ≤ length file → a + 2 * length (wordsOf (take (b - a) (drop a file))) ≡ b
+  section-ends a b k e h =
+      let size : b - a ≡ 2 * k = omega arith in
+      let long = length-take-le (b - a) (drop a file) (omega (arith, length-drop a file)) ∙ size in
+      omega (arith, length-words k (take (b - a) (drop a file)) long)
+
   -- the score's first byte, behind the shapes' words
   score-begins : (q : Places) → Placed file q → q .shapes + 2 * length (shapesAt file q) ≡ q .score
-  score-begins q d =
-      let k = d .all - d .nodes in
-      let a = d .first in
-      let b = d .second in
-      let long : length (take (q .score - q .shapes) (drop (q .shapes) file)) ≡ 2 * k =
-      length-take-le (q .score - q .shapes) (drop (q .shapes) file) (omega (arith, length-drop (q .shapes) file, d .size))
-      ∙ (let z : q .score - q .shapes ≡ 2 * k = omega (arith, d .words, d .score-words) in z) in
-      omega (arith, length-words k (take (q .score - q .shapes) (drop (q .shapes) file)) long, d .words, d .score-words)
+  score-begins q d = section-ends (q .shapes) (q .score) (d .all - d .nodes) (omega (arith, d .words, d .score-words, d .first, d .second))
+      (omega (arith, d .size, d .second))
 
   -- and the trailer's, behind the score's
   score-ends : (q : Places) → Placed file q → q .score + 2 * length (scoreAt file q) ≡ q .end
-  score-ends q d =
-      let k = d .nodes in
-      let a = d .first in
-      let b = d .second in
-      let long : length (take (q .end - q .score) (drop (q .score) file)) ≡ 2 * k =
-      length-take-le (q .end - q .score) (drop (q .score) file) (omega (arith, length-drop (q .score) file, d .size))
-      ∙ (let z : q .end - q .score ≡ 2 * k = omega (arith, d .words, d .score-words) in z) in
-      omega (arith, length-words k (take (q .end - q .score) (drop (q .score) file)) long, d .words, d .score-words)
+  score-ends q d = section-ends (q .score) (q .end) (d .nodes) (d .score-words) (omega (arith, d .size))
 
   -- ---- a refusal has its row
   module _ (small : Below 256 file) (r : Reason) (p : ℕ) (e : opened file l .answer ≡ opening.Refused r p) where
