@@ -61,9 +61,7 @@ add-total-3 c =
     omega (arith, s .states, s .starts, s .blocks)
 
 same-length : tie.Need-same-length
-same-length c =
-    let at-explore = c .before .before .before .before .before .before .explore in
-    at-explore .kept .1 .1 .1 .0
+same-length c = search needs
 
 returns : tie.Need-returns
 returns c =
@@ -75,9 +73,7 @@ returns c =
     made-long _ _ _ (entry .args .plan .now) (entry .args .scratch .now) e (at-explore .ensures .1) (inl (c .if1 .taken))
 
 same-length-2 : tie.Need-same-length-2
-same-length-2 c =
-    let at-explore = c .before .before .before .before .before .before .before .explore in
-    at-explore .kept .1 .1 .1 .0
+same-length-2 c = search needs
 
 returns-2 : tie.Need-returns-2
 returns-2 c =
@@ -99,7 +95,7 @@ write-plan-requires c κs =
     (c .before .before .before .if1 .left) (c .before .before .if2 .left)
 
 same-length-3 : tie.Need-same-length-3
-same-length-3 c = c .before .before .before .before .before .explore .kept .1 .1 .1 .0
+same-length-3 c = search needs
 
 returns-3 : tie.Need-returns-3
 returns-3 c =
@@ -109,12 +105,10 @@ returns-3 c =
     (entry .args .scratch .now) (at-explore .result) _ _ _ (c .before .reason .given .1) (at-explore .ensures .0) (at-explore .ensures .1)
 
 same-length-4 : tie.Need-same-length-4
-same-length-4 c = c .before .before .write-plan .kept .1 .1 .1 .1 .1 .1 .0
+same-length-4 c = search needs
 
 same-length-5 : tie.Need-same-length-5
-same-length-5 c =
-    let at-explore = c .before .before .before .before .before .before .before .before .before .before .before .before .explore in
-    at-explore .kept .1 .1 .1 .0
+same-length-5 c = search needs
 
 returns-4 : tie.Need-returns-4
 returns-4 c =
