@@ -1,20 +1,22 @@
 -- Inside: a step's parts, by index into the words.
 --   lookHead     the node that an item reads, and where its block begins
 --   leadsFine    each announcement is a shape's and leads to a mark, each successor is a state's and leads to a node
+--   Taking       what is known where room is asked for: an item waits in the words lent, and its block lies in the plan
 --   roomLeft     the log has room for one more, the waiting words for all items after the step
 --   sighted      what a step that is not refused 34 sees: the item's node, the node read, where the block begins
 --   headOf sightOf   answers of the code's parts
+use mathlib.Core.Path.{_≡_}
 use mathlib.Core.List.{List}
-use mathlib.Core.Bool.{Bool, _&&_}
+use mathlib.Core.Bool.{Bool, true, _&&_}
 use mathlib.Core.Option.{Option, none, some}
-use Prim.Native.Nat.{ℕ, _+_, _*_, _-_}
+use Prim.Native.Nat.{ℕ, _+_, _*_, _-_, _<_, _≤_}
 use lib.Dec.{ltb, leb}
 use lib.ListN.{length, getD, getElem?}
 use Rattle.kinds.specs.Lists.{bind, need, all}
 use Rattle.following.specs.Following.{target}
 use Rattle.queue.specs.Targets.{fine}
 use Rattle.readers.specs.PlanParts.{countsGood, labelWord}
-use Rattle.readers.specs.BlockWords.{middle, outsAt, nextsAt, blockStart}
+use Rattle.readers.specs.BlockWords.{middle, outsAt, nextsAt, blockFits, blockStart}
 use Rattle.walk.specs.declared.Head.{Head}
 use Rattle.walk.specs.declared.Head.the-variants as head
 use Rattle.walk.specs.declared.Record.{Record}
@@ -34,6 +36,12 @@ lookHead plan score spans it =
 unfoldable pub leadsFine : List ℕ → ℕ → List ℕ → ℕ → ℕ → ℕ → Bool
 leadsFine plan n spans from b marks = all (fine (getD plan 2 0) marks (target n spans from)) (outsAt plan b) && all
     (fine (getD plan 0 0) 65536 (target n spans from)) (nextsAt plan b)
+
+-- an item of the words lent is about to be taken, and its block lies in the plan
+pub record Taking (plan : List ℕ) (b items : ℕ) (r : Record) : Type 0 where
+  pub fits : blockFits plan b ≡ true
+  pub waits : 0 < r .waiting
+  pub lent : 2 * r .waiting ≤ items
 
 unfoldable pub roomLeft : List ℕ → ℕ → ℕ → ℕ → Record → Bool
 roomLeft plan b items log r = ltb (r .logged) log && leb (2 * (r .waiting - 1 + getD plan (middle plan b) 0)) items

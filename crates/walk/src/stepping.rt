@@ -1,12 +1,12 @@
 ghost use mathlib.Core.Path.{_≡_};
 ghost use mathlib.Core.Bool.{true};
 ghost use mathlib.Core.Option.{some};
-ghost use Prim.Native.Nat.{ℕ, _*_, _<_, _≤_};
+ghost use Prim.Native.Nat.{ℕ, _<_};
 ghost use lib.ListN.{length};
 ghost use Rattle.readers.specs.PlanParts.{countsGood};
 ghost use Rattle.walk.specs.Starting.{outcome, walkOf};
 ghost use Rattle.walk.specs.Stepping.{stepped};
-ghost use Rattle.walk.specs.ByIndex.{headOf, lookHead, leadsFine, roomLeft, sighted, sightOf};
+ghost use Rattle.walk.specs.ByIndex.{headOf, lookHead, leadsFine, Taking, roomLeft, sighted, sightOf};
 ghost use Rattle.readers.specs.BlockWords.{blockFits};
 use crate::Head;
 use crate::Record;
@@ -150,7 +150,7 @@ fn leads_fine(plan: &[u16], nodes: usize, spans: &[u16], from: Node, b: usize, m
 
 // The log has room for one more, the waiting words for all items after the step.
 fn room_left(plan: &[u16], b: usize, items: usize, log: usize, record: Record) -> bool
-    requires { ⌜ (blockFits (now plan) b ≡ true) × (0 < «record» .waiting) × (2 * «record» .waiting ≤ items) ⌝ }
+    requires { ⌜ Taking (now plan) b items «record» ⌝ }
     ensures { λ r. ⌜ r ≡ roomLeft (now (plan .entry)) b items log «record» ⌝ }
 {
     if log <= record.logged {

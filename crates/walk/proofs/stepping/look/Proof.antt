@@ -60,12 +60,12 @@ returns-2 c =
     (sym (c .before .leads-fine .ensures) ∙ not-true _ (c .if2 .taken)))
 
 room-left-requires : tie.Need-room-left-requires
-room-left-requires c κs = (
-  law.head-fits _ _ _ _ _ _
-      (sym (c .before .before .before .before .before .find-head .ensures) ∙ ap headOf (c .before .before .before .node .given .1)),
-  omega arith,
-  omega arith,
-)
+room-left-requires c κs = record {
+  fits = law.head-fits _ _ _ _ _ _
+      (sym (c .before .before .before .before .before .find-head .ensures) ∙ ap headOf (c .before .before .before .node .given .1));
+  waits = omega arith;
+  lent = omega arith;
+}
 
 returns-3 : tie.Need-returns-3
 returns-3 c =

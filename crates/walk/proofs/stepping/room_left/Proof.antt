@@ -13,17 +13,17 @@ returns c = sym (law.room-log _ _ _ _ _ (c .if1 .taken))
 add-mid : tie.Need-add-mid
 add-mid c =
     let entry = c .before .before in
-    omega (arith, fits-in (entry .args .plan .now) (entry .args .b) (entry .pre .0))
+    omega (arith, fits-in (entry .args .plan .now) (entry .args .b) (entry .pre .fits))
 
 mul-mid : tie.Need-mul-mid
 mul-mid c =
     let entry = c .before .before in
-    omega (arith, fits-in (entry .args .plan .now) (entry .args .b) (entry .pre .0))
+    omega (arith, fits-in (entry .args .plan .now) (entry .args .b) (entry .pre .fits))
 
 shared-slice-read-mid : tie.Need-shared-slice-read-mid
 shared-slice-read-mid c =
     let entry = c .before .before .before in
-    omega (arith, fits-in (entry .args .plan .now) (entry .args .b) (entry .pre .0))
+    omega (arith, fits-in (entry .args .plan .now) (entry .args .b) (entry .pre .fits))
 
 cast-mid : tie.Need-cast-mid
 cast-mid c = omega (arith, c .shared-slice-known .given (c .before .before .before .args .b))
@@ -31,12 +31,12 @@ cast-mid c = omega (arith, c .shared-slice-known .given (c .before .before .befo
 mul-mid-2 : tie.Need-mul-mid-2
 mul-mid-2 c =
     let entry = c .before .before .before in
-    omega (arith, fits-in (entry .args .plan .now) (entry .args .b) (entry .pre .0))
+    omega (arith, fits-in (entry .args .plan .now) (entry .args .b) (entry .pre .fits))
 
 add-mid-2 : tie.Need-add-mid-2
 add-mid-2 c =
     let entry = c .before .before .before in
-    omega (arith, fits-in (entry .args .plan .now) (entry .args .b) (entry .pre .0))
+    omega (arith, fits-in (entry .args .plan .now) (entry .args .b) (entry .pre .fits))
 
 sub-result : tie.Need-sub-result
 sub-result c = search needs
@@ -44,12 +44,12 @@ sub-result c = search needs
 mul-result : tie.Need-mul-result
 mul-result c =
     let entry = c .before .before .before .before in
-    omega (arith, fits-in (entry .args .plan .now) (entry .args .b) (entry .pre .0))
+    omega (arith, fits-in (entry .args .plan .now) (entry .args .b) (entry .pre .fits))
 
 shared-slice-read-result : tie.Need-shared-slice-read-result
 shared-slice-read-result c =
     let entry = c .before .before .before .before .before in
-    omega (arith, fits-in (entry .args .plan .now) (entry .args .b) (entry .pre .0))
+    omega (arith, fits-in (entry .args .plan .now) (entry .args .b) (entry .pre .fits))
 
 cast-result : tie.Need-cast-result
 cast-result c =
