@@ -11,6 +11,7 @@ use native.Mathlib.Nat.{sub-zero}
 use borrow.Author.Tests.{le-leb, lt-leb}
 use lib.ListN.{length, take, drop, length-drop}
 use lib.Seq.{sets, length-take-le, take-all, take-take, drop-drop}
+use Rattle.folio.specs.Holding.{sectionWords}
 use Rattle.kinds.proofs.ListLaws.{run-whole, drop-take}
 use Rattle.kinds.specs.declared.Reason.{Reason}
 use Rattle.kinds.specs.declared.Reason.the-variants as reason
@@ -134,7 +135,7 @@ pub bytes-length : (file : List ℕ) (p : Places) → Placed file p → length (
 bytes-length file p d = length-take-le (p .end - p .shapes) (drop (p .shapes) file)
     (omega (arith, length-drop (p .shapes) file, d .first, d .second, d .size))
 
-module _ (file : List ℕ) (p : Places) (d : Placed file p) (z a : List ℕ) (lz : length z ≡ 4368)
+module _ (file : List ℕ) (p : Places) (d : Placed file p) (z a : List ℕ) (lz : length z ≡ sectionWords)
     (ea : a ≡ sets z 0 (wordsOf (take (p .end - p .shapes) (drop (p .shapes) file)))) where
   abbrev pub bytes : List ℕ
   bytes = take (p .end - p .shapes) (drop (p .shapes) file)

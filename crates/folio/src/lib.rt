@@ -3,6 +3,9 @@ use kinds::Reason;
 pub mod opening; // the call that opens a folio
 mod storing; // what opening writes
 
+// As many words as shapes and score have in the longest file.
+const SECTION_WORDS: usize = 4368;
+
 // How many symbols, shapes, shape words and nodes a folio has.
 pub struct Counts {
     pub symbols: usize,

@@ -1,9 +1,11 @@
 ghost use mathlib.Core.Path.{_≡_};
 ghost use Prim.Native.Nat.{ℕ, _≤_};
 ghost use lib.ListN.{length, take, drop};
+ghost use Rattle.folio.specs.Holding.{Sectioned};
 ghost use Rattle.folio.specs.Opening.{lent, out, stored, held, opened};
 use crate::Counts;
 use crate::Opened;
+use crate::SECTION_WORDS;
 use crate::storing::put;
 use crate::storing::put_spans;
 use contents::Score;
@@ -35,7 +37,7 @@ pub fn open(
     let s = p.shapes;
     let t = p.score;
     let e = p.end;
-    let mut all = [0u16; 4368];
+    let mut all = [0u16; SECTION_WORDS];
     fill(&file[s..e], &mut all);
     let m = (t - s) / 2;
     let k = (e - s) / 2;
@@ -53,7 +55,7 @@ fn hold(
     score: &mut [u16],
     spans: &mut [u16],
 ) -> Opened
-    requires { ⌜ (at ≤ 65535) × (m ≤ length (now both)) × (length (now both) ≤ 4368) ⌝ }
+    requires { ⌜ Sectioned (now both) m at ⌝ }
     ensures { λ r. ⌜ out r (lent (now (words .exit)) (now (starts .exit)) (now (score .exit)) (now (spans .exit))) ≡ held (now (symbols .entry)) (take m (now (both .entry))) (drop m (now (both .entry))) at (lent (now (words .entry)) (now (starts .entry)) (now (score .entry)) (now (spans .entry))) ⌝ }
 {
     let k = both.len();

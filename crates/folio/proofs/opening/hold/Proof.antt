@@ -49,7 +49,7 @@ mul-t29 c =
       shapes-refused-in (a .symbols .now) blankWord (take (a .m - 0) (a .both .now)) _ _
           (sym (c .before .before .before .before .read-shapes .ensures .0) ∙ c .before .reason .given .1),
       ws-length (a .symbols .now) (a .both .now)
-          (a .m) (entry .pre .1),
+          (a .m) (entry .pre .parted),
     )
 
 add-t30 : tie.Need-add-t30
@@ -61,14 +61,14 @@ add-t30 c =
       shapes-refused-in (a .symbols .now) blankWord (take (a .m - 0) (a .both .now)) _ _
           (sym (c .before .before .before .before .read-shapes .ensures .0) ∙ c .before .reason .given .1),
       ws-length (a .symbols .now) (a .both .now)
-          (a .m) (entry .pre .1),
+          (a .m) (entry .pre .parted),
     )
 
 returns : tie.Need-returns
 returns c =
     let entry = c .before .before .before .before .before .before .before .before .before .before .before .before .before .before in
     let a = entry .args in
-    sym (parts-shapes (a .symbols .now) (a .both .now) (a .m) (entry .pre .1) (a .at)
+    sym (parts-shapes (a .symbols .now) (a .both .now) (a .m) (entry .pre .parted) (a .at)
     (lent (a .words .now) (a .starts .now) (a .score .now) (a .spans .now))
     (sym (c .before .before .before .before .read-shapes .ensures .0) ∙ c .before .reason .given .1))
 
@@ -97,7 +97,7 @@ mul-t34 c =
       score-refused-in (a .symbols .now) (take (length (a .both .now) - a .m) (drop (a .m) (a .both .now))) _ _
           (sym (c .before .before .before .read-score .ensures) ∙ c .before .reason2 .given .1),
       sc-length (a .symbols .now) (a .both .now) (a .m)
-          (entry .pre .1),
+          (entry .pre .parted),
     )
 
 add-t35 : tie.Need-add-t35
@@ -110,7 +110,7 @@ add-t35 c =
       score-refused-in (a .symbols .now) (take (length (a .both .now) - a .m) (drop (a .m) (a .both .now))) _ _
           (sym (c .before .before .before .read-score .ensures) ∙ c .before .reason2 .given .1),
       sc-length (a .symbols .now) (a .both .now) (a .m)
-          (entry .pre .1),
+          (entry .pre .parted),
     )
 
 returns-2 : tie.Need-returns-2
@@ -119,7 +119,7 @@ returns-2 c =
     c .before .before .before .before .before .before .before .before .before .before .before .before .before .before .before .before .before .before in
     let at-read-shapes = c .before .before .before .before .before .before .before .before .read-shapes in
     let a = entry .args in
-    sym (parts-score (a .symbols .now) (a .both .now) (a .m) (entry .pre .1) (a .at)
+    sym (parts-score (a .symbols .now) (a .both .now) (a .m) (entry .pre .parted) (a .at)
     (lent (a .words .now) (a .starts .now) (a .score .now) (a .spans .now))
     (sym (at-read-shapes .ensures .0) ∙ c .before .before .before .before .before .n .given .1)
     (sym (c .before .before .before .read-score .ensures) ∙ c .before .reason2 .given .1))
@@ -175,7 +175,7 @@ returns-3 c =
     let at-store = c .before .before .before .before .before .before .before .before .store in
     let a = entry .args in
     let l = lent (a .words .now) (a .starts .now) (a .score .now) (a .spans .now) in
-    let h = parts-on (a .symbols .now) (a .both .now) (a .m) (entry .pre .1) (a .at) l _ (replicate {A = ℕ} 16 0) _
+    let h = parts-on (a .symbols .now) (a .both .now) (a .m) (entry .pre .parted) (a .at) l _ (replicate {A = ℕ} 16 0) _
     (sym (at-read-shapes .ensures .0) ∙ at-n .given .1) (sym (at-read-score .ensures) ∙ at-enum-told .given .1) (length-replicate {A = ℕ} 16 0)
     (at-read-shapes .ensures .1) in
     at-store .ensures ∙ sym h

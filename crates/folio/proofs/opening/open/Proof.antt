@@ -2,6 +2,7 @@ use Prim.Native.Nat.{ℕ}
 use mathlib.Core.Path.{sym, _∙_}
 use native.Mathlib.Omega.{arith}
 use lib.ListN.{replicate, length-replicate}
+use Rattle.folio.specs.Holding.{sectionWords}
 use Rattle.folio.specs.Opening.{lent}
 use Rattle.sections.proofs.LawsSections.{sections-placed}
 use Rattle.folio.proofs.LawsOpening.{opened-refused, opened-held, both-length, bytes-length}
@@ -103,13 +104,12 @@ hold-requires c κs =
     let at-p = c .before .before .before .before .before .before .before .before .before .before .before .before .p in
     let at-fill = c .before .before .before .before .before .before .before .before .fill in
     let d = sections-placed (entry .args .file .now) _ (sym (at-find-sections .ensures) ∙ at-p .given .1) in
-    let b = both-length (entry .args .file .now) (at-p .given .0 .0) d (replicate {A = ℕ} 4368 0) _ (length-replicate {A = ℕ} 4368 0)
-    (at-fill .ensures) in (
-      omega (arith, d .first, d .second, d .size, d .short),
-      omega (arith, b, d .words, d .score-words, d .first, d .second),
-      omega
-          (arith, b, d .words, d .size, d .short),
-    )
+    let b = both-length (entry .args .file .now) (at-p .given .0 .0) d (replicate {A = ℕ} sectionWords 0) _ (length-replicate {A = ℕ} sectionWords 0)
+    (at-fill .ensures) in record {
+      begins = omega (arith, d .first, d .second, d .size, d .short);
+      parted = omega (arith, b, d .words, d .score-words, d .first, d .second);
+      short = omega (arith, b, d .words, d .size, d .short);
+    }
 
 same-length : tie.Need-same-length
 same-length c = search needs
@@ -138,7 +138,7 @@ returns-2 c =
     let e = sym (at-find-sections .ensures) ∙ at-p .given .1 in
     let d = sections-placed (a .file .now) _ e in
     let l = lent (a .words .now) (a .starts .now) (a .score .now) (a .spans .now) in
-    let h = opened-held (a .file .now) (at-p .given .0 .0) d (replicate {A = ℕ} 4368 0) _ (length-replicate {A = ℕ} 4368 0) (at-fill .ensures) l e in
+    let h = opened-held (a .file .now) (at-p .given .0 .0) d (replicate {A = ℕ} sectionWords 0) _ (length-replicate {A = ℕ} sectionWords 0) (at-fill .ensures) l e in
     at-hold .ensures ∙ sym h
 
 pub open-spec : {M : Type 1} → statement M
