@@ -121,7 +121,7 @@ module _ {ar tab : List ℕ} {n : ℕ} {sc : List ℕ} {i c f : ℕ} (o : OnSymb
       let label = good-label (o .good) in
       let few = o .good .ready .children f k children in
       let words = flat-length D in
-      (o .good .ready .few-shapes, omega (arith, o .label), omega (arith, few-derived))
+      record { shapes = o .good .ready .few-shapes; codes = omega (arith, o .label); room = omega (arith, few-derived) }
 
   pub derived : (old goals : List ℕ) (r : ℕ) → PutsFirst (flat D) r old goals → derivedWords ≤ length old → Derived tab goals (r / 3) D
   derived old goals r puts room =
