@@ -124,17 +124,10 @@ fn explore_symbol(
         &mut dep,
         &mut order,
     );
+    let n = parts.goals;
     let classes = parts.classes;
     let base = 2 + 2 * parts.announced;
-    meet_all(
-        scratch,
-        m,
-        &goals,
-        parts.goals,
-        &dep,
-        &order[0..classes],
-        base,
-    )
+    meet_all(scratch, m, &goals, n, &dep, &order[0..classes], base)
 }
 
 // Each class in turn; two words more than `base` for each.

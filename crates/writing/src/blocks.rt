@@ -129,19 +129,11 @@ fn write_block(
         &mut order,
     );
     let announced = parts.announced;
+    let n = parts.goals;
     let classes = parts.classes;
     let from = STATES + STATE_WORDS * state.0 as usize;
     let next = write_outputs(scratch, from, &out[0..announced], at, plan);
-    write_successors(
-        scratch,
-        m,
-        &goals,
-        parts.goals,
-        &dep,
-        &order[0..classes],
-        next,
-        plan,
-    )
+    write_successors(scratch, m, &goals, n, &dep, &order[0..classes], next, plan)
 }
 
 // A count and the announcements of the goals of the state at `from` that `out` names; answers the place after them.
