@@ -1,9 +1,9 @@
-ghost use Prim.Native.Nat.{ℕ, _+_, _<_, _≤_};
-ghost use Rattle.classes.specs.Squares.{IsSquare, RowJoined, RowsJoined, ClosedUpTo};
+ghost use Prim.Native.Nat.{ℕ, _+_, _≤_};
+ghost use Rattle.classes.specs.Squares.{IsSquare, RowJoinable, RowsJoinable, RowJoined, RowsJoined, ClosedUpTo};
 
 // Row i with row k's dependencies added where i depends on k.
 fn join_row(dep: &mut [[bool; 96]; 96], n: usize, k: usize, i: usize)
-    requires { ⌜ (n ≤ 96) × (k < n) × (i < n) × IsSquare 96 (now dep) ⌝ }
+    requires { ⌜ RowJoinable n k i (now dep) ⌝ }
     ensures { λ r. ⌜ RowJoined n k i (now (dep .entry)) (now (dep .exit)) ⌝ }
 {
     if dep[i][k] {
@@ -18,7 +18,7 @@ fn join_row(dep: &mut [[bool; 96]; 96], n: usize, k: usize, i: usize)
 }
 
 fn round(dep: &mut [[bool; 96]; 96], n: usize, k: usize)
-    requires { ⌜ (n ≤ 96) × (k < n) × IsSquare 96 (now dep) ⌝ }
+    requires { ⌜ RowsJoinable n k (now dep) ⌝ }
     ensures { λ r. ⌜ RowsJoined n k (now (dep .entry)) (now (dep .exit)) n ⌝ }
 {
     let mut i = 0;

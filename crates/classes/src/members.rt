@@ -3,11 +3,11 @@ use goals::words::put_goal;
 ghost use mathlib.Core.Path.{_≡_};
 ghost use mathlib.Core.Bool.{false};
 ghost use mathlib.Core.List.{[]};
-ghost use Prim.Native.Nat.{ℕ, _+_, _*_, _<_, _≤_};
-ghost use lib.ListN.{length, getD};
+ghost use Prim.Native.Nat.{ℕ, _+_, _*_, _<_};
+ghost use lib.ListN.{getD};
 ghost use Rattle.automaton.specs.Classes.{leads};
 ghost use Rattle.goals.specs.GoalWords.{flat};
-ghost use Rattle.classes.specs.Squares.{IsSquare, Squared};
+ghost use Rattle.classes.specs.Squares.{IsSquare, ClassRoom};
 ghost use Rattle.deriving.specs.Orders.{classAt};
 ghost use Rattle.deriving.specs.Passes.{PutsFirst};
 
@@ -28,7 +28,7 @@ pub fn leader(dep: &[[bool; 96]; 96], i: usize) -> bool
 
 // The goals of row i, of n goals, into `out`; answers the words written.
 pub fn put_class(dep: &[[bool; 96]; 96], i: usize, ws: &[u16], n: usize, out: &mut [u16]) -> usize
-    requires { ⌜ Squared (now ws) n (now dep) × (i < 96) × (length (flat (classAt (now dep) (now ws) n i)) ≤ length (now out)) ⌝ }
+    requires { ⌜ ClassRoom (now ws) n (now dep) i (now out) ⌝ }
     ensures { λ r. ⌜ PutsFirst (flat (classAt (now (dep .entry)) (now (ws .entry)) n i)) r (now (out .entry)) (now (out .exit)) ⌝ }
 {
     let mut next = 0;

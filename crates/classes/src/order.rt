@@ -5,11 +5,10 @@ use goals::obligations::first_owed;
 use goals::obligations::padded;
 use goals::words::goal_at;
 ghost use mathlib.Core.Path.{_≡_};
-ghost use Prim.Native.Nat.{ℕ, _<_, _≤_};
-ghost use lib.ListN.{length};
+ghost use Prim.Native.Nat.{ℕ};
 ghost use Rattle.kinds.specs.Lists.{gather};
-ghost use Rattle.goals.specs.GoalWords.{owedBy, noCode, firstCode, Stored};
-ghost use Rattle.classes.specs.Squares.{IsSquare};
+ghost use Rattle.goals.specs.GoalWords.{owedBy, noCode, firstCode};
+ghost use Rattle.classes.specs.Squares.{RowOf, Orderable};
 ghost use Rattle.deriving.specs.Orders.{classAt, leadItems};
 ghost use Rattle.deriving.specs.Passes.{Arranged};
 
@@ -22,7 +21,7 @@ pub fn class_order(
     dep: &[[bool; 96]; 96],
     items: &mut [u32],
 ) -> usize
-    requires { ⌜ Stored (now tab) (now ws) 0 n × IsSquare 96 (now dep) × (n ≤ length (now items)) ⌝ }
+    requires { ⌜ Orderable (now tab) (now ws) n (now dep) (now items) ⌝ }
     ensures { λ k. ⌜ Arranged (leadItems (now (tab .entry)) (now (dep .entry)) (now (ws .entry)) n) k (now (items .entry)) (now (items .exit)) ⌝ }
 {
     let mut k = 0;
@@ -40,7 +39,7 @@ pub fn class_order(
 
 // The first obligation position of the goals that row i says yes to, as a code; NO_CODE where they have none.
 fn first_in_row(tab: &[u16], ws: &[u16], n: usize, dep: &[[bool; 96]; 96], i: usize) -> u32
-    requires { ⌜ Stored (now tab) (now ws) 0 n × IsSquare 96 (now dep) × (i < 96) ⌝ }
+    requires { ⌜ RowOf 96 (now tab) (now ws) n (now dep) i ⌝ }
     ensures { λ r. ⌜ r ≡ firstCode noCode (gather (owedBy (now (tab .entry))) (classAt (now (dep .entry)) (now (ws .entry)) n i)) ⌝ }
 {
     let mut best: u32 = NO_CODE;

@@ -2,10 +2,10 @@ use goals::Goal;
 use goals::words::goal_at;
 ghost use mathlib.Core.Path.{_≡_};
 ghost use mathlib.Core.Bool.{true, false};
-ghost use Prim.Native.Nat.{ℕ, _+_, _*_, _<_, _≤_};
+ghost use Prim.Native.Nat.{ℕ, _+_, _<_, _≤_};
 ghost use lib.ListN.{length, take, drop};
 ghost use lib.Seq.{sets};
-ghost use Rattle.goals.specs.GoalWords.{goalsFrom};
+ghost use Rattle.goals.specs.GoalWords.{goalsFrom, GoalsIn};
 ghost use Rattle.goals.specs.GoalKinds.{asWords};
 ghost use Rattle.goals.specs.WordStages.{sameW, amongW, withinW, sameStateW};
 
@@ -23,7 +23,7 @@ fn same_goal(g: Goal, h: Goal) -> bool
 
 // Does a goal stand among the k goals from `at` on?
 fn among(g: Goal, vs: &[u16], at: usize, k: usize) -> bool
-    requires { ⌜ (k ≤ 96) × (at + 3 * k ≤ length (now vs)) ⌝ }
+    requires { ⌜ GoalsIn 96 (now vs) at k ⌝ }
     ensures { λ r. ⌜ r ≡ amongW (asWords g) (goalsFrom (now (vs .entry)) at k) ⌝ }
 {
     let mut here = at;
@@ -40,7 +40,7 @@ fn among(g: Goal, vs: &[u16], at: usize, k: usize) -> bool
 
 // Is each of the n goals from `from` on among the k goals from `at` on?
 fn within(ws: &[u16], from: usize, n: usize, vs: &[u16], at: usize, k: usize) -> bool
-    requires { ⌜ (n ≤ 96) × (from + 3 * n ≤ length (now ws)) × (k ≤ 96) × (at + 3 * k ≤ length (now vs)) ⌝ }
+    requires { ⌜ GoalsIn 96 (now ws) from n × GoalsIn 96 (now vs) at k ⌝ }
     ensures { λ r. ⌜ r ≡ withinW (goalsFrom (now (ws .entry)) from n) (goalsFrom (now (vs .entry)) at k) ⌝ }
 {
     let mut here = from;
@@ -70,7 +70,7 @@ fn copy_words(ws: &[u16], at: usize, n: usize, out: &mut [u16])
 
 // Are two states of at most 32 goals the same set of goals?
 pub fn same_state(ws: &[u16], from: usize, n: usize, vs: &[u16], at: usize, k: usize) -> bool
-    requires { ⌜ (n ≤ 32) × (from + 3 * n ≤ length (now ws)) × (k ≤ 32) × (at + 3 * k ≤ length (now vs)) ⌝ }
+    requires { ⌜ GoalsIn 32 (now ws) from n × GoalsIn 32 (now vs) at k ⌝ }
     ensures { λ r. ⌜ r ≡ sameStateW (goalsFrom (now (ws .entry)) from n) (goalsFrom (now (vs .entry)) at k) ⌝ }
 {
     let mut xs = [0u16; 96];

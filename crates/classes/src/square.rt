@@ -5,16 +5,16 @@ use goals::obligations::share;
 use goals::words::goal_at;
 ghost use mathlib.Core.Path.{_≡_};
 ghost use mathlib.Core.Bool.{true, false};
-ghost use Prim.Native.Nat.{ℕ, _<_};
+ghost use Prim.Native.Nat.{ℕ};
 ghost use Rattle.kinds.specs.Chains.{Yes};
-ghost use Rattle.goals.specs.GoalWords.{Tabled, Stored};
+ghost use Rattle.goals.specs.GoalWords.{BothIn, Stored};
 ghost use Rattle.goals.specs.GoalKinds.{asWords};
 ghost use Rattle.goals.specs.WordStages.{depW};
-ghost use Rattle.classes.specs.Squares.{IsSquare, shares, RowFilled, RowsFilled, Closes};
+ghost use Rattle.classes.specs.Squares.{IsSquare, RowOf, shares, RowFilled, RowsFilled, Closes};
 
 // Do two goals share an obligation position?
 fn depends(tab: &[u16], g: Goal, h: Goal) -> bool
-    requires { ⌜ Tabled (now tab) × (g .shape .0 < 16) × (h .shape .0 < 16) ⌝ }
+    requires { ⌜ BothIn (now tab) (g .shape .0) (h .shape .0) ⌝ }
     ensures { λ r. ⌜ r ≡ depW (now (tab .entry)) (asWords g) (asWords h) ⌝ }
 {
     match share(tab, g, h) {
@@ -25,7 +25,7 @@ fn depends(tab: &[u16], g: Goal, h: Goal) -> bool
 
 // Row i of the square: on which of the n goals goal i depends directly.
 fn fill_row(tab: &[u16], ws: &[u16], n: usize, i: usize, dep: &mut [[bool; 96]; 96])
-    requires { ⌜ Stored (now tab) (now ws) 0 n × (i < n) × IsSquare 96 (now dep) ⌝ }
+    requires { ⌜ RowOf n (now tab) (now ws) n (now dep) i ⌝ }
     ensures { λ r. ⌜ RowFilled i (shares (now (tab .entry)) (now (ws .entry)) i) (now (dep .entry)) (now (dep .exit)) n ⌝ }
 {
     let g = goal_at(ws, 3 * i);

@@ -1,4 +1,6 @@
+use goals::CHILDREN_AT;
 use goals::Goal;
+use goals::SYMBOLS_AT;
 use goals::UNEXPECTED;
 use goals::obligations::mask_after;
 use goals::obligations::node_at;
@@ -8,12 +10,12 @@ use kinds::Position;
 use kinds::Shape;
 use kinds::Symbol;
 ghost use mathlib.Core.Path.{_≡_};
-ghost use Prim.Native.Nat.{ℕ, _+_, _*_, _<_, _≤_};
+ghost use Prim.Native.Nat.{ℕ, _+_, _<_, _≤_};
 ghost use lib.ListN.{length};
 ghost use Rattle.goals.specs.GoalWords.{Tabled, goalsFrom, flat, Stored};
 ghost use Rattle.goals.specs.GoalKinds.{asWords};
 ghost use Rattle.goals.specs.WordStages.{stays, moves, reduct, goesOn, freshesW, bornW, derivW};
-ghost use Rattle.deriving.specs.Passes.{passed, Puts, PutsFirst, Derivable};
+ghost use Rattle.deriving.specs.Passes.{passed, Puts, PutsFirst, Bearable, Derivable};
 
 // A goal's mask after reducing at a position by a symbol; UNEXPECTED where the symbol is not expected there.
 pub fn reduce(tab: &[u16], g: Goal, root: Position, symbol: Symbol) -> u32
@@ -25,10 +27,10 @@ pub fn reduce(tab: &[u16], g: Goal, root: Position, symbol: Symbol) -> u32
     if r == 16 {
         return UNEXPECTED;
     }
-    if tab[768 + (16 * s + r)] != symbol.0 {
+    if tab[SYMBOLS_AT + (16 * s + r)] != symbol.0 {
         return UNEXPECTED;
     }
-    mask_after(g.mask, r, tab[1024 + (16 * s + r)]) as u32
+    mask_after(g.mask, r, tab[CHILDREN_AT + (16 * s + r)]) as u32
 }
 
 // The goals that have no open node at a position, from `to` on; answers the place after them.
@@ -134,7 +136,7 @@ pub fn put_fresh(out: &mut [u16], to: usize, n: usize, at: Position) -> usize
 
 // The fresh goals of n shapes at each of the k children of a position, from `to` on; answers the place after them.
 fn put_born(out: &mut [u16], to: usize, n: usize, root: Position, k: u16) -> usize
-    requires { ⌜ (n ≤ 16) × (5 * root .0 + k ≤ 65535) × (to + length (flat (bornW n (root .0) k)) ≤ length (now out)) ⌝ }
+    requires { ⌜ Bearable n (root .0) k to (now out) ⌝ }
     ensures { λ r. ⌜ Puts (flat (bornW n (root .0) k)) to r (now (out .entry)) (now (out .exit)) ⌝ }
 {
     let mut next = to;

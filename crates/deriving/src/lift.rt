@@ -5,16 +5,16 @@ use goals::words::put_goal;
 use kinds::Position;
 ghost use mathlib.Core.Path.{_≡_};
 ghost use mathlib.Core.List.{map};
-ghost use Prim.Native.Nat.{ℕ, _+_, _*_, _<_, _≤_};
+ghost use Prim.Native.Nat.{ℕ, _*_, _<_, _≤_};
 ghost use lib.ListN.{length};
 ghost use lib.Seq.{sets};
-ghost use Rattle.goals.specs.GoalWords.{goalsFrom, flat};
+ghost use Rattle.goals.specs.GoalWords.{goalsFrom, flat, GoalsIn};
 ghost use Rattle.goals.specs.WordStages.{leastCode, underCode, liftW};
 ghost use Rattle.deriving.specs.Passes.{Lifts};
 
 // A class of k goals, lifted by its displacement, into `lifted`; answers the displacement.
 pub fn lift_class(class: &[u16], k: usize, lifted: &mut [u16]) -> Position
-    requires { ⌜ (k ≤ 96) × (3 * k ≤ length (now class)) × (3 * k ≤ length (now lifted)) ⌝ }
+    requires { ⌜ GoalsIn 96 (now class) 0 k × (3 * k ≤ length (now lifted)) ⌝ }
     ensures { λ r. ⌜ Lifts (goalsFrom (now (class .entry)) 0 k) (r .0) (now (lifted .entry)) (now (lifted .exit)) ⌝ }
 {
     let top = least(class, 0, k, NOWHERE);
@@ -24,7 +24,7 @@ pub fn lift_class(class: &[u16], k: usize, lifted: &mut [u16]) -> Position
 
 // The position of the least code among `best` and those that n goals from `at` on announce.
 fn least(ws: &[u16], at: usize, n: usize, best: Position) -> Position
-    requires { ⌜ (n ≤ 96) × (at + 3 * n ≤ length (now ws)) ⌝ }
+    requires { ⌜ GoalsIn 96 (now ws) at n ⌝ }
     ensures { λ r. ⌜ r .0 ≡ leastCode (best .0) (goalsFrom (now (ws .entry)) at n) ⌝ }
 {
     let mut found = best.0;
@@ -60,7 +60,7 @@ fn under(top: Position, place: Position) -> Position
 
 // A class of n goals from `at` on, lifted by a position, into `out`.
 fn put_lifted(ws: &[u16], at: usize, n: usize, top: Position, out: &mut [u16])
-    requires { ⌜ (n ≤ 96) × (at + 3 * n ≤ length (now ws)) × (3 * n ≤ length (now out)) ⌝ }
+    requires { ⌜ GoalsIn 96 (now ws) at n × (3 * n ≤ length (now out)) ⌝ }
     ensures { λ r. ⌜ now (out .exit) ≡ sets (now (out .entry)) 0 (flat (map (liftW (top .0)) (goalsFrom (now (ws .entry)) at n))) ⌝ }
 {
     let mut next = 0;

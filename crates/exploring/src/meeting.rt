@@ -21,9 +21,8 @@ ghost use Rattle.automaton.specs.Exploring.{Block, meet as meets-one, meets, ro
 ghost use Rattle.decoding.specs.WordMachine.{words as machine, stateIn, statesIn, statesWords, Kept};
 ghost use Rattle.decoding.specs.GoodStates.{Ready};
 ghost use Rattle.deriving.specs.Orders.{classAt};
-ghost use Rattle.states.specs.Meeting.{Held, Behind, MetIs, SymbolIs, RowIs, ExploredIs};
-ghost use Rattle.states.specs.Parting.{OnSymbol, Named, classesBy};
-ghost use Rattle.classes.specs.Squares.{Squared};
+ghost use Rattle.states.specs.Meeting.{Held, Behind, ClassMeetable, ClassesMeetable, MetIs, SymbolIs, RowIs, ExploredIs};
+ghost use Rattle.states.specs.Parting.{OnSymbol, classesBy};
 
 // Meets the states in the order of their numbers; scratch then holds them. Answers how many there are and how many words their blocks take.
 pub fn explore(tab: &[u16], symbols: &[u8], shapes: usize, scratch: &mut [u16]) -> Explored
@@ -125,17 +124,10 @@ fn explore_symbol(
         &mut dep,
         &mut order,
     );
+    let n = parts.goals;
     let classes = parts.classes;
     let base = 2 + 2 * parts.announced;
-    meet_all(
-        scratch,
-        m,
-        &goals,
-        parts.goals,
-        &dep,
-        &order[0..classes],
-        base,
-    )
+    meet_all(scratch, m, &goals, n, &dep, &order[0..classes], base)
 }
 
 // Each class in turn; two words more than `base` for each.
@@ -148,7 +140,7 @@ fn meet_all(
     order: &[u32],
     base: usize,
 ) -> Going
-    requires { ⌜ Kept (now scratch) m × Squared (now goals) n (now dep) × Named 96 (now order) × (base ≤ 1000) ⌝ }
+    requires { ⌜ ClassesMeetable (now scratch) m (now goals) n (now dep) (now order) base ⌝ }
     ensures is { λ r. ⌜ MetIs r (now (scratch .exit)) base (meets (machine [] 0) (statesIn (now (scratch .entry)) m) (classesBy (now (dep .entry)) (now (goals .entry)) n (now (order .entry)))) ⌝ }
     ensures behind { λ r. ⌜ Behind (now (scratch .entry)) (now (scratch .exit)) ⌝ }
 {
@@ -177,7 +169,7 @@ fn meet(
     dep: &[[bool; 96]; 96],
     r: usize,
 ) -> Going
-    requires { ⌜ Kept (now scratch) m × Squared (now goals) n (now dep) × (r < 96) ⌝ }
+    requires { ⌜ ClassMeetable (now scratch) m (now goals) n (now dep) r ⌝ }
     ensures is { λ a. ⌜ MetIs a (now (scratch .exit)) 0 (meets-one (machine [] 0) (statesIn (now (scratch .entry)) m) (classAt (now (dep .entry)) (now (goals .entry)) n r)) ⌝ }
     ensures behind { λ a. ⌜ Behind (now (scratch .entry)) (now (scratch .exit)) ⌝ }
 {

@@ -1,7 +1,9 @@
 -- Inside: goals as three words, and the tables of the shapes that they lean on.
 --   GoalWords     shape number, code of the announcement position, mask of the open nodes of the shape
 --   codeOf …      the five tables, 16 shapes by 16 nodes each: code of a node's position, five to the power of its depth, span, word, mask of the children that are no blanks
+--   powersAt …    where each of the five begins after the codes, which stand first; tablesEnd: where the last ends
 --   Tabled        what code asks of the tables
+--   NodeIn        what it asks of a node of a shape; Owable: where it lists obligations; BothIn: of two shapes
 --   codeAt        the code of a node of a shape announced at a code: a · 5^depth + code
 --   owedBy        the codes of a goal's obligations, in document order
 --   nodeAt        the open node that stands at a code, 16 where none does
@@ -10,7 +12,7 @@
 --   goalsFrom     the goals that words hold; flat: the words of goals
 --   noCode        65,535: past every code, for none
 --   labelCode     the label's code, noCode where no goal announces at the root
---   Stored        what code asks of n goals in words
+--   GoalsIn       n goals lie in words, at most so many; Stored: and their shapes in the tables
 use mathlib.Core.List.{List, [], _∷_, _++_}
 use mathlib.Core.Bool.{Bool, cond}
 use Prim.Native.Nat.{ℕ, zero, suc, _+_, _*_, _/_, _%_, _^_, _≤_, _<_}
@@ -24,26 +26,61 @@ pub record GoalWords : Type 0 where
   pub an : ℕ
   pub mask : ℕ
 
+-- where the tables begin, after that of the codes: five to the power of a node's depth, its span, its word, the mask of its children
+abbrev pub powersAt : ℕ
+powersAt = 256
+
+abbrev pub sizesAt : ℕ
+sizesAt = 512
+
+abbrev pub symbolsAt : ℕ
+symbolsAt = 768
+
+abbrev pub childrenAt : ℕ
+childrenAt = 1024
+
+-- where the last table ends
+abbrev pub tablesEnd : ℕ
+tablesEnd = 1280
+
 -- the tables: five areas of 16 shapes by 16 nodes
 abbrev pub codeOf : List ℕ → ℕ → ℕ → ℕ
 codeOf tab s r = getD tab (16 * s + r) 0
 
 abbrev pub powOf : List ℕ → ℕ → ℕ → ℕ
-powOf tab s r = getD tab (256 + (16 * s + r)) 0
+powOf tab s r = getD tab (powersAt + (16 * s + r)) 0
 
 -- the nodes of shape s
 abbrev pub sizeOf : List ℕ → ℕ → ℕ
-sizeOf tab s = getD tab (512 + 16 * s) 0
+sizeOf tab s = getD tab (sizesAt + 16 * s) 0
 
 abbrev pub symOf : List ℕ → ℕ → ℕ → ℕ
-symOf tab s r = getD tab (768 + (16 * s + r)) 0
+symOf tab s r = getD tab (symbolsAt + (16 * s + r)) 0
 
 abbrev pub kidsOf : List ℕ → ℕ → ℕ → ℕ
-kidsOf tab s r = getD tab (1024 + (16 * s + r)) 0
+kidsOf tab s r = getD tab (childrenAt + (16 * s + r)) 0
 
 pub record Tabled (tab : List ℕ) : Type 0 where
-  pub long : 1280 ≤ length tab
+  pub long : tablesEnd ≤ length tab
   pub sizes : (s : ℕ) → s < 16 → sizeOf tab s ≤ 16
+
+-- node r of shape s, both in the tables
+pub record NodeIn (tab : List ℕ) (s r : ℕ) : Type 0 where
+  pub tabled : Tabled tab
+  pub shape : s < 16
+  pub node : r < 16
+
+-- shape s in the tables, and room for the codes of its nodes
+pub record Owable (tab : List ℕ) (s : ℕ) (out : List ℕ) : Type 0 where
+  pub tabled : Tabled tab
+  pub shape : s < 16
+  pub room : 16 ≤ length out
+
+-- two shapes, both in the tables
+pub record BothIn (tab : List ℕ) (s t : ℕ) : Type 0 where
+  pub tabled : Tabled tab
+  pub one : s < 16
+  pub other : t < 16
 
 -- the code of node r of shape s announced at code a: a · 5^depth + code
 abbrev pub codeAt : List ℕ → ℕ → ℕ → ℕ → ℕ
@@ -97,6 +134,11 @@ goalAt ws at = record { sh = getD ws at 0; an = getD ws (at + 1) 0; mask = getD 
 unfoldable pub goalsFrom : List ℕ → ℕ → ℕ → List GoalWords
 goalsFrom ws at zero = []
 goalsFrom ws at (suc k) = goalAt ws at ∷ goalsFrom ws (at + 3) k
+
+-- n goals in words from `at` on, at most so many
+pub record GoalsIn (most : ℕ) (ws : List ℕ) (at n : ℕ) : Type 0 where
+  pub few : n ≤ most
+  pub room : at + 3 * n ≤ length ws
 
 -- each goal's shape is below 16
 abbrev pub Low : List GoalWords → Type 0

@@ -13,6 +13,18 @@ pub const NOWHERE: Position = Position(65535);
 // Past every mask: the symbol is not expected.
 pub const UNEXPECTED: u32 = 65536;
 
+// Where the second of the five shape tables begins: five to the power of each node's depth. The first has the codes of their positions.
+pub const POWERS_AT: usize = 256;
+
+// The third: the nodes of each one's subtree.
+pub const SIZES_AT: usize = 512;
+
+// The fourth: its symbol.
+pub const SYMBOLS_AT: usize = 768;
+
+// The fifth: the mask of its children that are no blanks.
+pub const CHILDREN_AT: usize = 1024;
+
 // A shape awaited: what it announces, and a mask of its nodes that are open.
 pub struct Goal {
     pub shape: Shape,

@@ -1,13 +1,15 @@
 use crate::Goal;
 use crate::NO_CODE;
+use crate::POWERS_AT;
+use crate::SIZES_AT;
 use crate::Shared;
 use crate::words::goal_at;
 use kinds::Position;
 ghost use mathlib.Core.Path.{_≡_};
-ghost use Prim.Native.Nat.{ℕ, _+_, _*_, _<_, _≤_};
+ghost use Prim.Native.Nat.{ℕ, _+_, _*_, _<_};
 ghost use lib.ListN.{length};
 ghost use lib.Seq.{sets};
-ghost use Rattle.goals.specs.GoalWords.{Tabled, codeAt, owedBy, nodeAt, maskAfter, pad, firstCode, goalsFrom, Stored, labelCode};
+ghost use Rattle.goals.specs.GoalWords.{Tabled, NodeIn, Owable, BothIn, codeAt, owedBy, nodeAt, maskAfter, pad, firstCode, goalsFrom, Stored, labelCode};
 ghost use Rattle.goals.specs.GoalKinds.{asWords};
 ghost use Rattle.goals.specs.Sharing.{firstShared};
 
@@ -35,20 +37,20 @@ pub fn padded(c: u32) -> u32
 
 // The code of node r of a goal's shape.
 pub fn code_at(tab: &[u16], g: Goal, r: usize) -> u32
-    requires { ⌜ Tabled (now tab) × (g .shape .0 < 16) × (r < 16) ⌝ }
+    requires { ⌜ NodeIn (now tab) (g .shape .0) r ⌝ }
     ensures { λ c. ⌜ c ≡ codeAt (now (tab .entry)) (g .shape .0) (g .at .0) r ⌝ }
 {
     let at = 16 * g.shape.0 as usize + r;
-    g.at.0 as u32 * tab[256 + at] as u32 + tab[at] as u32
+    g.at.0 as u32 * tab[POWERS_AT + at] as u32 + tab[at] as u32
 }
 
 // The codes of a goal's obligations, in document order, into `out`; answers how many.
 pub fn owed(tab: &[u16], g: Goal, out: &mut [u32]) -> usize
-    requires { ⌜ Tabled (now tab) × (g .shape .0 < 16) × (16 ≤ length (now out)) ⌝ }
+    requires { ⌜ Owable (now tab) (g .shape .0) (now out) ⌝ }
     ensures count { λ k. ⌜ k ≡ length (owedBy (now (tab .entry)) (asWords g)) ⌝ }
     ensures wrote { λ k. ⌜ now (out .exit) ≡ sets (now (out .entry)) 0 (owedBy (now (tab .entry)) (asWords g)) ⌝ }
 {
-    let mut left = tab[512 + 16 * g.shape.0 as usize] as usize;
+    let mut left = tab[SIZES_AT + 16 * g.shape.0 as usize] as usize;
     let mut mask = g.mask;
     let mut r = 0;
     let mut k = 0;
@@ -69,7 +71,7 @@ pub fn node_at(tab: &[u16], g: Goal, here: Position) -> usize
     requires { ⌜ Tabled (now tab) × (g .shape .0 < 16) ⌝ }
     ensures { λ k. ⌜ k ≡ nodeAt (now (tab .entry)) (g .shape .0) (g .at .0) (g .mask) (here .0) ⌝ }
 {
-    let mut left = tab[512 + 16 * g.shape.0 as usize] as usize;
+    let mut left = tab[SIZES_AT + 16 * g.shape.0 as usize] as usize;
     let mut mask = g.mask;
     let mut r = 0;
     while 0 < left {
@@ -116,7 +118,7 @@ pub fn common(a: &[u32], b: &[u32]) -> Shared
 
 // The first obligation position of one goal that is the other's too.
 pub fn share(tab: &[u16], g: Goal, h: Goal) -> Shared
-    requires { ⌜ Tabled (now tab) × (g .shape .0 < 16) × (h .shape .0 < 16) ⌝ }
+    requires { ⌜ BothIn (now tab) (g .shape .0) (h .shape .0) ⌝ }
     ensures { λ r. ⌜ r ≡ firstShared (owedBy (now (tab .entry)) (asWords g)) (owedBy (now (tab .entry)) (asWords h)) ⌝ }
 {
     let mut xs = [0u32; 16];

@@ -36,7 +36,7 @@ use Rattle.automaton.specs.PlanWords.{planned}
 use Rattle.term.proofs.Subterms.{sub-depth, fits-proper}
 use Rattle.term.proofs.Sizes.{length-flatten}
 use Rattle.goals.specs.GoalWords.{Tabled, sizeOf}
-use Rattle.tables.specs.ShapeTables.{wordAt, spanAt, entryW, entriesFrom}
+use Rattle.tables.specs.ShapeTables.{wordAt, spanAt, tableWords, entryW, entriesFrom}
 use Rattle.decoding.specs.Decoding.{roots, kidMasks, shapeAt, TableOf}
 use Rattle.decoding.specs.GoodStates.{Ready}
 use Rattle.decoding.specs.WordMachine.{words}
@@ -107,7 +107,7 @@ node-words ar few t s r h =
     (rw (node-pos t r o) (omega arith), rw (node-pos t r o) (power-fits (length (o .at)) (p .short)), omega (arith, m, k, l))
 
 -- ---- the tables
-pub tabled-of : (ar ws st tab : List ℕ) → 1280 ≤ length tab → ((k : ℕ) → k < 1280 → getD tab k 0 ≡ entryW ar ws st k) → Tabled tab
+pub tabled-of : (ar ws st tab : List ℕ) → tableWords ≤ length tab → ((k : ℕ) → k < tableWords → getD tab k 0 ≡ entryW ar ws st k) → Tabled tab
 tabled-of ar ws st tab long filled =
     record {
       long = long;
@@ -131,8 +131,8 @@ tabled-of ar ws st tab long filled =
         let l = span-short ar ws 16 (at + (512 + 16 * s) % 16) 1 in
         omega (arith, e, l)
 
-pub ready-for : (ar ws st tab : List ℕ) → GoodSymbols ar → Shaped ar ws st → 1280 ≤ length tab
-    → ((k : ℕ) → k < 1280 → getD tab k 0 ≡ entryW ar ws st k) → Ready ar tab (length st)
+pub ready-for : (ar ws st tab : List ℕ) → GoodSymbols ar → Shaped ar ws st → tableWords ≤ length tab
+    → ((k : ℕ) → k < tableWords → getD tab k 0 ≡ entryW ar ws st k) → Ready ar tab (length st)
 ready-for ar ws st tab g s long filled = record {
   shapes = s .trees;
   count = sym how-many;
@@ -172,21 +172,21 @@ held ar ws st s = record {
     is = sym (ap (shapeTerms ar) (s .words) ∙ shape-terms ar (s .trees) (s .each) (s .few-shapes))
 
 -- as fill_tables leaves the words of l
-pub ready : (ar ws st l tab : List ℕ) → shapesGood ar ws st ≡ true → 1280 ≤ length l → tab ≡ sets l 0 (entriesFrom ar ws st 0 1280)
+pub ready : (ar ws st l tab : List ℕ) → shapesGood ar ws st ≡ true → tableWords ≤ length l → tab ≡ sets l 0 (entriesFrom ar ws st 0 tableWords)
     → Ready ar tab (length st)
 ready ar ws st l tab good long e =
     let g = shapes-good-shaped ar ws st good in
-    ready-for ar ws st tab (g .0) (held ar ws st (g .1)) (rw (e, length-sets l 0 (entriesFrom ar ws st 0 1280)) long)
-    (λ k h. ap (λ xs. getD xs k 0) e ∙ filled-is ar ws st l 1280 k long h)
+    ready-for ar ws st tab (g .0) (held ar ws st (g .1)) (rw (e, length-sets l 0 (entriesFrom ar ws st 0 tableWords)) long)
+    (λ k h. ap (λ xs. getD xs k 0) e ∙ filled-is ar ws st l tableWords k long h)
 
-pub ready-shapes : (ar ws st l tab : List ℕ) (good : shapesGood ar ws st ≡ true) (long : 1280 ≤ length l)
-    (e : tab ≡ sets l 0 (entriesFrom ar ws st 0 1280))
+pub ready-shapes : (ar ws st l tab : List ℕ) (good : shapesGood ar ws st ≡ true) (long : tableWords ≤ length l)
+    (e : tab ≡ sets l 0 (entriesFrom ar ws st 0 tableWords))
     → ready ar ws st l tab good long e .shapes ≡ shapeTerms ar ws
 unfolding ready ready-for held
 ready-shapes ar ws st l tab good long e = refl
 
-pub plan-of-tables : (ar ws st l tab : List ℕ) (room : ℕ) → shapesGood ar ws st ≡ true → 1280 ≤ length l
-    → tab ≡ sets l 0 (entriesFrom ar ws st 0 1280)
+pub plan-of-tables : (ar ws st l tab : List ℕ) (room : ℕ) → shapesGood ar ws st ≡ true → tableWords ≤ length l
+    → tab ≡ sets l 0 (entriesFrom ar ws st 0 tableWords)
     → planned (words tab (length st)) ar (length st) room ≡ planOf ar (shapeTerms ar ws) room
 plan-of-tables ar ws st l tab room good long e =
     let r = ready ar ws st l tab good long e in

@@ -121,7 +121,7 @@ module _ {ar tab : List ℕ} {n : ℕ} {sc : List ℕ} {i c f : ℕ} (o : OnSymb
       let label = good-label (o .good) in
       let few = o .good .ready .limits .symbols .children f k children in
       let words = flat-length D in
-      (ready-few (o .good .ready), omega (arith, o .label), omega (arith, few-derived))
+      record { shapes = ready-few (o .good .ready); codes = omega (arith, o .label); room = omega (arith, few-derived) }
 
   pub derived : (old goals : List ℕ) (r : ℕ) → PutsFirst (flat D) r old goals → derivedWords ≤ length old → Derived tab goals (r / 3) D
   derived old goals r puts room =

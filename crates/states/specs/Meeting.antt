@@ -1,10 +1,12 @@
 -- Inside: states met before, and what the code that meets them answers.
 --   placeOf       the number of the first state that is equal to one, their count where none is
+--   Addable       what code asks where it adds a state
 --   AllGood       each state is good
 --   Held          scratch holds m states, each good
 --   Behind        scratch past its states is as it was
 --   blocksLength  how many words blocks take; rowMost, allMost: at most, of one state and of all
 --   ClassesMet    the states are in scratch, with two words counted for each successor
+--   ClassMeetable what meeting a class asks; ClassesMeetable: several
 --   MetIs         what meeting classes answers: that, or why it stops
 --   SymbolIs      what a state on a symbol answers
 --   RowMade       the states are in scratch, and a state's blocks come after others, with their words counted
@@ -19,10 +21,13 @@ use Rattle.kinds.specs.Lists.{find, concat, orElse}
 use Rattle.kinds.specs.Members.{_∈_}
 use Rattle.automaton.specs.Exploring.{Succ, Block, Met, stopped, met, Made, refused, made, meets}
 use Rattle.automaton.specs.PlanWords.{blockWords}
-use Rattle.goals.specs.GoalWords.{GoalWords}
+use Rattle.automaton.specs.Classes.{Square}
+use Rattle.goals.specs.GoalWords.{GoalWords, GoalsIn}
 use Rattle.goals.specs.WordStages.{sameStateW}
+use Rattle.classes.specs.Squares.{Squared}
 use Rattle.decoding.specs.WordMachine.{words, stateIn, statesIn, statesWords, Kept}
 use Rattle.decoding.specs.GoodStates.{GoodState}
+use Rattle.states.specs.Parting.{Named}
 use Rattle.states.specs.declared.Going.{Going}
 use Rattle.states.specs.declared.Going.the-variants as going
 use Rattle.states.specs.declared.Explored.{Explored}
@@ -30,6 +35,12 @@ use Rattle.states.specs.declared.Explored.the-variants as explored
 
 unfoldable pub placeOf : List (List GoalWords) → List GoalWords → ℕ
 placeOf ss k = orElse (find (sameStateW k) ss 0) (length ss)
+
+-- as state m, the n goals at the start of ws
+pub record Addable (sc : List ℕ) (m : ℕ) (ws : List ℕ) (n : ℕ) : Type 0 where
+  pub long : statesWords ≤ length sc
+  pub number : m < 128
+  pub goals : GoalsIn 32 ws 0 n
 
 abbrev pub AllGood : List ℕ → List ℕ → ℕ → List (List GoalWords) → Type 0
 AllGood ar tab n ss = (s : List GoalWords) → s ∈ ss → GoodState ar tab n s
@@ -57,6 +68,19 @@ pub record ClassesMet (m w : ℕ) (sc : List ℕ) (base : ℕ) (e : Met (List Go
   pub is : e ≡ met (statesIn sc m) succs
   pub sum : w ≡ base + 2 * length succs
   pub few : length succs ≤ 96
+
+-- beside the m states in sc, the class that row r of n goals begins
+pub record ClassMeetable (sc : List ℕ) (m : ℕ) (goals : List ℕ) (n : ℕ) (dep : Square) (r : ℕ) : Type 0 where
+  pub kept : Kept sc m
+  pub squared : Squared goals n dep
+  pub row : r < 96
+
+-- the classes that the rows in order begin, their words counted above a base
+pub record ClassesMeetable (sc : List ℕ) (m : ℕ) (goals : List ℕ) (n : ℕ) (dep : Square) (order : List ℕ) (base : ℕ) : Type 0 where
+  pub kept : Kept sc m
+  pub squared : Squared goals n dep
+  pub named : Named 96 order
+  pub low : base ≤ 1000
 
 abbrev pub MetIs : Going → List ℕ → ℕ → Met (List GoalWords) → Type 0
 MetIs (going.On m w) sc base e = ClassesMet m w sc base e

@@ -8,7 +8,7 @@ use native.Mathlib.Numerals.{add-one}
 use borrow.Author.Tests.{eq-eqb, ne-eqb, lt-ltb, le-ltb, le-leb, lt-leb}
 use lib.Dec.{eqb, ltb}
 use lib.ListN.{length, getD}
-use Rattle.tables.specs.ShapeTables.{wordAt, spanFrom, spanAt, seekFrom, kidsFrom, kidsAt, nodeWord, entryW, entriesFrom}
+use Rattle.tables.specs.ShapeTables.{wordAt, spanFrom, spanAt, seekFrom, kidsFrom, kidsAt, nodeWord, areaWords, entryW, entriesFrom}
 
 pub in-any : (xs : List ℕ) (i a b : ℕ) → i < length xs → getD xs i a ≡ getD xs i b
 in-any [] i a b h = absurd (omega arith)
@@ -104,7 +104,7 @@ module _ (ar ws ss : List ℕ) where
   entry-past k h l = rw (lt-ltb (k / 16 % 16) (length ss) h, le-ltb (k % 16) (spanAt ar ws (getD ss (k / 16 % 16) 0)) l) refl
 
   pub entry-in : (k : ℕ) → k / 16 % 16 < length ss → k % 16 < spanAt ar ws (getD ss (k / 16 % 16) 0)
-      → entryW ar ws ss k ≡ nodeWord ar ws (getD ss (k / 16 % 16) 0) (k / 256) (k % 16)
+      → entryW ar ws ss k ≡ nodeWord ar ws (getD ss (k / 16 % 16) 0) (k / areaWords) (k % 16)
   unfolding entryW
   entry-in k h l = rw (lt-ltb (k / 16 % 16) (length ss) h, lt-ltb (k % 16) (spanAt ar ws (getD ss (k / 16 % 16) 0)) l) refl
 

@@ -3,9 +3,10 @@
 --   spanAt                the nodes of a term, at most 16
 --   seekFrom              from node to node: down to the first child, or on to the next sibling
 --   kidsAt                the mask of a node's children that are no blanks
+--   Seekable              what code asks where it goes from node to node
 --   nodeWord entryIn      a word for a node, by area; 0 where there is no such node
+--   areaWords tableWords  the words of one table, and of the five
 --   entryW entriesFrom    the tables' words, one by one
---   tableWords            how many there are
 use mathlib.Core.List.{List, [], _∷_, map}
 use mathlib.Core.Bool.{Bool, true, false, cond}
 use mathlib.Core.Path.{_≡_}
@@ -34,6 +35,12 @@ seekFrom ar ws st r one (suc k) c v =
     let on = seekFrom ar ws st r one k (c + spanAt ar ws (st + c)) ((v + one) % 65536) in
     cond (ltb c r) (cond (ltb r (c + spanAt ar ws (st + c))) down on) v
 
+-- from the shape at st, with v at its root, and `one` added for each sibling passed
+pub record Seekable (st one v : ℕ) : Type 0 where
+  pub start : st ≤ 65535
+  pub step : one ≤ 1
+  pub root : v ≤ 65535
+
 -- the mask of the nodes that are no blanks among c and its siblings before e
 unfoldable pub kidsFrom : List ℕ → List ℕ → ℕ → ℕ → ℕ → ℕ → ℕ → ℕ
 kidsFrom ar ws st e zero c m = m
@@ -55,13 +62,17 @@ nodeWord ar ws st x r =
 abbrev pub entryIn : List ℕ → List ℕ → ℕ → ℕ → ℕ → ℕ
 entryIn ar ws st x r = cond (ltb r (spanAt ar ws st)) (nodeWord ar ws st x r) 0
 
--- word k of the tables: 0 where there is no such shape or node
-unfoldable pub entryW : List ℕ → List ℕ → List ℕ → ℕ → ℕ
-entryW ar ws ss k = cond (ltb (k / 16 % 16) (length ss)) (entryIn ar ws (getD ss (k / 16 % 16) 0) (k / 256) (k % 16)) 0
+-- the words of one table, 16 shapes by 16 nodes
+abbrev pub areaWords : ℕ
+areaWords = 256
 
 -- the words of the five tables
 abbrev pub tableWords : ℕ
 tableWords = 1280
+
+-- word k of the tables: 0 where there is no such shape or node
+unfoldable pub entryW : List ℕ → List ℕ → List ℕ → ℕ → ℕ
+entryW ar ws ss k = cond (ltb (k / 16 % 16) (length ss)) (entryIn ar ws (getD ss (k / 16 % 16) 0) (k / areaWords) (k % 16)) 0
 
 -- n words of the tables from word k on
 unfoldable pub entriesFrom : List ℕ → List ℕ → List ℕ → ℕ → ℕ → List ℕ

@@ -1,9 +1,10 @@
+use crate::AREA_WORDS;
 use crate::TABLE_WORDS;
 ghost use mathlib.Core.Path.{_≡_};
 ghost use Prim.Native.Nat.{ℕ, _+_, _*_, _<_, _≤_};
 ghost use lib.ListN.{length, getD};
 ghost use lib.Seq.{sets};
-ghost use Rattle.tables.specs.ShapeTables.{wordAt, spanAt, seekFrom, kidsAt, nodeWord, entryW, tableWords, entriesFrom};
+ghost use Rattle.tables.specs.ShapeTables.{wordAt, spanAt, seekFrom, Seekable, kidsAt, nodeWord, entryW, tableWords, entriesFrom};
 
 fn word_at(words: &[u16], i: usize) -> u16
     ensures { λ r. ⌜ r ≡ wordAt (now (words .entry)) i ⌝ }
@@ -48,7 +49,7 @@ fn span_at(symbols: &[u8], words: &[u16], at: usize) -> usize
 
 // Node r of the shape at st: v with `one` added for each sibling passed, and five times it and one more for each step down.
 fn seek(symbols: &[u8], words: &[u16], st: usize, r: usize, one: u32, v: u32) -> u32
-    requires { ⌜ (st ≤ 65535) × (one ≤ 1) × (v ≤ 65535) ⌝ }
+    requires { ⌜ Seekable st one v ⌝ }
     ensures { λ x. ⌜ x ≡ seekFrom (now (symbols .entry)) (now (words .entry)) st r one 16 0 v ⌝ }
     ensures small { λ x. ⌜ x ≤ 65535 ⌝ }
 {
@@ -123,7 +124,7 @@ fn table_word(symbols: &[u8], words: &[u16], starts: &[u16], k: usize) -> u16
         let st = starts[s] as usize;
         let r = k % 16;
         if r < span_at(symbols, words, st) {
-            return node_word(symbols, words, st, k / 256, r);
+            return node_word(symbols, words, st, k / AREA_WORDS, r);
         }
         return 0;
     }

@@ -8,6 +8,7 @@
 --   succWords    a count and the successors of the classes named
 --   SmallBy      these classes have at most 32 goals
 --   startsAt     where the starts of state i's blocks stand
+--   SuccessorWritable SuccessorsWritable OutputsWritable BlockWritable   what writing a class's successor, several, announcements and a block asks
 --   RowWritable  what writing a state's blocks asks; RowWritten: what it does
 --   Writable     what writing the plan asks
 use mathlib.Core.Path.{_≡_}
@@ -24,9 +25,11 @@ use Rattle.automaton.specs.PlanWords.{blockWords, startsFrom, planWords}
 use Rattle.goals.specs.GoalWords.{GoalWords, labelCode}
 use Rattle.goals.specs.WordStages.{displacementW, liftedW}
 use Rattle.deriving.specs.Orders.{classAt, goalOn}
-use Rattle.decoding.specs.WordMachine.{words, stateIn, statesIn}
+use Rattle.classes.specs.Squares.{Squared}
+use Rattle.decoding.specs.WordMachine.{words, stateIn, statesIn, Kept}
 use Rattle.decoding.specs.GoodStates.{Ready}
 use Rattle.states.specs.Meeting.{placeOf, Held}
+use Rattle.states.specs.Parting.{OnSymbol, Named}
 
 -- for tables and n shapes, scratch and m states in it
 abbrev pub blockIn : List ℕ → List ℕ → ℕ → List ℕ → ℕ → ℕ → ℕ → List ℕ
@@ -56,6 +59,35 @@ SmallBy d ws n xs = (j : ℕ) → j < length xs → length (classAt d ws n (getD
 
 abbrev pub startsAt : List ℕ → ℕ → ℕ → ℕ
 startsAt ar m i = 4 + m + i * length ar
+
+-- beside the m states in sc, the class that row r of n goals begins, of at most 32 goals; two words from `at` on
+pub record SuccessorWritable (sc : List ℕ) (m : ℕ) (goals : List ℕ) (n : ℕ) (dep : Square) (r at : ℕ) (plan : List ℕ) : Type 0 where
+  pub kept : Kept sc m
+  pub squared : Squared goals n dep
+  pub row : r < 96
+  pub small : length (classAt dep goals n r) ≤ 32
+  pub room : at + 2 ≤ length plan
+
+-- such classes, one for each row in order; a count and two words for each from `at` on
+pub record SuccessorsWritable (sc : List ℕ) (m : ℕ) (goals : List ℕ) (n : ℕ) (dep : Square) (order : List ℕ) (at : ℕ) (plan : List ℕ) : Type 0 where
+  pub kept : Kept sc m
+  pub squared : Squared goals n dep
+  pub named : Named 96 order
+  pub small : SmallBy dep goals n order
+  pub room : at + (1 + 2 * length order) ≤ length plan
+
+-- the goals that out names, of the state at `from` in sc; a count and two words for each from `at` on
+pub record OutputsWritable (sc : List ℕ) (from : ℕ) (out : List ℕ) (at : ℕ) (plan : List ℕ) : Type 0 where
+  pub named : Named 32 out
+  pub state : from + 96 ≤ length sc
+  pub room : at + (1 + 2 * length out) ≤ length plan
+
+-- state i of the m in scratch, the code of its label, on symbol f; the block from `at` on
+pub record BlockWritable (ar tab : List ℕ) (n : ℕ) (sc : List ℕ) (m i c f at : ℕ) (plan : List ℕ) : Type 0 where
+  pub kept : Kept sc m
+  pub on : OnSymbol ar tab n sc i c f
+  pub small : SmallOn (words tab n) (stateIn sc i) 0 ar
+  pub room : at + length (blockIn ar tab n sc m i f) ≤ length plan
 
 -- state i of the m in scratch, the code of its label; its blocks from `at` on
 pub record RowWritable (ar tab : List ℕ) (n : ℕ) (sc : List ℕ) (m i c at : ℕ) (plan : List ℕ) : Type 0 where

@@ -11,17 +11,14 @@ use states::keeping::find_state;
 use states::parting::part;
 ghost use mathlib.Core.Path.{_≡_};
 ghost use mathlib.Core.List.{[], _∷_};
-ghost use Prim.Native.Nat.{ℕ, _+_, _*_, _<_, _≤_};
-ghost use lib.ListN.{length};
+ghost use Prim.Native.Nat.{ℕ};
 ghost use lib.Seq.{sets};
 ghost use Rattle.goals.specs.WordStages.{displacementW, liftedW};
 ghost use Rattle.deriving.specs.Orders.{classAt};
 ghost use Rattle.deriving.specs.Passes.{Puts};
-ghost use Rattle.classes.specs.Squares.{Squared};
-ghost use Rattle.decoding.specs.WordMachine.{words as machine, stateIn, statesIn, Kept};
+ghost use Rattle.decoding.specs.WordMachine.{statesIn};
 ghost use Rattle.states.specs.Meeting.{placeOf};
-ghost use Rattle.states.specs.Parting.{OnSymbol, Named};
-ghost use Rattle.writing.specs.RowWords.{SmallOn, blockIn, planIn, outWords, succWords, SmallBy, RowWritable, RowWritten, Writable};
+ghost use Rattle.writing.specs.RowWords.{blockIn, planIn, outWords, succWords, SuccessorWritable, SuccessorsWritable, OutputsWritable, BlockWritable, RowWritable, RowWritten, Writable};
 
 // The plan of the m states in scratch, of `total` words.
 pub fn write_plan(
@@ -111,7 +108,7 @@ fn write_block(
     at: usize,
     plan: &mut [u16],
 ) -> usize
-    requires { ⌜ Kept (now scratch) m × OnSymbol (now symbols) (now tab) shapes (now scratch) (state .0) (root .0) (symbol .0) × SmallOn (machine (now tab) shapes) (stateIn (now scratch) (state .0)) 0 (now symbols) × (at + length (blockIn (now symbols) (now tab) shapes (now scratch) m (state .0) (symbol .0)) ≤ length (now plan)) ⌝ }
+    requires { ⌜ BlockWritable (now symbols) (now tab) shapes (now scratch) m (state .0) (root .0) (symbol .0) at (now plan) ⌝ }
     ensures { λ r. ⌜ Puts (blockIn (now (symbols .entry)) (now (tab .entry)) shapes (now (scratch .entry)) m (state .0) (symbol .0)) at r (now (plan .entry)) (now (plan .exit)) ⌝ }
 {
     let mut out = [0u32; 96];
@@ -132,24 +129,16 @@ fn write_block(
         &mut order,
     );
     let announced = parts.announced;
+    let n = parts.goals;
     let classes = parts.classes;
     let from = STATES + STATE_WORDS * state.0 as usize;
     let next = write_outputs(scratch, from, &out[0..announced], at, plan);
-    write_successors(
-        scratch,
-        m,
-        &goals,
-        parts.goals,
-        &dep,
-        &order[0..classes],
-        next,
-        plan,
-    )
+    write_successors(scratch, m, &goals, n, &dep, &order[0..classes], next, plan)
 }
 
 // A count and the announcements of the goals of the state at `from` that `out` names; answers the place after them.
 fn write_outputs(scratch: &[u16], from: usize, out: &[u32], at: usize, plan: &mut [u16]) -> usize
-    requires { ⌜ Named 32 (now out) × (from + 96 ≤ length (now scratch)) × (at + (1 + 2 * length (now out)) ≤ length (now plan)) ⌝ }
+    requires { ⌜ OutputsWritable (now scratch) from (now out) at (now plan) ⌝ }
     ensures { λ r. ⌜ Puts (outWords (now (scratch .entry)) from (now (out .entry))) at r (now (plan .entry)) (now (plan .exit)) ⌝ }
 {
     plan[at] = out.len() as u16;
@@ -176,7 +165,7 @@ fn write_successors(
     at: usize,
     plan: &mut [u16],
 ) -> usize
-    requires { ⌜ Kept (now scratch) m × Squared (now goals) n (now dep) × Named 96 (now order) × SmallBy (now dep) (now goals) n (now order) × (at + (1 + 2 * length (now order)) ≤ length (now plan)) ⌝ }
+    requires { ⌜ SuccessorsWritable (now scratch) m (now goals) n (now dep) (now order) at (now plan) ⌝ }
     ensures { λ r. ⌜ Puts (succWords (now (dep .entry)) (now (goals .entry)) n (statesIn (now (scratch .entry)) m) (now (order .entry))) at r (now (plan .entry)) (now (plan .exit)) ⌝ }
 {
     plan[at] = order.len() as u16;
@@ -210,7 +199,7 @@ fn write_successor(
     at: usize,
     plan: &mut [u16],
 )
-    requires { ⌜ Kept (now scratch) m × Squared (now goals) n (now dep) × (r < 96) × (length (classAt (now dep) (now goals) n r) ≤ 32) × (at + 2 ≤ length (now plan)) ⌝ }
+    requires { ⌜ SuccessorWritable (now scratch) m (now goals) n (now dep) r at (now plan) ⌝ }
     ensures { λ u. ⌜ now (plan .exit) ≡ sets (now (plan .entry)) at (placeOf (statesIn (now (scratch .entry)) m) (liftedW (classAt (now (dep .entry)) (now (goals .entry)) n r)) ∷ displacementW (classAt (now (dep .entry)) (now (goals .entry)) n r) ∷ []) ⌝ }
 {
     let mut class = [0u16; DERIVED_WORDS];

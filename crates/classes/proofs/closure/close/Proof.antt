@@ -18,7 +18,8 @@ loop-holds : tie.Need-loop-holds Inv-loop μ-loop
 loop-holds c = closed-none _ _ (c .pre .1)
 
 round-requires : tie.Need-round-requires Inv-loop μ-loop
-round-requires c κs = (c .before .before .before .pre .0, c .before .loop-test .taken, c .before .before .loop .inv .square)
+round-requires c κs =
+    record { few = c .before .before .before .pre .0; through = c .before .loop-test .taken; square = c .before .before .loop .inv .square }
 
 add-k : tie.Need-add-k Inv-loop μ-loop
 add-k c = search needs

@@ -28,7 +28,7 @@ index-2-if1 c = search needs
 loop-holds : tie.Need-loop-holds Inv-loop μ-loop
 loop-holds c =
     let entry = c .before .before in
-    let a = entry .args in let p = entry .pre in row-none (a .n) (a .k) (a .i) (p .0) (p .1) (p .2) (a .dep .now) (p .3)
+    let a = entry .args in let p = entry .pre in row-none (a .n) (a .k) (a .i) (p .few) (p .through) (p .row) (a .dep .now) (p .square)
 
 mul-if2 : tie.Need-mul-if2 Inv-loop μ-loop
 mul-if2 c = search needs
@@ -61,9 +61,9 @@ loop-again c =
     let at-loop-test = c .before .before .loop-test in
     let a = entry .args in let p = entry .pre in
     ⊎-elim
-    (λ w. rw (w .1) (row-put (a .n) (a .k) (a .i) (p .0) (p .1) (p .2) (a .dep .now) (at-loop-test .taken) (at-loop .inv)
+    (λ w. rw (w .1) (row-put (a .n) (a .k) (a .i) (p .few) (p .through) (p .row) (a .dep .now) (at-loop-test .taken) (at-loop .inv)
     (c .before .before .before .before .if1 .taken) (w .0 .taken)))
-    (λ w. rw (w .1) (row-skip (a .n) (a .k) (a .i) (p .0) (p .1) (p .2) (a .dep .now) (at-loop-test .taken) (at-loop .inv) (w .0 .left)))
+    (λ w. rw (w .1) (row-skip (a .n) (a .k) (a .i) (p .few) (p .through) (p .row) (a .dep .now) (at-loop-test .taken) (at-loop .inv) (w .0 .left)))
     (c .if2 .came)
 
 returns : tie.Need-returns Inv-loop μ-loop
@@ -72,7 +72,7 @@ returns c =
 
 returns-2 : tie.Need-returns-2 Inv-loop μ-loop
 returns-2 c =
-    record { square = c .before .before .pre .3; grown = grown-refl _ _; joined = λ b h ik kb. absurd (no-both _ (c .if1 .left) ik) }
+    record { square = c .before .before .pre .square; grown = grown-refl _ _; joined = λ b h ik kb. absurd (no-both _ (c .if1 .left) ik) }
 
 pub join-row-spec : {M : Type 1} → statement M
 join-row-spec =

@@ -15,12 +15,17 @@ abbrev μ-loop : tie.MeasureT-loop
 μ-loop dep₀ n k i₀ dep i = n - i
 
 loop-holds : tie.Need-loop-holds Inv-loop μ-loop
-loop-holds c = record { within = omega arith; square = c .pre .2; grown = grown-refl _ _; joined = λ a h. absurd (omega arith) }
+loop-holds c = record { within = omega arith; square = c .pre .square; grown = grown-refl _ _; joined = λ a h. absurd (omega arith) }
 
 join-row-requires : tie.Need-join-row-requires Inv-loop μ-loop
 join-row-requires c κs =
     let entry = c .before .before .before in
-    (entry .pre .0, entry .pre .1, c .before .loop-test .taken, c .before .before .loop .inv .square)
+    record {
+      few = entry .pre .few;
+      through = entry .pre .through;
+      row = c .before .loop-test .taken;
+      square = c .before .before .loop .inv .square;
+    }
 
 add-i : tie.Need-add-i Inv-loop μ-loop
 add-i c = search needs

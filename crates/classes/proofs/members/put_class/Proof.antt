@@ -53,7 +53,7 @@ put-goal-requires c κs =
     let a = entry .args in let l = c .before .before .before .before .before .loop in
     let p =
     pick-on (getD (a .dep .now) (a .i) []) (a .ws .now) (l .here) (a .n) (l .j) (at-loop-test .taken)
-    (omega (arith, at-loop-test .taken, entry .pre .0 .few, entry .pre .0 .square .cols (a .i) (entry .pre .1)))
+    (omega (arith, at-loop-test .taken, entry .pre .squared .few, entry .pre .squared .square .cols (a .i) (entry .pre .row)))
     (c .before .before .if1 .taken) in
     omega (arith, ap length p)
 
@@ -65,7 +65,7 @@ add-next c =
     let a = entry .args in let l = at-loop in
     let p =
     pick-on (getD (a .dep .now) (a .i) []) (a .ws .now) (l .here) (a .n) (l .j) (at-loop-test .taken)
-    (omega (arith, at-loop-test .taken, entry .pre .0 .few, entry .pre .0 .square .cols (a .i) (entry .pre .1)))
+    (omega (arith, at-loop-test .taken, entry .pre .squared .few, entry .pre .squared .square .cols (a .i) (entry .pre .row)))
     (c .before .before .before .before .before .if1 .taken) in
     omega (arith, ap length p)
 
@@ -85,7 +85,7 @@ loop-again c =
     let a = entry .args in let l = c .before .before .before .loop in
     let row = getD (a .dep .now) (a .i) [] in
     let in-row : l .j < length row =
-    omega (arith, at-loop-test .taken, entry .pre .0 .few, entry .pre .0 .square .cols (a .i) (entry .pre .1)) in
+    omega (arith, at-loop-test .taken, entry .pre .squared .few, entry .pre .squared .square .cols (a .i) (entry .pre .row)) in
     let rest = Left row (a .ws .now) (l .here + 3) (a .n) (l .j + 1) in
     ⊎-elim
     (λ w. let p = pick-on row (a .ws .now) (l .here) (a .n) (l .j) (at-loop-test .taken) in-row (w .0 .taken) in (

@@ -33,12 +33,16 @@ loop-holds c =
 leader-requires : tie.Need-leader-requires Inv-loop μ-loop
 leader-requires c κs =
     let entry = c .before .before .before .before .before in
-    (omega (arith, c .loop-test .taken, entry .pre .0 .few), entry .pre .1)
+    (omega (arith, c .loop-test .taken, entry .pre .stored .few), entry .pre .square)
 
 first-in-row-requires : tie.Need-first-in-row-requires Inv-loop μ-loop
 first-in-row-requires c κs =
     let entry = c .before .before .before .before .before .before .before in
-    (entry .pre .0, entry .pre .1, omega (arith, c .before .before .loop-test .taken, entry .pre .0 .few))
+    record {
+      stored = entry .pre .stored;
+      square = entry .pre .square;
+      row = omega (arith, c .before .before .loop-test .taken, entry .pre .stored .few);
+    }
 
 padded-requires : tie.Need-padded-requires Inv-loop μ-loop
 padded-requires c κs = search needs
@@ -69,17 +73,17 @@ add-items c =
 mul-items-2 : tie.Need-mul-items-2 Inv-loop μ-loop
 mul-items-2 c =
     let entry = c .before .before .before .before .before .before .before .before .before in
-    let s = c .before .before .before .before .before .loop .inv in omega (arith, s .few, s .long, entry .pre .2, entry .pre .0 .few)
+    let s = c .before .before .before .before .before .loop .inv in omega (arith, s .few, s .long, entry .pre .room, entry .pre .stored .few)
 
 slice-write-items : tie.Need-slice-write-items Inv-loop μ-loop
 slice-write-items c =
     let entry = c .before .before .before .before .before .before .before .before .before in
-    let s = c .before .before .before .before .before .loop .inv in omega (arith, s .few, s .long, entry .pre .2, entry .pre .0 .few)
+    let s = c .before .before .before .before .before .loop .inv in omega (arith, s .few, s .long, entry .pre .room, entry .pre .stored .few)
 
 add-k : tie.Need-add-k Inv-loop μ-loop
 add-k c =
     let entry = c .before .before .before .before .before .before .before .before .before in
-    let s = c .before .before .before .before .before .loop .inv in omega (arith, s .few, entry .pre .0 .few)
+    let s = c .before .before .before .before .before .loop .inv in omega (arith, s .few, entry .pre .stored .few)
 
 add-i : tie.Need-add-i Inv-loop μ-loop
 add-i c = search needs
@@ -102,7 +106,7 @@ loop-again c =
 arrange-requires : tie.Need-arrange-requires Inv-loop μ-loop
 arrange-requires c κs =
     let entry = c .before .before .before .before .before .before in
-    let s = c .before .before .loop .inv in omega (arith, s .few, s .long, s .below, entry .pre .2)
+    let s = c .before .before .loop .inv in omega (arith, s .few, s .long, s .below, entry .pre .room)
 
 same-length : tie.Need-same-length Inv-loop μ-loop
 same-length c = c .before .before .arrange .kept .0 ∙ c .before .before .before .before .before .loop .inv .long
@@ -110,7 +114,7 @@ same-length c = c .before .before .arrange .kept .0 ∙ c .before .before .befor
 returns : tie.Need-returns Inv-loop μ-loop
 returns c =
     let entry = c .before .before .before .before .before .before .before .before .before in
-    listed-end (c .before .before .before .before .before .loop .inv) (c .before .before .before .before .loop-test .left) (entry .pre .2) _
+    listed-end (c .before .before .before .before .before .loop .inv) (c .before .before .before .before .loop-test .left) (entry .pre .room) _
     (c .before .before .arrange .ensures)
 
 pub class-order-spec : {M : Type 1} → statement M

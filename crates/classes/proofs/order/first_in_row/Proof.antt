@@ -45,7 +45,7 @@ first-owed-requires : tie.Need-first-owed-requires Inv-loop μ-loop
 first-owed-requires c κs =
     let entry = c .before .before .before .before .before .before .before in
     rw (c .goal-at .ensures)
-    (entry .pre .0 .tabled, stored-first (entry .pre .0) (c .before .before .before .before .loop .j) (c .before .before .before .loop-test .taken))
+    (entry .pre .stored .tabled, stored-first (entry .pre .stored) (c .before .before .before .before .loop .j) (c .before .before .before .loop-test .taken))
 
 add-j : tie.Need-add-j Inv-loop μ-loop
 add-j c = search needs
@@ -59,7 +59,7 @@ loop-again c =
     let at-loop-test = c .before .before .loop-test in
     let a = entry .args in let l = c .before .before .before .loop in
     let row = getD (a .dep .now) (a .i) [] in
-    let inside : l .j < length row = omega (arith, at-loop-test .taken, entry .pre .0 .few, entry .pre .1 .cols (a .i) (entry .pre .2)) in
+    let inside : l .j < length row = omega (arith, at-loop-test .taken, entry .pre .stored .few, entry .pre .square .cols (a .i) (entry .pre .row)) in
     ⊎-elim
     (λ w. (
       omega arith,

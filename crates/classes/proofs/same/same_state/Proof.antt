@@ -58,10 +58,10 @@ returns c =
     let z = replicate {A = ℕ} 96 0 in
     let x =
     ap (λ l. goalsFrom l 0 (a .n)) (at-copy-words .ensures)
-    ∙ copied (a .ws .now) z (a .from) (3 * a .n) (a .n) refl (entry .pre .1) (omega arith) in
+    ∙ copied (a .ws .now) z (a .from) (3 * a .n) (a .n) refl (entry .pre .0 .room) (omega arith) in
     let y =
     ap (λ l. goalsFrom l 0 (a .k)) (at-copy-words2 .ensures)
-    ∙ copied (a .vs .now) z (a .at) (3 * a .k) (a .k) refl (entry .pre .3) (omega arith) in
+    ∙ copied (a .vs .now) z (a .at) (3 * a .k) (a .k) refl (entry .pre .1 .room) (omega arith) in
     let p = sym (c .before .before .before .before .within .ensures ∙ ap₂ withinW x y) ∙ c .before .before .before .if1 .taken in
     rw p (c .within2 .ensures ∙ ap₂ withinW y x)
 
@@ -73,10 +73,10 @@ returns-2 c =
     let z = replicate {A = ℕ} 96 0 in
     let x =
     ap (λ l. goalsFrom l 0 (a .n)) (at-copy-words .ensures)
-    ∙ copied (a .ws .now) z (a .from) (3 * a .n) (a .n) refl (entry .pre .1) (omega arith) in
+    ∙ copied (a .ws .now) z (a .from) (3 * a .n) (a .n) refl (entry .pre .0 .room) (omega arith) in
     let y =
     ap (λ l. goalsFrom l 0 (a .k)) (c .before .before .before .before .before .copy-words2 .ensures)
-    ∙ copied (a .vs .now) z (a .at) (3 * a .k) (a .k) refl (entry .pre .3) (omega arith) in
+    ∙ copied (a .vs .now) z (a .at) (3 * a .k) (a .k) refl (entry .pre .1 .room) (omega arith) in
     let p = sym (c .before .within .ensures ∙ ap₂ withinW x y) ∙ c .if1 .left in
     rw p refl
 

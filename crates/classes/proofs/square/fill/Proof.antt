@@ -20,7 +20,11 @@ loop-holds c = (omega arith, rows-none _ _ _ (c .before .before .pre .1))
 
 fill-row-requires : tie.Need-fill-row-requires Inv-loop μ-loop
 fill-row-requires c κs =
-    (c .before .before .before .before .before .pre .0, c .before .loop-test .taken, c .before .before .loop .inv .1 .square)
+    record {
+      stored = c .before .before .before .before .before .pre .0;
+      square = c .before .before .loop .inv .1 .square;
+      row = c .before .loop-test .taken;
+    }
 
 add-i : tie.Need-add-i Inv-loop μ-loop
 add-i c = search needs

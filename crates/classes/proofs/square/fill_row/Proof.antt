@@ -31,7 +31,7 @@ goal-at-requires : tie.Need-goal-at-requires Inv-loop μ-loop
 goal-at-requires c κs = search needs
 
 loop-holds : tie.Need-loop-holds Inv-loop μ-loop
-loop-holds c = (omega arith, row-none _ _ _ (c .before .before .before .pre .2))
+loop-holds c = (omega arith, row-none _ _ _ (c .before .before .before .pre .square))
 
 mul-goal-at-2 : tie.Need-mul-goal-at-2 Inv-loop μ-loop
 mul-goal-at-2 c = search needs
@@ -42,12 +42,11 @@ goal-at-requires-2 c κs = search needs
 depends-requires : tie.Need-depends-requires Inv-loop μ-loop
 depends-requires c κs =
     let entry = c .before .before .before .before .before .before in
-    rw (c .before .before .before .goal-at .ensures, c .goal-at2 .ensures) (
-      entry .pre .0 .tabled,
-      stored-first (entry .pre .0) (entry .args .i) (entry .pre .1),
-      stored-first (entry .pre .0) (c .before .before .loop .j)
-          (c .before .loop-test .taken),
-    )
+    rw (c .before .before .before .goal-at .ensures, c .goal-at2 .ensures) record {
+      tabled = entry .pre .stored .tabled;
+      one = stored-first (entry .pre .stored) (entry .args .i) (entry .pre .row);
+      other = stored-first (entry .pre .stored) (c .before .before .loop .j) (c .before .loop-test .taken);
+    }
 
 mul-dep : tie.Need-mul-dep Inv-loop μ-loop
 mul-dep c = search needs
@@ -68,14 +67,14 @@ loop-again : tie.Need-loop-again Inv-loop μ-loop
 loop-again c =
     let entry = c .before .before .before .before .before .before .before in
     let at-loop = c .before .before .before .loop in
-    let few = entry .pre .0 .few in
+    let few = entry .pre .stored .few in
     let is =
     c .depends .ensures
     ∙ ap₂ (λ (x y : Goal). depW (entry .args .tab .now) (asWords x) (asWords y)) (c .before .before .before .before .goal-at .ensures)
     (c .before .goal-at2 .ensures) in (
       omega arith,
       row-more (entry .args .i) (shares (entry .args .tab .now) (entry .args .ws .now) (entry .args .i)) _ _ (at-loop .j) _
-          (omega (arith, entry .pre .1)) (omega (arith, c .before .before .loop-test .taken)) (at-loop .inv .1) is,
+          (omega (arith, entry .pre .row)) (omega (arith, c .before .before .loop-test .taken)) (at-loop .inv .1) is,
     )
 
 returns : tie.Need-returns Inv-loop μ-loop

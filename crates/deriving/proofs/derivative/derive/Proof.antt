@@ -38,18 +38,18 @@ put-born-requires c κs =
     let at-put-staying = c .before .before .before .before .before .before .before .put-staying in
     let at-put-moving = c .before .before .before .put-moving in
     let a = entry .args in
-    let z = deriv-size (a .tab .now) (a .n) (a .root .0) (a .symbol .0) (a .k) (goalsFrom (a .ws .now) (a .at) (a .goals)) in (
-      entry .pre .1 .0,
-      entry .pre .1 .1,
-      omega (
+    let z = deriv-size (a .tab .now) (a .n) (a .root .0) (a .symbol .0) (a .k) (goalsFrom (a .ws .now) (a .at) (a .goals)) in record {
+      shapes = entry .pre .1 .shapes;
+      codes = entry .pre .1 .codes;
+      room = omega (
         arith,
         z,
         at-put-staying .ensures .0,
         at-put-staying .kept .1 .1 .1 .1 .1 .0,
         at-put-moving .ensures .0,
         at-put-moving .kept .1 .1 .1 .1 .1 .1 .0,
-      ),
-    )
+      );
+    }
 
 same-length : tie.Need-same-length
 same-length c = search needs

@@ -42,7 +42,7 @@ put-fresh-requires c κs =
     let entry = c .before .before .before .before .before in
     let a = entry .args in let l = c .before .before .before .loop in
     let p = born-next (a .n) (a .root .0) (a .k) (l .i) (c .before .before .loop-test .taken) in (
-      entry .pre .0,
+      entry .pre .shapes,
       omega (
         arith,
         ap length p,

@@ -40,7 +40,7 @@ put-goal-requires : tie.Need-put-goal-requires Inv-loop μ-loop
 put-goal-requires c κs =
     let entry = c .before .before .before .before .before .before .before .before .before in
     let at-loop = c .before .before .before .before .before .before .loop in
-    let l = at-loop in omega (arith, entry .pre .2, c .before .before .before .before .before .loop-test .taken, l .inv .2, l .inv .3)
+    let l = at-loop in omega (arith, entry .pre .1, c .before .before .before .before .before .loop-test .taken, l .inv .2, l .inv .3)
 
 add-next : tie.Need-add-next Inv-loop μ-loop
 add-next c = search needs

@@ -49,7 +49,12 @@ meet-all-requires c κs =
     let entry =
     c .before .before .before .before .before .before .before .before .before .before .before .before .before .before .before .before .before .before in
     let at-part = c .before .before .before .before .before .before .before .before .before .part in
-    (entry .pre .0, at-part .ensures .squared, at-part .ensures .rows-named, symbol-base (entry .args .symbols .now) (at-part .ensures))
+    record {
+      kept = entry .pre .0;
+      squared = at-part .ensures .squared;
+      named = at-part .ensures .rows-named;
+      low = symbol-base (entry .args .symbols .now) (at-part .ensures);
+    }
 
 same-length : tie.Need-same-length
 same-length c = c .before .before .meet-all .kept .0

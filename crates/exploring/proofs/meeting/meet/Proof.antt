@@ -17,12 +17,12 @@ slice-aggregate-put-class c = search needs
 put-class-requires : tie.Need-put-class-requires
 put-class-requires c κs =
     let entry = c .before .before .before in
-    (entry .pre .1, entry .pre .2, class-room (entry .pre .1) (entry .args .r))
+    record { squared = entry .pre .squared; row = entry .pre .row; room = class-room (entry .pre .squared) (entry .args .r) }
 
 returns : tie.Need-returns
 returns c =
     let entry = c .before .before .before .before .before .before in (
-      class-big (entry .pre .1) (entry .args .r) _ _ _ (c .before .before .put-class .ensures) (entry .args .scratch .now) (entry .args .m)
+      class-big (entry .pre .squared) (entry .args .r) _ _ _ (c .before .before .put-class .ensures) (entry .args .scratch .now) (entry .args .m)
           (c .if1 .taken),
       refl,
     )
@@ -34,7 +34,10 @@ slice-aggregate-lift-class-2 : tie.Need-slice-aggregate-lift-class-2
 slice-aggregate-lift-class-2 c = search needs
 
 lift-class-requires : tie.Need-lift-class-requires
-lift-class-requires c κs = omega (arith, c .before .before .if1 .left, c .before .before .before .before .put-class .kept .1 .1 .1 .1 .0)
+lift-class-requires c κs =
+    let at-if1 = c .before .before .if1 in
+    let at-put-class = c .before .before .before .before .put-class in
+    (record { few = omega (arith, at-if1 .left); room = omega (arith, at-if1 .left, at-put-class .kept .1 .1 .1 .1 .0) }, omega (arith, at-if1 .left))
 
 slice-aggregate-find-state : tie.Need-slice-aggregate-find-state
 slice-aggregate-find-state c = search needs
@@ -43,7 +46,7 @@ find-state-requires : tie.Need-find-state-requires
 find-state-requires c κs =
     let entry = c .before .before .before .before .before .before .before .before .before .before .before .before in
     let at-if1 = c .before .before .before .before .before .before .if1 in
-    (entry .pre .0, at-if1 .left, omega (arith, at-if1 .left, c .before .before .before .lift-class .kept .1 .1 .0))
+    (entry .pre .kept, record { few = at-if1 .left; room = omega (arith, at-if1 .left, c .before .before .before .lift-class .kept .1 .1 .0) })
 
 same-length : tie.Need-same-length
 same-length c = search needs
@@ -54,9 +57,9 @@ returns-2 c =
     let at-put-class = c .before .before .before .before .before .before .before .before .before .before .put-class in
     let at-if1 = c .before .before .before .before .before .before .before .before .if1 in
     let l =
-    class-lifted (entry .pre .1) (entry .args .r) _ _ _ _ _ _ (at-put-class .ensures) refl (at-if1 .left)
+    class-lifted (entry .pre .squared) (entry .args .r) _ _ _ _ _ _ (at-put-class .ensures) refl (at-if1 .left)
     (c .before .before .before .before .before .lift-class .ensures) refl in
-    (met-known (entry .pre .0) l (at-if1 .left) (c .before .find-state .ensures) (c .if2 .taken), refl)
+    (met-known (entry .pre .kept) l (at-if1 .left) (c .before .find-state .ensures) (c .if2 .taken), refl)
 
 same-length-2 : tie.Need-same-length-2
 same-length-2 c = search needs
@@ -68,8 +71,8 @@ returns-3 c =
     let at-if1 = c .before .before .before .before .before .before .before .before .before .if1 in
     let at-lift-class = c .before .before .before .before .before .before .lift-class in
     let l =
-    class-lifted (entry .pre .1) (entry .args .r) _ _ _ _ _ _ (at-put-class .ensures) refl (at-if1 .left) (at-lift-class .ensures) refl in
-    (met-full (entry .pre .0) l (at-if1 .left) (c .before .before .find-state .ensures) (c .before .if2 .left) (c .if3 .taken), refl)
+    class-lifted (entry .pre .squared) (entry .args .r) _ _ _ _ _ _ (at-put-class .ensures) refl (at-if1 .left) (at-lift-class .ensures) refl in
+    (met-full (entry .pre .kept) l (at-if1 .left) (c .before .before .find-state .ensures) (c .before .if2 .left) (c .if3 .taken), refl)
 
 slice-aggregate-add-state : tie.Need-slice-aggregate-add-state
 slice-aggregate-add-state c = search needs
@@ -94,8 +97,8 @@ returns-4 c =
     let at-find-state = c .before .before .before .before .before .before .before .find-state in
     let at-if2 = c .before .before .before .before .before .before .if2 in
     let l =
-    class-lifted (entry .pre .1) (entry .args .r) _ _ _ _ _ _ (at-put-class .ensures) refl (at-if1 .left) (at-lift-class .ensures) refl in
-    met-new (entry .pre .0) l (at-if1 .left) (at-find-state .ensures) (at-if2 .left) (c .before .before .before .before .before .if3 .left)
+    class-lifted (entry .pre .squared) (entry .args .r) _ _ _ _ _ _ (at-put-class .ensures) refl (at-if1 .left) (at-lift-class .ensures) refl in
+    met-new (entry .pre .kept) l (at-if1 .left) (at-find-state .ensures) (at-if2 .left) (c .before .before .before .before .before .if3 .left)
     _ (c .before .before .add-state .ensures) (omega (arith, at-if1 .left, at-lift-class .kept .1 .1 .0))
 
 pub meet-spec : {M : Type 1} → statement M

@@ -20,7 +20,7 @@ abbrev μ-loop : tie.MeasureT-loop
 loop-holds : tie.Need-loop-holds Inv-loop μ-loop
 loop-holds c =
     let entry = c .before .before .before in
-    meeting-begin (entry .pre .0)
+    meeting-begin (entry .pre .kept)
 
 mul-meet : tie.Need-mul-meet Inv-loop μ-loop
 mul-meet c = search needs
@@ -35,7 +35,11 @@ meet-requires : tie.Need-meet-requires Inv-loop μ-loop
 meet-requires c κs =
     let entry = c .before .before .before .before .before .before .before in
     let at-loop = c .before .before .before .loop in
-    (at-loop .inv .kept, entry .pre .1, entry .pre .2 .low (at-loop .j) (c .before .before .loop-test .taken))
+    record {
+      kept = at-loop .inv .kept;
+      squared = entry .pre .squared;
+      row = entry .pre .named .low (at-loop .j) (c .before .before .loop-test .taken);
+    }
 
 enum-known-all : tie.Need-enum-known-all Inv-loop μ-loop
 enum-known-all c = search needs
@@ -49,7 +53,7 @@ add-words c =
     let s =
     meeting-on (at-loop .inv) (at-loop-test .taken) _ (at-meet .result) _ _ (c .before .all .given .1) (at-meet .ensures .0)
     (at-meet .ensures .1) (at-meet .kept .0) in
-    omega (arith, s .sum, s .below, entry .pre .2 .short, entry .pre .3)
+    omega (arith, s .sum, s .below, entry .pre .named .short, entry .pre .low)
 
 enum-known-reason : tie.Need-enum-known-reason Inv-loop μ-loop
 enum-known-reason c = search needs
@@ -90,7 +94,7 @@ same-length-2 c = c .before .loop .inv .long
 returns-2 : tie.Need-returns-2 Inv-loop μ-loop
 returns-2 c =
     let entry = c .before .before .before .before .before in
-    (meeting-end (c .before .loop .inv) (c .loop-test .left) (entry .pre .2 .short), c .before .loop .inv .behind)
+    (meeting-end (c .before .loop .inv) (c .loop-test .left) (entry .pre .named .short), c .before .loop .inv .behind)
 
 pub meet-all-spec : {M : Type 1} → statement M
 meet-all-spec =

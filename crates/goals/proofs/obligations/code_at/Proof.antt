@@ -1,4 +1,5 @@
 use Rattle.goals.proofs.GoalLaws.{word-mul}
+use Rattle.goals.specs.GoalWords.{powersAt}
 use lib.ListN.{length, getD, drop, set, length-set}
 use Prim.Native.Nat.{ℕ, _≤_, _<_, _+_, _-_, _*_, _/_, _%_, _^_}
 use mathlib.Core.Path.{_≡_, refl, ap, ap₂, sym, _∙_}
@@ -33,15 +34,15 @@ shared-slice-read-result c = search needs
 cast-result-2 : tie.Need-cast-result-2
 cast-result-2 c =
     let entry = c .before .before .before in
-    omega (arith, c .shared-slice-known .given (256 + (16 * entry .args .g .shape .0 + entry .args .r)))
+    omega (arith, c .shared-slice-known .given (powersAt + (16 * entry .args .g .shape .0 + entry .args .r)))
 
 mul-result-2 : tie.Need-mul-result-2
 mul-result-2 c =
     let entry = c .before .before .before in
     omega (
       arith,
-      word-mul (entry .args .g .at .0) (getD (entry .args .tab .now) (256 + (16 * entry .args .g .shape .0 + entry .args .r)) 0)
-          (omega arith) (omega (arith, c .shared-slice-known .given (256 + (16 * entry .args .g .shape .0 + entry .args .r)))),
+      word-mul (entry .args .g .at .0) (getD (entry .args .tab .now) (powersAt + (16 * entry .args .g .shape .0 + entry .args .r)) 0)
+          (omega arith) (omega (arith, c .shared-slice-known .given (powersAt + (16 * entry .args .g .shape .0 + entry .args .r)))),
     )
 
 mul-result-3 : tie.Need-mul-result-3
@@ -62,8 +63,8 @@ add-result-2 c =
       arith,
       c .shared-slice-known2 .given (16 * entry .args .g .shape .0 + entry .args .r),
       word-mul (entry .args .g .at .0)
-          (getD (entry .args .tab .now) (256 + (16 * entry .args .g .shape .0 + entry .args .r)) 0) (omega arith)
-          (omega (arith, c .before .shared-slice-known .given (256 + (16 * entry .args .g .shape .0 + entry .args .r)))),
+          (getD (entry .args .tab .now) (powersAt + (16 * entry .args .g .shape .0 + entry .args .r)) 0) (omega arith)
+          (omega (arith, c .before .shared-slice-known .given (powersAt + (16 * entry .args .g .shape .0 + entry .args .r)))),
     )
 
 returns : tie.Need-returns

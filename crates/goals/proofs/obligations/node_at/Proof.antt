@@ -1,7 +1,7 @@
 use mathlib.Core.Logic.{⊎-elim}
 use mathlib.Core.Path.{_≡_, refl, ap, ap₂, sym, _∙_}
 use Rattle.goals.proofs.GoalLaws.{node-here, node-other, node-off, node-end}
-use Rattle.goals.specs.GoalWords.{nodeFrom, nodeAt, sizeOf, codeAt, Tabled}
+use Rattle.goals.specs.GoalWords.{nodeFrom, nodeAt, sizeOf, sizesAt, codeAt, Tabled}
 use lib.ListN.{length, getD, drop, set, length-set}
 use Prim.Native.Nat.{ℕ, _≤_, _<_, _+_, _-_, _*_, _/_, _%_, _^_}
 use mathlib.Core.Path.{_≡_, refl, ap, sym, _∙_}
@@ -37,7 +37,7 @@ shared-slice-read-left : tie.Need-shared-slice-read-left Inv-loop μ-loop
 shared-slice-read-left c = search needs
 
 cast-left-2 : tie.Need-cast-left-2 Inv-loop μ-loop
-cast-left-2 c = omega (arith, c .shared-slice-known2 .given (512 + 16 * c .before .before .before .args .g .shape .0))
+cast-left-2 c = omega (arith, c .shared-slice-known2 .given (sizesAt + 16 * c .before .before .before .args .g .shape .0))
 
 loop-holds : tie.Need-loop-holds Inv-loop μ-loop
 loop-holds c = (omega arith, refl)
@@ -45,7 +45,11 @@ loop-holds c = (omega arith, refl)
 code-at-requires : tie.Need-code-at-requires Inv-loop μ-loop
 code-at-requires c κs =
     let entry = c .before .before .before .before .before .before in
-    (entry .pre .0, entry .pre .1, omega (arith, entry .pre .0 .sizes (entry .args .g .shape .0) (entry .pre .1)))
+    record {
+      tabled = entry .pre .0;
+      shape = entry .pre .1;
+      node = omega (arith, entry .pre .0 .sizes (entry .args .g .shape .0) (entry .pre .1));
+    }
 
 cast-if2 : tie.Need-cast-if2 Inv-loop μ-loop
 cast-if2 c = search needs

@@ -1,6 +1,6 @@
 use mathlib.Core.Path.{_≡_, refl, ap, ap₂, sym, _∙_}
 use Rattle.goals.proofs.GoalLaws.{owed-on, owed-off, owed-end, run-on}
-use Rattle.goals.specs.GoalWords.{owedFrom, owedBy, sizeOf, codeAt, Tabled}
+use Rattle.goals.specs.GoalWords.{owedFrom, owedBy, sizeOf, sizesAt, codeAt, Tabled}
 use Rattle.goals.specs.GoalKinds.{asWords}
 use mathlib.Core.Logic.{⊎-elim}
 use lib.Seq.{sets}
@@ -11,7 +11,7 @@ use native.Mathlib.Omega.{arith}
 use borrow.Author.Needs.{needs}
 use Rattle.goals.proofs.obligations.owed.Statement.{statement}
 use Rattle.goals.proofs.obligations.owed.Tie as tie
-use Rattle.goals.specs.GoalWords.{owedFrom, owedBy, sizeOf, codeAt, Tabled}
+use Rattle.goals.specs.GoalWords.{owedFrom, owedBy, sizeOf, sizesAt, codeAt, Tabled}
 use Rattle.goals.specs.GoalKinds.{asWords}
 use Rattle.goals.proofs.obligations.owed.Reads as reads
 use Rattle.goals.proofs.obligations.owed.Lts as lts
@@ -42,7 +42,7 @@ shared-slice-read-left : tie.Need-shared-slice-read-left Inv-loop μ-loop
 shared-slice-read-left c = search needs
 
 cast-left-2 : tie.Need-cast-left-2 Inv-loop μ-loop
-cast-left-2 c = omega (arith, c .shared-slice-known2 .given (512 + 16 * c .before .before .before .before .args .g .shape .0))
+cast-left-2 c = omega (arith, c .shared-slice-known2 .given (sizesAt + 16 * c .before .before .before .before .args .g .shape .0))
 
 loop-holds : tie.Need-loop-holds Inv-loop μ-loop
 loop-holds c = (refl, omega arith, omega arith, omega arith, refl)
@@ -50,27 +50,31 @@ loop-holds c = (refl, omega arith, omega arith, omega arith, refl)
 code-at-requires : tie.Need-code-at-requires Inv-loop μ-loop
 code-at-requires c κs =
     let entry = c .before .before .before .before .before .before .before in
-    (entry .pre .0, entry .pre .1, omega (arith, entry .pre .0 .sizes (entry .args .g .shape .0) (entry .pre .1)))
+    record {
+      tabled = entry .pre .tabled;
+      shape = entry .pre .shape;
+      node = omega (arith, entry .pre .tabled .sizes (entry .args .g .shape .0) (entry .pre .shape));
+    }
 
 mul-out : tie.Need-mul-out Inv-loop μ-loop
 mul-out c =
     let entry = c .before .before .before .before .before .before .before .before in
-    omega (arith, entry .pre .0 .sizes (entry .args .g .shape .0) (entry .pre .1))
+    omega (arith, entry .pre .tabled .sizes (entry .args .g .shape .0) (entry .pre .shape))
 
 slice-write-out : tie.Need-slice-write-out Inv-loop μ-loop
 slice-write-out c =
     let entry = c .before .before .before .before .before .before .before .before in
-    omega (arith, entry .pre .0 .sizes (entry .args .g .shape .0) (entry .pre .1))
+    omega (arith, entry .pre .tabled .sizes (entry .args .g .shape .0) (entry .pre .shape))
 
 add-k : tie.Need-add-k Inv-loop μ-loop
 add-k c =
     let entry = c .before .before .before .before .before .before .before .before in
-    omega (arith, entry .pre .0 .sizes (entry .args .g .shape .0) (entry .pre .1))
+    omega (arith, entry .pre .tabled .sizes (entry .args .g .shape .0) (entry .pre .shape))
 
 add-r : tie.Need-add-r Inv-loop μ-loop
 add-r c =
     let entry = c .before .before .before .before .before .before .before in
-    omega (arith, entry .pre .0 .sizes (entry .args .g .shape .0) (entry .pre .1))
+    omega (arith, entry .pre .tabled .sizes (entry .args .g .shape .0) (entry .pre .shape))
 
 sub-left : tie.Need-sub-left Inv-loop μ-loop
 sub-left c = search needs

@@ -41,7 +41,7 @@ part-common-end c =
       arith,
       at-owed .ensures .0,
       owed-short (a .tab .now) (a .g .shape .0) (a .g .at .0) (sizeOf (a .tab .now) (a .g .shape .0)) 0 (a .g .mask),
-      entry .pre .0 .sizes (a .g .shape .0) (entry .pre .1),
+      entry .pre .tabled .sizes (a .g .shape .0) (entry .pre .one),
       at-owed .kept .1 .1 .0,
     )
 
@@ -61,7 +61,7 @@ part-common-end-2 c =
       at-owed2 .ensures .0,
       owed-short (a .tab .now) (a .h .shape .0) (a .h .at .0) (sizeOf (a .tab .now) (a .h .shape .0)) 0
           (a .h .mask),
-      entry .pre .0 .sizes (a .h .shape .0) (entry .pre .2),
+      entry .pre .tabled .sizes (a .h .shape .0) (entry .pre .other),
       at-owed2 .kept .1 .1 .0,
     )
 
@@ -83,14 +83,14 @@ returns c =
     (omega (
       arith,
       owed-short (a .tab .now) (a .g .shape .0) (a .g .at .0) (sizeOf (a .tab .now) (a .g .shape .0)) 0 (a .g .mask),
-      entry .pre .0 .sizes (a .g .shape .0) (entry .pre .1),
+      entry .pre .tabled .sizes (a .g .shape .0) (entry .pre .one),
     )) (at-owed .ensures .0))
     (ap (λ l. take (at-owed2 .result - 0) (drop 0 l)) (at-owed2 .ensures .1)
     ∙ front zs ys (at-owed2 .result)
     (omega (
       arith,
       owed-short (a .tab .now) (a .h .shape .0) (a .h .at .0) (sizeOf (a .tab .now) (a .h .shape .0)) 0 (a .h .mask),
-      entry .pre .0 .sizes (a .h .shape .0) (entry .pre .2),
+      entry .pre .tabled .sizes (a .h .shape .0) (entry .pre .other),
     )) (at-owed2 .ensures .0))
 
 pub share-spec : {M : Type 1} → statement M

@@ -73,7 +73,7 @@ loop-again c =
       length-set (l .scratch) (128 + 96 * entry .args .m + l .i) _ ∙ l .inv .1,
       l .inv .2
           ∙ store-next (l .scratch) (entry .args .ws .now) (128 + 96 * entry .args .m) (3 * entry .args .n) (l .i) (c .before .loop-test .taken)
-          (entry .pre .3),
+          (omega (arith, entry .pre .goals .room)),
     )
 
 same-length : tie.Need-same-length Inv-loop μ-loop

@@ -48,7 +48,7 @@ same-state-requires : tie.Need-same-state-requires Inv-loop μ-loop
 same-state-requires c κs =
     let entry = c .before .before .before .before .before in
     let k = entry .pre .0 .counts (c .before .before .loop .i) (c .before .loop-test .taken) in
-    let l = entry .pre .0 .long in let f = entry .pre .0 .few in omega (arith, k, l, f)
+    let l = entry .pre .0 .long in let f = entry .pre .0 .few in (entry .pre .1, record { few = k; room = omega (arith, k, l, f) })
 
 returns : tie.Need-returns Inv-loop μ-loop
 returns c =

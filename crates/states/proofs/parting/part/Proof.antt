@@ -63,7 +63,7 @@ class-order-requires c κs =
     c .before .before .before .before .before .before .before .before .before .before .before .before .before .before .before .before .before .before .before .before .before .before .before .before in
     let at-derive = c .before .before .before .before .before .before .before .before .derive in
     let s = derived (entry .pre .0) _ _ _ (at-derive .ensures) (entry .pre .1 .room) .stored in
-    (s, c .before .before .before .dependency .ensures .square, omega (arith, s .few, entry .pre .1 .rows))
+    record { stored = s; square = c .before .before .before .dependency .ensures .square; room = omega (arith, s .few, entry .pre .1 .rows) }
 
 same-length : tie.Need-same-length
 same-length c = search needs

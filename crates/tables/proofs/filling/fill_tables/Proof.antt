@@ -5,7 +5,7 @@ use mathlib.Core.List.{List, [], _∷_}
 use Prim.Native.Nat.{ℕ, suc, _≤_, _<_, _+_, _-_, _*_}
 use lib.Seq.{sets}
 use lib.ListN.{length, getD, set, length-set}
-use Rattle.tables.specs.ShapeTables.{entryW, entriesFrom}
+use Rattle.tables.specs.ShapeTables.{entryW, entriesFrom, tableWords}
 use Rattle.tables.proofs.TableLaws.{entries-next, entries-end}
 use borrow.Author.Needs.{needs}
 use Rattle.tables.proofs.filling.fill_tables.Statement.{statement}
@@ -13,11 +13,11 @@ use Rattle.tables.proofs.filling.fill_tables.Tie as tie
 
 abbrev Inv-loop : tie.InvT-loop
 Inv-loop symbols words starts tab₀ k₀ tab k =
-    (k ≤ 1280) × (length tab ≡ length tab₀)
-    × (sets tab₀ 0 (entriesFrom symbols words starts 0 1280) ≡ sets tab k (entriesFrom symbols words starts k (1280 - k)))
+    (k ≤ tableWords) × (length tab ≡ length tab₀)
+    × (sets tab₀ 0 (entriesFrom symbols words starts 0 tableWords) ≡ sets tab k (entriesFrom symbols words starts k (tableWords - k)))
 
 abbrev μ-loop : tie.MeasureT-loop
-μ-loop symbols words starts tab₀ k₀ tab k = 1280 - k
+μ-loop symbols words starts tab₀ k₀ tab k = tableWords - k
 
 loop-holds : tie.Need-loop-holds Inv-loop μ-loop
 loop-holds c = (omega arith, refl, refl)
@@ -42,11 +42,11 @@ loop-again c =
     let entry = c .before .before .before .before .before .before .before in
     let a = entry .args in
     let l = c .before .before .loop in
-    let h : 0 < 1280 - l .k = omega (arith, c .before .loop-test .taken) in let d : 1280 - l .k - 1 ≡ 1280 - (l .k + 1) = omega arith in (
+    let h : 0 < tableWords - l .k = omega (arith, c .before .loop-test .taken) in let d : tableWords - l .k - 1 ≡ tableWords - (l .k + 1) = omega arith in (
       omega arith,
       length-set (l .tab) (l .k) _ ∙ l .inv .1,
       l .inv .2
-          ∙ ap (sets (l .tab) (l .k)) (entries-next (a .symbols .now) (a .words .now) (a .starts .now) (l .k) (1280 - l .k) h)
+          ∙ ap (sets (l .tab) (l .k)) (entries-next (a .symbols .now) (a .words .now) (a .starts .now) (l .k) (tableWords - l .k) h)
           ∙ rw (d, c .table-word .ensures, add-one (l .k)) refl,
     )
 
@@ -59,7 +59,7 @@ returns c =
     let a = entry .args in
     let l = c .before .loop in
     sym (l .inv .2 ∙ ap (sets (l .tab) (l .k))
-    (entries-end (a .symbols .now) (a .words .now) (a .starts .now) (l .k) (1280 - l .k) (omega (arith, c .loop-test .left))))
+    (entries-end (a .symbols .now) (a .words .now) (a .starts .now) (l .k) (tableWords - l .k) (omega (arith, c .loop-test .left))))
 
 pub fill-tables-spec : {M : Type 1} → statement M
 fill-tables-spec =

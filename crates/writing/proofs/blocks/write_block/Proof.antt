@@ -23,7 +23,7 @@ slice-aggregate-part-3 c = search needs
 part-requires : tie.Need-part-requires
 part-requires c κs =
     let entry = c .before .before .before .before .before .before .before .before in
-    (entry .pre .1, record { outs = omega arith; room = omega arith; square = empty-square; rows = omega arith })
+    (entry .pre .on, record { outs = omega arith; room = omega arith; square = empty-square; rows = omega arith })
 
 cast-from : tie.Need-cast-from
 cast-from c = search needs
@@ -47,11 +47,11 @@ write-outputs-requires : tie.Need-write-outputs-requires
 write-outputs-requires c κs =
     let entry =
     c .before .before .before .before .before .before .before .before .before .before .before .before .before .before .before .before in
-    let at-part = c .before .before .before .before .before .before .before .part in (
-      at-part .ensures .out-named,
-      state-room (entry .pre .1),
-      out-room (entry .pre .1) (entry .args .m) (at-part .ensures) (entry .args .plan .now) (entry .args .at) (entry .pre .3),
-    )
+    let at-part = c .before .before .before .before .before .before .before .part in record {
+      named = at-part .ensures .out-named;
+      state = state-room (entry .pre .on);
+      room = out-room (entry .pre .on) (entry .args .m) (at-part .ensures) (entry .args .plan .now) (entry .args .at) (entry .pre .room);
+    }
 
 slice-aggregate-write-successors : tie.Need-slice-aggregate-write-successors
 slice-aggregate-write-successors c = search needs
@@ -73,14 +73,14 @@ write-successors-requires c κs =
     c .before .before .before .before .before .before .before .before .before .before .before .before .before .before .before .part in
     let at-write-outputs = c .before .before .before .before .before .before .before .write-outputs in
     let room =
-    succ-room (entry .pre .1) (entry .args .m) (at-part .ensures) (entry .args .plan .now) (entry .args .at) (entry .pre .3) _ _
-    (at-write-outputs .ensures) in (
-      entry .pre .0,
-      at-part .ensures .squared,
-      at-part .ensures .rows-named,
-      class-small (entry .pre .1) (entry .args .m) (at-part .ensures) (entry .pre .2),
-      room,
-    )
+    succ-room (entry .pre .on) (entry .args .m) (at-part .ensures) (entry .args .plan .now) (entry .args .at) (entry .pre .room) _ _
+    (at-write-outputs .ensures) in record {
+      kept = entry .pre .kept;
+      squared = at-part .ensures .squared;
+      named = at-part .ensures .rows-named;
+      small = class-small (entry .pre .on) (entry .args .m) (at-part .ensures) (entry .pre .small);
+      room = room;
+    }
 
 same-length : tie.Need-same-length
 same-length c = search needs
@@ -92,7 +92,7 @@ returns c =
     let at-part =
     c .before .before .before .before .before .before .before .before .before .before .before .before .before .before .before .before .before .before .part in
     let at-write-outputs = c .before .before .before .before .before .before .before .before .before .before .write-outputs in
-    block-put (entry .pre .1) (entry .args .m) (at-part .ensures) (entry .args .plan .now) (entry .args .at) (entry .pre .3) _ _
+    block-put (entry .pre .on) (entry .args .m) (at-part .ensures) (entry .args .plan .now) (entry .args .at) (entry .pre .room) _ _
     (at-write-outputs .ensures) _ _ (c .before .before .write-successors .ensures)
 
 pub write-block-spec : {M : Type 1} → statement M

@@ -39,25 +39,25 @@ shared-slice-read-g : tie.Need-shared-slice-read-g Inv-loop μ-loop
 shared-slice-read-g c = search needs
 
 cast-g : tie.Need-cast-g Inv-loop μ-loop
-cast-g c = omega (arith, c .before .before .before .pre .0 .low (c .before .before .loop .j) (c .before .loop-test .taken))
+cast-g c = omega (arith, c .before .before .before .pre .named .low (c .before .before .loop .j) (c .before .loop-test .taken))
 
 mul-g-2 : tie.Need-mul-g-2 Inv-loop μ-loop
-mul-g-2 c = omega (arith, c .before .before .before .pre .0 .low (c .before .before .loop .j) (c .before .loop-test .taken))
+mul-g-2 c = omega (arith, c .before .before .before .pre .named .low (c .before .before .loop .j) (c .before .loop-test .taken))
 
 add-g : tie.Need-add-g Inv-loop μ-loop
 add-g c =
     let entry = c .before .before .before in
-    omega (arith, entry .pre .0 .low (c .before .before .loop .j) (c .before .loop-test .taken), entry .pre .1)
+    omega (arith, entry .pre .named .low (c .before .before .loop .j) (c .before .loop-test .taken), entry .pre .state)
 
 mul-plan-2 : tie.Need-mul-plan-2 Inv-loop μ-loop
 mul-plan-2 c =
     let entry = c .before .before .before in
-    omega (arith, entry .pre .0 .low (c .before .before .loop .j) (c .before .loop-test .taken), entry .pre .1)
+    omega (arith, entry .pre .named .low (c .before .before .loop .j) (c .before .loop-test .taken), entry .pre .state)
 
 shared-slice-read-plan : tie.Need-shared-slice-read-plan Inv-loop μ-loop
 shared-slice-read-plan c =
     let entry = c .before .before .before .before in
-    omega (arith, entry .pre .0 .low (c .before .before .before .loop .j) (c .before .before .loop-test .taken), entry .pre .1)
+    omega (arith, entry .pre .named .low (c .before .before .before .loop .j) (c .before .before .loop-test .taken), entry .pre .state)
 
 mul-plan-3 : tie.Need-mul-plan-3 Inv-loop μ-loop
 mul-plan-3 c =
@@ -65,7 +65,7 @@ mul-plan-3 c =
     omega (
       arith,
       paired-room (c .before .before .before .loop .inv) (c .before .before .loop-test .taken) (entry .args .plan .now) refl
-          (entry .pre .2),
+          (entry .pre .room),
     )
 
 slice-write-plan-2 : tie.Need-slice-write-plan-2 Inv-loop μ-loop
@@ -74,23 +74,23 @@ slice-write-plan-2 c =
     omega (
       arith,
       paired-room (c .before .before .before .loop .inv) (c .before .before .loop-test .taken) (entry .args .plan .now) refl
-          (entry .pre .2),
+          (entry .pre .room),
     )
 
 add-plan : tie.Need-add-plan Inv-loop μ-loop
 add-plan c =
     let entry = c .before .before .before .before in
-    omega (arith, entry .pre .0 .low (c .before .before .before .loop .j) (c .before .before .loop-test .taken), entry .pre .1)
+    omega (arith, entry .pre .named .low (c .before .before .before .loop .j) (c .before .before .loop-test .taken), entry .pre .state)
 
 mul-plan-4 : tie.Need-mul-plan-4 Inv-loop μ-loop
 mul-plan-4 c =
     let entry = c .before .before .before .before in
-    omega (arith, entry .pre .0 .low (c .before .before .before .loop .j) (c .before .before .loop-test .taken), entry .pre .1)
+    omega (arith, entry .pre .named .low (c .before .before .before .loop .j) (c .before .before .loop-test .taken), entry .pre .state)
 
 shared-slice-read-plan-2 : tie.Need-shared-slice-read-plan-2 Inv-loop μ-loop
 shared-slice-read-plan-2 c =
     let entry = c .before .before .before .before .before in
-    omega (arith, entry .pre .0 .low (c .before .before .before .before .loop .j) (c .before .before .before .loop-test .taken), entry .pre .1)
+    omega (arith, entry .pre .named .low (c .before .before .before .before .loop .j) (c .before .before .before .loop-test .taken), entry .pre .state)
 
 add-plan-2 : tie.Need-add-plan-2 Inv-loop μ-loop
 add-plan-2 c =
@@ -98,7 +98,7 @@ add-plan-2 c =
     omega (
       arith,
       paired-room (c .before .before .before .before .loop .inv) (c .before .before .before .loop-test .taken) (entry .args .plan .now)
-          refl (entry .pre .2),
+          refl (entry .pre .room),
     )
 
 mul-plan-5 : tie.Need-mul-plan-5 Inv-loop μ-loop
@@ -107,7 +107,7 @@ mul-plan-5 c =
     let at-loop = c .before .before .before .before .loop in
     omega (
       arith,
-      paired-room (at-loop .inv) (c .before .before .before .loop-test .taken) (entry .args .plan .now) refl (entry .pre .2),
+      paired-room (at-loop .inv) (c .before .before .before .loop-test .taken) (entry .args .plan .now) refl (entry .pre .room),
       length-set
           (at-loop .plan) (at-loop .here)
           (getD (entry .args .scratch .now) (entry .args .from + 3 * (getD (entry .args .out .now) (at-loop .j) 0 % 128)) 0),
@@ -119,7 +119,7 @@ slice-write-plan-3 c =
     let at-loop = c .before .before .before .before .loop in
     omega (
       arith,
-      paired-room (at-loop .inv) (c .before .before .before .loop-test .taken) (entry .args .plan .now) refl (entry .pre .2),
+      paired-room (at-loop .inv) (c .before .before .before .loop-test .taken) (entry .args .plan .now) refl (entry .pre .room),
       length-set
           (at-loop .plan) (at-loop .here)
           (getD (entry .args .scratch .now) (entry .args .from + 3 * (getD (entry .args .out .now) (at-loop .j) 0 % 128)) 0),
@@ -131,7 +131,7 @@ add-here-2 c =
     omega (
       arith,
       paired-room (c .before .before .before .before .loop .inv) (c .before .before .before .loop-test .taken) (entry .args .plan .now)
-          refl (entry .pre .2),
+          refl (entry .pre .room),
     )
 
 add-j : tie.Need-add-j Inv-loop μ-loop

@@ -63,12 +63,12 @@ slice-write-plan c =
 
 write-block-requires : tie.Need-write-block-requires Inv-loop μ-loop
 write-block-requires c κs =
-    let entry = c .before .before .before .before .before .before .before .before in (
-      entry .pre .held .kept,
-      on-symbol (entry .pre .held) (entry .pre .inside) _ _ (entry .pre .label) (c .before .loop-test .taken),
-      entry .pre .small,
-      rowed-fits (c .before .before .loop .inv) (c .before .loop-test .taken) (entry .pre .room),
-    )
+    let entry = c .before .before .before .before .before .before .before .before in record {
+      kept = entry .pre .held .kept;
+      on = on-symbol (entry .pre .held) (entry .pre .inside) _ _ (entry .pre .label) (c .before .loop-test .taken);
+      small = entry .pre .small;
+      room = rowed-fits (c .before .before .loop .inv) (c .before .loop-test .taken) (entry .pre .room);
+    }
 
 add-f : tie.Need-add-f Inv-loop μ-loop
 add-f c = search needs

@@ -20,7 +20,7 @@ slice-aggregate-put-class c = search needs
 put-class-requires : tie.Need-put-class-requires
 put-class-requires c κs =
     let entry = c .before .before .before .before in
-    (entry .pre .1, entry .pre .2, class-room (entry .pre .1) (entry .args .r))
+    record { squared = entry .pre .squared; row = entry .pre .row; room = class-room (entry .pre .squared) (entry .args .r) }
 
 slice-aggregate-lift-class : tie.Need-slice-aggregate-lift-class
 slice-aggregate-lift-class c = search needs
@@ -32,7 +32,10 @@ lift-class-requires : tie.Need-lift-class-requires
 lift-class-requires c κs =
     let entry = c .before .before .before .before .before .before .before .before in
     let at-put-class = c .before .before .before .put-class in
-    omega (arith, class-count (entry .pre .1) (entry .args .r) _ _ _ (at-put-class .ensures), entry .pre .3, at-put-class .kept .1 .1 .1 .1 .0)
+    let count = class-count (entry .pre .squared) (entry .args .r) _ _ _ (at-put-class .ensures) in (
+      record { few = omega (arith, count, entry .pre .small); room = omega (arith, count, entry .pre .small, at-put-class .kept .1 .1 .1 .1 .0) },
+      omega (arith, count, entry .pre .small),
+    )
 
 slice-aggregate-find-state : tie.Need-slice-aggregate-find-state
 slice-aggregate-find-state c = search needs
@@ -40,21 +43,19 @@ slice-aggregate-find-state c = search needs
 find-state-requires : tie.Need-find-state-requires
 find-state-requires c κs =
     let entry = c .before .before .before .before .before .before .before .before .before .before .before in
-    let at-put-class = c .before .before .before .before .before .before .put-class in (
-      entry .pre .0,
-      omega (arith, class-count (entry .pre .1) (entry .args .r) _ _ _ (at-put-class .ensures), entry .pre .3),
-      omega (
-        arith,
-        class-count (entry .pre .1) (entry .args .r) _ _ _ (at-put-class .ensures),
-        entry .pre .3,
-        c .before .before .lift-class .kept .1 .1 .0,
-      ),
+    let at-put-class = c .before .before .before .before .before .before .put-class in
+    let count = class-count (entry .pre .squared) (entry .args .r) _ _ _ (at-put-class .ensures) in (
+      entry .pre .kept,
+      record {
+        few = omega (arith, count, entry .pre .small);
+        room = omega (arith, count, entry .pre .small, c .before .before .lift-class .kept .1 .1 .0);
+      },
     )
 
 cast-plan : tie.Need-cast-plan
 cast-plan c =
     let entry = c .before .before .before .before .before .before .before .before .before .before .before .before in
-    omega (arith, place-small (entry .pre .0) _ _ (c .find-state .ensures))
+    omega (arith, place-small (entry .pre .kept) _ _ (c .find-state .ensures))
 
 mul-plan : tie.Need-mul-plan
 mul-plan c = search needs
@@ -71,7 +72,7 @@ mul-plan-2 c = search needs
 slice-write-plan-2 : tie.Need-slice-write-plan-2
 slice-write-plan-2 c =
     let entry = c .before .before .before .before .before .before .before .before .before .before .before .before in
-    omega (arith, entry .pre .4, length-set (entry .args .plan .now) (entry .args .at) (c .find-state .result))
+    omega (arith, entry .pre .room, length-set (entry .args .plan .now) (entry .args .at) (c .find-state .result))
 
 same-length : tie.Need-same-length
 same-length c = search needs
@@ -81,7 +82,7 @@ returns c =
     let entry = c .before .before .before .before .before .before .before .before .before .before .before .before in
     let at-put-class = c .before .before .before .before .before .before .before .put-class in
     let w =
-    successor-is (entry .pre .1) (entry .args .r) _ _ _ _ _ _ (at-put-class .ensures) refl (entry .pre .3)
+    successor-is (entry .pre .squared) (entry .args .r) _ _ _ _ _ _ (at-put-class .ensures) refl (entry .pre .small)
     (c .before .before .before .lift-class .ensures) refl (entry .args .scratch .now) (entry .args .m) _ (c .find-state .ensures) in
     two-stores (entry .args .plan .now) (entry .args .at) _ _
     ∙ ap₂ (λ x y. sets (entry .args .plan .now) (entry .args .at) (x ∷ y ∷ [])) (w .0) (w .1)

@@ -46,19 +46,19 @@ shared-slice-read-write-successor c = search needs
 cast-write-successor : tie.Need-cast-write-successor Inv-loop μ-loop
 cast-write-successor c =
     let entry = c .before .before .before .before .before .before .before in
-    omega (arith, entry .pre .2 .low (c .before .before .loop .j) (c .before .loop-test .taken))
+    omega (arith, entry .pre .named .low (c .before .before .loop .j) (c .before .loop-test .taken))
 
 write-successor-requires : tie.Need-write-successor-requires Inv-loop μ-loop
 write-successor-requires c κs =
     let entry = c .before .before .before .before .before .before .before .before in
     let at-loop = c .before .before .before .loop in
-    let at-loop-test = c .before .before .loop-test in (
-      entry .pre .0,
-      entry .pre .1,
-      entry .pre .2 .low (at-loop .j) (at-loop-test .taken),
-      entry .pre .3 (at-loop .j) (at-loop-test .taken),
-      paired-room (at-loop .inv) (at-loop-test .taken) (entry .args .plan .now) refl (entry .pre .4),
-    )
+    let at-loop-test = c .before .before .loop-test in record {
+      kept = entry .pre .kept;
+      squared = entry .pre .squared;
+      row = entry .pre .named .low (at-loop .j) (at-loop-test .taken);
+      small = entry .pre .small (at-loop .j) (at-loop-test .taken);
+      room = paired-room (at-loop .inv) (at-loop-test .taken) (entry .args .plan .now) refl (entry .pre .room);
+    }
 
 add-here-2 : tie.Need-add-here-2 Inv-loop μ-loop
 add-here-2 c =
@@ -67,7 +67,7 @@ add-here-2 c =
     omega (
       arith,
       paired-room (at-loop .inv) (c .before .before .before .before .before .loop-test .taken) (entry .args .plan .now) refl
-          (entry .pre .4),
+          (entry .pre .room),
     )
 
 add-j : tie.Need-add-j Inv-loop μ-loop
