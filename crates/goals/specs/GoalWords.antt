@@ -1,7 +1,7 @@
 -- Inside: goals as three words, and the tables of the shapes that they lean on.
 --   GoalWords     shape number, code of the announcement position, mask of the open nodes of the shape
 --   codeOf …      the five tables, 16 shapes by 16 nodes each: code of a node's position, five to the power of its depth, span, word, mask of the children that are no blanks
---   powersAt …    where each of the five begins after the codes, which stand first; tablesEnd: where the last ends
+--   powersAt …    where each of the five begins after the codes, which stand first
 --   Tabled        what code asks of the tables
 --   NodeIn        what it asks of a node of a shape; Owable: where it lists obligations; BothIn: of two shapes
 --   codeAt        the code of a node of a shape announced at a code: a · 5^depth + code
@@ -19,6 +19,7 @@ use Prim.Native.Nat.{ℕ, zero, suc, _+_, _*_, _/_, _%_, _^_, _≤_, _<_}
 use lib.Dec.{eqb, ltb}
 use lib.Bits.{bitOr, bitXor}
 use lib.ListN.{length, getD}
+use Rattle.tables.specs.ShapeTables.{areaWords, tableWords}
 
 -- shape number, code of the announcement position, mask of the open nodes of the shape
 pub record GoalWords : Type 0 where
@@ -28,20 +29,16 @@ pub record GoalWords : Type 0 where
 
 -- where the tables begin, after that of the codes: five to the power of a node's depth, its span, its word, the mask of its children
 abbrev pub powersAt : ℕ
-powersAt = 256
+powersAt = areaWords
 
 abbrev pub sizesAt : ℕ
-sizesAt = 512
+sizesAt = 2 * areaWords
 
 abbrev pub symbolsAt : ℕ
-symbolsAt = 768
+symbolsAt = 3 * areaWords
 
 abbrev pub childrenAt : ℕ
-childrenAt = 1024
-
--- where the last table ends
-abbrev pub tablesEnd : ℕ
-tablesEnd = 1280
+childrenAt = 4 * areaWords
 
 -- the tables: five areas of 16 shapes by 16 nodes
 abbrev pub codeOf : List ℕ → ℕ → ℕ → ℕ
@@ -61,7 +58,7 @@ abbrev pub kidsOf : List ℕ → ℕ → ℕ → ℕ
 kidsOf tab s r = getD tab (childrenAt + (16 * s + r)) 0
 
 pub record Tabled (tab : List ℕ) : Type 0 where
-  pub long : tablesEnd ≤ length tab
+  pub long : tableWords ≤ length tab
   pub sizes : (s : ℕ) → s < 16 → sizeOf tab s ≤ 16
 
 -- node r of shape s, both in the tables
