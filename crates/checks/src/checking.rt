@@ -1,5 +1,4 @@
 ghost use mathlib.Core.Path.{_≡_};
-ghost use Prim.Native.Nat.{ℕ};
 ghost use Rattle.checks.specs.Again.{shapesGood, scoreGood};
 use contents::Score;
 use contents::Shapes;

@@ -1,5 +1,5 @@
 ghost use mathlib.Core.Path.{_≡_};
-ghost use Prim.Native.Nat.{ℕ, _+_, _≤_};
+ghost use Prim.Native.Nat.{_+_, _≤_};
 ghost use Rattle.term.specs.Reading.{limits};
 ghost use Rattle.checks.specs.Again.{pieceAt, subtreeAt};
 use crate::Asked;

@@ -4,7 +4,7 @@
 --   Row row-…                 row i joined with row k, column by column
 --   rows-more closed-…        row by row, and third by third
 --   filled-closes             filled from a test and then closed
-use Prim.Native.Nat.{ℕ, suc, _+_, _<_, _≤_}
+use Prim.Native.Nat.{ℕ, _+_, _<_, _≤_}
 use mathlib.Core.Path.{_≡_, refl, ap, sym, _∙_}
 use mathlib.Core.List.{List, []}
 use mathlib.Core.Bool.{Bool, true, false}

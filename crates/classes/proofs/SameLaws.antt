@@ -1,16 +1,16 @@
 -- Equality of states along the words.
 use Prim.Native.Nat.{ℕ, zero, suc, _+_, _-_, _*_, _<_, _≤_}
 use mathlib.Core.Path.{_≡_, refl, ap, ap₂, sym, _∙_}
-use mathlib.Core.List.{List, [], _∷_, _++_}
-use mathlib.Core.Bool.{Bool, true, false, cond, _&&_, _||_}
+use mathlib.Core.List.{List, _∷_}
+use mathlib.Core.Bool.{true, false, _||_}
 use native.Mathlib.Omega.{arith}
-use native.Mathlib.Nat.{zero-add, add-zero, add-assoc, sub-zero}
+use native.Mathlib.Nat.{zero-add, add-zero, add-assoc}
 use native.Mathlib.Numerals.{add-one}
 use borrow.Author.Tests.{eq-eqb, ne-eqb}
 use lib.Dec.{eqb}
 use lib.ListN.{length, getD, take, drop, set}
-use lib.Seq.{sets, sets-eq, drop-cons, getD-take, getD-drop, take-append-seam, length-take-le}
-use lib.ListN.{List·getD-append, length-drop, length-take}
+use lib.Seq.{sets, sets-eq, drop-cons, getD-take, getD-drop, length-take-le}
+use lib.ListN.{List·getD-append, length-drop}
 use Rattle.goals.specs.GoalWords.{GoalWords, goalAt, goalsFrom}
 use Rattle.goals.specs.WordStages.{sameW, amongW, withinW}
 use Rattle.goals.proofs.GoalLaws.{goals-next, goals-end}

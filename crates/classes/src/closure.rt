@@ -1,4 +1,4 @@
-ghost use Prim.Native.Nat.{ℕ, _+_, _≤_};
+ghost use Prim.Native.Nat.{_≤_};
 ghost use Rattle.classes.specs.Squares.{IsSquare, RowJoinable, RowsJoinable, RowJoined, RowsJoined, ClosedUpTo};
 
 // Row i with row k's dependencies added where i depends on k.

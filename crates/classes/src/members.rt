@@ -3,7 +3,7 @@ use goals::words::put_goal;
 ghost use mathlib.Core.Path.{_≡_};
 ghost use mathlib.Core.Bool.{false};
 ghost use mathlib.Core.List.{[]};
-ghost use Prim.Native.Nat.{ℕ, _+_, _*_, _<_};
+ghost use Prim.Native.Nat.{_<_};
 ghost use lib.ListN.{getD};
 ghost use Rattle.automaton.specs.Classes.{leads};
 ghost use Rattle.goals.specs.GoalWords.{flat};

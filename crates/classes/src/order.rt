@@ -5,7 +5,6 @@ use goals::obligations::first_owed;
 use goals::obligations::padded;
 use goals::words::goal_at;
 ghost use mathlib.Core.Path.{_≡_};
-ghost use Prim.Native.Nat.{ℕ};
 ghost use Rattle.kinds.specs.Lists.{gather};
 ghost use Rattle.goals.specs.GoalWords.{owedBy, noCode, firstCode};
 ghost use Rattle.classes.specs.Squares.{RowOf, Orderable};

@@ -5,7 +5,6 @@ use goals::obligations::share;
 use goals::words::goal_at;
 ghost use mathlib.Core.Path.{_≡_};
 ghost use mathlib.Core.Bool.{true, false};
-ghost use Prim.Native.Nat.{ℕ};
 ghost use Rattle.kinds.specs.Chains.{Yes};
 ghost use Rattle.goals.specs.GoalWords.{BothIn, Stored};
 ghost use Rattle.goals.specs.GoalKinds.{asWords};

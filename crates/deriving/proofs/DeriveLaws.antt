@@ -5,20 +5,17 @@
 --   stay leave goes…        what one goal gives
 --   fresh-… born-…          fresh goals, shape by shape and child by child
 --   deriv-… three-runs      the derivative's words, pass after pass
-use Prim.Native.Nat.{ℕ, zero, suc, _+_, _-_, _*_, _/_, _%_, _^_, _<_, _≤_}
+use Prim.Native.Nat.{ℕ, suc, _+_, _-_, _*_, _<_, _≤_}
 use mathlib.Core.Path.{_≡_, refl, ap, ap₂, sym, _∙_}
-use mathlib.Core.List.{List, [], _∷_, _++_, map, append-assoc}
-use mathlib.Core.Bool.{Bool, true, false, cond}
+use mathlib.Core.List.{List, [], _∷_, _++_, map}
 use native.Mathlib.Omega.{arith}
 use native.Mathlib.Nat.{zero-add, sub-zero}
-use native.Mathlib.Numerals.{add-one}
 use borrow.Author.Tests.{eq-eqb, ne-eqb, lt-ltb, le-ltb}
-use lib.Dec.{eqb, ltb}
-use lib.ListN.{length, getD, take, drop, length-append}
+use lib.ListN.{length, length-append}
 use lib.Seq.{sets, length-sets}
 use Rattle.kinds.specs.Lists.{gather, range}
 use Rattle.kinds.proofs.ListLaws.{sets-append}
-use Rattle.goals.specs.GoalWords.{GoalWords, goalW, goalAt, goalsFrom, flat, Low, nodeAt, symOf, kidsOf, maskAfter}
+use Rattle.goals.specs.GoalWords.{GoalWords, goalAt, goalsFrom, flat, Low, nodeAt, symOf, kidsOf, maskAfter}
 use Rattle.goals.specs.GoalKinds.{asGoal, asWords}
 use Rattle.goals.specs.declared.Goal.{Goal}
 use Rattle.goals.specs.WordStages.{stays, moves, reduct, goesOn, withMask, freshW, freshesW, bornW, derivW, unexpected}

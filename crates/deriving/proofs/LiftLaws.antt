@@ -2,14 +2,13 @@
 use Prim.Native.Nat.{ℕ, zero, suc, _+_, _-_, _*_, _/_, _%_, _^_, _<_, _≤_}
 use mathlib.Core.Path.{_≡_, refl, ap, sym, _∙_}
 use mathlib.Core.List.{List, [], _∷_, map}
-use mathlib.Core.Bool.{Bool, true, false, cond}
+use mathlib.Core.Bool.{cond}
 use native.Mathlib.Omega.{arith}
 use native.Mathlib.Nat.{pow-suc, mod-le}
 use borrow.Author.Tests.{lt-ltb, le-ltb}
-use lib.Dec.{ltb}
-use lib.ListN.{length, getD}
+use lib.ListN.{getD}
 use lib.Seq.{sets}
-use Rattle.goals.specs.GoalWords.{GoalWords, goalAt, goalsFrom, flat}
+use Rattle.goals.specs.GoalWords.{GoalWords, goalsFrom, flat}
 use Rattle.goals.specs.WordStages.{leastCode, underFrom, underCode, liftW, displacementW}
 use Rattle.deriving.specs.Passes.{Lifts}
 use Rattle.goals.proofs.GoalLaws.{goals-next, goals-end, sub-one}

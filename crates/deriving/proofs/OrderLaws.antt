@@ -6,15 +6,14 @@
 --   sort-keyed                                         by key and place is by key: the earlier of two equal ones stays first
 use mathlib.Core.Path.{_≡_, refl, ap, ap₂, sym, _∙_}
 use mathlib.Core.List.{List, [], _∷_, _++_, map}
-use mathlib.Core.Bool.{Bool, true, false, cond, not, _&&_}
-use mathlib.Core.Logic.{_⊎_, inl, inr, ⊎-elim}
+use mathlib.Core.Bool.{Bool, true, false, cond}
 use Prim.Native.Nat.{ℕ, zero, suc, _+_, _-_, _*_, _%_, _<_, _≤_}
 use native.Mathlib.Omega.{arith}
 use native.Mathlib.Nat.{sub-zero}
 use native.Mathlib.Numerals.{add-one}
 use native.Mathlib.Decide.{decLt}
 use borrow.Author.Tests.{lt-ltb, le-ltb}
-use lib.Dec.{eqb, ltb}
+use lib.Dec.{ltb}
 use lib.ListN.{length, getD, take, drop, set, length-set}
 use lib.Seq.{sets, drop-cons}
 use Rattle.kinds.specs.Lists.{insert, sort, gather, range}
@@ -22,7 +21,7 @@ use Rattle.kinds.proofs.Members.{in-sort}
 use Rattle.kinds.specs.Members.{_∈_, here, there}
 use Rattle.goals.specs.GoalWords.{GoalWords, goalAt, goalsFrom, owedBy, pad, firstCode}
 use Rattle.goals.specs.WordStages.{pickedW, classKey}
-use Rattle.deriving.specs.Orders.{keyed, classAt}
+use Rattle.deriving.specs.Orders.{keyed}
 use Rattle.goals.proofs.GoalLaws.{goals-next, goals-end, first-append}
 use Rattle.deriving.proofs.SortLaws.{arranged-run}
 

@@ -10,7 +10,7 @@ use kinds::Position;
 use kinds::Shape;
 use kinds::Symbol;
 ghost use mathlib.Core.Path.{_≡_};
-ghost use Prim.Native.Nat.{ℕ, _+_, _<_, _≤_};
+ghost use Prim.Native.Nat.{_+_, _<_, _≤_};
 ghost use lib.ListN.{length};
 ghost use Rattle.goals.specs.GoalWords.{Tabled, goalsFrom, flat, Stored};
 ghost use Rattle.goals.specs.GoalKinds.{asWords};

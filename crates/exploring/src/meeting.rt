@@ -15,7 +15,7 @@ use states::keeping::add_state;
 use states::keeping::find_state;
 use states::parting::part;
 ghost use mathlib.Core.List.{List, []};
-ghost use Prim.Native.Nat.{ℕ, _<_, _≤_};
+ghost use Prim.Native.Nat.{_<_, _≤_};
 ghost use lib.ListN.{length};
 ghost use Rattle.automaton.specs.Exploring.{Block, meet as meets-one, meets, row, explored};
 ghost use Rattle.decoding.specs.WordMachine.{words as machine, stateIn, statesIn, statesWords, Kept};

@@ -1,5 +1,5 @@
 ghost use mathlib.Core.Path.{_≡_};
-ghost use Prim.Native.Nat.{ℕ, _≤_};
+ghost use Prim.Native.Nat.{_≤_};
 ghost use lib.ListN.{length, take, drop};
 ghost use Rattle.folio.specs.Holding.{Sectioned};
 ghost use Rattle.folio.specs.Opening.{lent, out, stored, held, opened};

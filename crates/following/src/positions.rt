@@ -1,5 +1,4 @@
 ghost use mathlib.Core.Path.{_≡_};
-ghost use Prim.Native.Nat.{ℕ};
 ghost use Rattle.kinds.specs.Positions.{decode};
 ghost use Rattle.following.specs.Following.{childAt, follow, target, reached};
 ghost use Rattle.following.specs.Following.{nodeOf};

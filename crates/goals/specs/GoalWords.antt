@@ -14,7 +14,7 @@
 --   labelCode     the label's code, noCode where no goal announces at the root
 --   GoalsIn       n goals lie in words, at most so many; Stored: and their shapes in the tables
 use mathlib.Core.List.{List, [], _∷_, _++_}
-use mathlib.Core.Bool.{Bool, cond}
+use mathlib.Core.Bool.{cond}
 use Prim.Native.Nat.{ℕ, zero, suc, _+_, _*_, _/_, _%_, _^_, _≤_, _<_}
 use lib.Dec.{eqb, ltb}
 use lib.Bits.{bitOr, bitXor}

@@ -3,8 +3,7 @@
 --   isAt          whether there is one
 use Prim.Native.Nat.{ℕ}
 use mathlib.Core.List.{List, [], _∷_}
-use mathlib.Core.Bool.{Bool, true, false, cond, _||_}
-use lib.Dec.{eqb}
+use mathlib.Core.Bool.{Bool, true, false}
 use Rattle.goals.specs.WordStages.{hasCode}
 use Rattle.goals.specs.declared.Shared.{Shared}
 use Rattle.goals.specs.declared.Shared.the-variants.{At, Nothing}

@@ -6,7 +6,7 @@ use crate::Shared;
 use crate::words::goal_at;
 use kinds::Position;
 ghost use mathlib.Core.Path.{_≡_};
-ghost use Prim.Native.Nat.{ℕ, _+_, _*_, _<_};
+ghost use Prim.Native.Nat.{_+_, _*_, _<_};
 ghost use lib.ListN.{length};
 ghost use lib.Seq.{sets};
 ghost use Rattle.goals.specs.GoalWords.{Tabled, NodeIn, Owable, BothIn, codeAt, owedBy, nodeAt, maskAfter, pad, firstCode, goalsFrom, Stored, labelCode};

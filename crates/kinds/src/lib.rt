@@ -1,6 +1,4 @@
 ghost use mathlib.Core.Path.{_≡_};
-ghost use mathlib.Core.Bool.{Bool};
-ghost use Prim.Native.Nat.{ℕ};
 ghost use Rattle.kinds.specs.Positions.{padTo, decode};
 ghost use Rattle.kinds.specs.Kinds.{root, childOf, isGood, lengthOf, comesBefore};
 ghost use Rattle.kinds.specs.Reasons.{numberOf};

@@ -6,10 +6,10 @@
 --   made-stopped made-long made-plan   the plan that there is, or why there is none
 --   built-bad built-short built-on built-made   19; 23; and on
 use mathlib.Core.Path.{_≡_, refl, ap, ap₂, sym, _∙_}
-use mathlib.Core.List.{List, [], _∷_, _++_, map}
-use mathlib.Core.Bool.{Bool, true, false, cond, _&&_, _||_}
-use mathlib.Core.Logic.{_⊎_, inl, inr, ⊎-elim}
-use Prim.Native.Nat.{ℕ, zero, suc, _+_, _-_, _*_, _<_, _≤_}
+use mathlib.Core.List.{List, [], _∷_, _++_}
+use mathlib.Core.Bool.{Bool, true, false, cond, _||_}
+use mathlib.Core.Logic.{_⊎_, ⊎-elim}
+use Prim.Native.Nat.{ℕ, suc, _+_, _-_, _*_, _<_, _≤_}
 use native.Mathlib.Omega.{arith}
 use native.Mathlib.Nat.{sub-zero, mul-le-mul}
 use native.Mathlib.Numerals.{add-one}
@@ -17,7 +17,7 @@ use borrow.Author.Tests.{lt-ltb, le-ltb, le-leb, lt-leb}
 use lib.Dec.{eqb, ltb, leb}
 use lib.ListN.{length, drop, set, replicate, length-set, length-replicate}
 use lib.Seq.{sets, drop-drop}
-use Rattle.kinds.specs.Lists.{onto, unless, concat}
+use Rattle.kinds.specs.Lists.{onto, unless}
 use Rattle.kinds.specs.declared.State.{State}
 use Rattle.kinds.specs.declared.Reason.{Reason}
 use Rattle.kinds.specs.declared.Reason.the-variants.{BadShapes, ShortScratch, LongPlan}
@@ -25,7 +25,7 @@ use Rattle.kinds.proofs.Bools.{both, is-eqb, or-l, or-r}
 use Rattle.kinds.specs.Members.{_∈_, here, there}
 use Rattle.kinds.proofs.ListLaws.{onto-sets}
 use Rattle.checks.specs.Again.{shapesGood}
-use Rattle.automaton.specs.Exploring.{Block, Made, refused, made, explored}
+use Rattle.automaton.specs.Exploring.{Made, made, explored}
 use Rattle.automaton.specs.PlanWords.{Plan, halted, too-long, plan-of, toPlan, planned}
 use Rattle.automaton.specs.FinalBlocks.{allBlocks, SmallOn}
 use Rattle.automaton.proofs.BlocksAgain.{blocks-again}

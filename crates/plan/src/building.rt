@@ -9,7 +9,7 @@ use tables::TABLE_WORDS;
 use tables::filling::fill_tables;
 use writing::blocks::write_plan;
 ghost use mathlib.Core.Path.{_≡_};
-ghost use Prim.Native.Nat.{ℕ, _≤_};
+ghost use Prim.Native.Nat.{_≤_};
 ghost use lib.ListN.{length};
 ghost use Rattle.automaton.specs.PlanWords.{planned};
 ghost use Rattle.decoding.specs.WordMachine.{words as machine};

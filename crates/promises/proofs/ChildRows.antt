@@ -9,7 +9,7 @@ use mathlib.Core.Bool.{true, false}
 use Rattle.kinds.proofs.Bools.{and-l, and-r, test}
 use Rattle.kinds.proofs.Options.{on-bind, on-need}
 use Rattle.following.specs.Following.{follow, nodeGood, target, reached, reachedSays}
-use Prim.Native.Nat.{ℕ, _+_, _*_, _<_, _≤_}
+use Prim.Native.Nat.{ℕ, _+_, _*_, _<_}
 use native.Mathlib.Omega.{arith}
 use native.Mathlib.Decide.{decLt}
 use Rattle.kinds.specs.Positions.{decode, codeGood, largest}

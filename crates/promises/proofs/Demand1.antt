@@ -1,7 +1,7 @@
 -- Demand 1 holds of every call.
 use mathlib.Core.Path.{_≡_, refl, ap, sym, _∙_, subst}
 use mathlib.Core.List.{List}
-use Prim.Native.Nat.{ℕ, _<_}
+use Prim.Native.Nat.{ℕ}
 use Rattle.kinds.specs.Members.{Below}
 use Rattle.kinds.specs.Reasons.{numberOf, refusal}
 use Rattle.folio.specs.Opening.{Lent, refuseOpening, opened}

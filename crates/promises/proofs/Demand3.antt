@@ -9,7 +9,7 @@ use native.Mathlib.Decide.{decLt}
 use lib.ListN.{length, getD, getElem?, take, take-append-drop}
 use lib.Seq.{ext-getD, length-take-le, getD-take}
 use Rattle.kinds.specs.Bits.{bit}
-use Rattle.kinds.specs.declared.Reason.the-variants.{NoSuchItem, OutOfRange}
+use Rattle.kinds.specs.declared.Reason.the-variants.{NoSuchItem}
 use Rattle.kinds.proofs.BitLaws.{bits-same}
 use Rattle.kinds.proofs.Members.{Distinct}
 use Rattle.kinds.specs.Members.{_∈_}

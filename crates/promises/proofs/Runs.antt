@@ -5,7 +5,7 @@
 --   one-file           three calls that the contracts allow, each accepted, are the setting of demands 2 and 3
 --   demands            so both demands hold of them, and of every walk that the contracts allow behind them
 use mathlib.Core.Path.{_≡_, refl, ap, ap₂, sym, _∙_}
-use mathlib.Core.List.{List, [], _∷_, _++_}
+use mathlib.Core.List.{List, [], _∷_}
 use Prim.Native.Nat.{ℕ}
 use denote.Ref.{now}
 use lib.ListN.{take}
@@ -24,7 +24,7 @@ use Rattle.folio.proofs.opening.open.Reads as open-folio
 use Rattle.plan.proofs.building.build.Reads as build
 use Rattle.walk.proofs.starting.start.Reads as start
 use Rattle.walk.proofs.stepping.step.Reads as step
-use Rattle.promises.specs.OneFile.{OneFile, nodesIn, spansIn, lentIn, begunIn, after}
+use Rattle.promises.specs.OneFile.{OneFile, nodesIn, spansIn, lentIn, after}
 use Rattle.promises.specs.Demand2.{Demand2}
 use Rattle.promises.specs.Demand3.{Demand3}
 use Rattle.promises.proofs.Demand2.{demand-2}

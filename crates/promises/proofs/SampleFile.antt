@@ -6,15 +6,13 @@
 --   always-reported by demand 3, every walk over the file to its end, in any order and with any buffers, reports the text of document 01
 use mathlib.Core.Path.{_≡_, refl, ap, ap₂, sym, _∙_}
 use mathlib.Core.List.{List, [], _∷_, _++_}
-use mathlib.Core.Option.{some}
-use Prim.Native.Nat.{ℕ, _<_}
+use Prim.Native.Nat.{ℕ}
 use native.Mathlib.Omega.{arith}
 use borrow.Author.Tests.{ltb-true}
 use lib.Dec.{ltb}
 use lib.ListN.{getD, getElem?, take, replicate}
 use Rattle.kinds.specs.Bits.{bit}
 use Rattle.kinds.proofs.Members.{all-at}
-use Rattle.kinds.proofs.Places.{at-in}
 use Rattle.term.specs.Terms.{Term, blank, node, tnil, tcons, span}
 use Rattle.term.specs.Places.{Matches, number}
 use Rattle.folio.specs.Folio.{shapeTerms, scoreTerm}

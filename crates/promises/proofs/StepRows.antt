@@ -24,7 +24,7 @@ use Rattle.readers.specs.BlockWords.{pairList, middle, outsAt, nextsAt, blockSt
 use Rattle.readers.proofs.LawsPairs.{pairList-at, pairs-list, pairs-none}
 use Rattle.readers.proofs.LawsParts.{block-start}
 use Rattle.queue.specs.Targets.{targets}
-use Rattle.walk.specs.Starting.{Walk, WalkOutcome}
+use Rattle.walk.specs.Starting.{Walk}
 use Rattle.walk.specs.Stepping.{Finding, look, onward, roomy, moved, tried, stepped}
 use Rattle.walking.proofs.StepParts.{look-of, tried-of}
 use Rattle.promises.specs.StepFound.{ItemFound, StepFound}

@@ -14,7 +14,7 @@ use Rattle.kinds.proofs.Bools.{test, both, and-l, and-r, false-true}
 use Rattle.kinds.specs.Members.{Below}
 use Rattle.checks.specs.Again.{scoreGood}
 use Rattle.folio.proofs.GoodTables.{score-good-scored, scored-good}
-use Rattle.walk.specs.Starting.{Walk, goOn, begun, roomFor, started, WalkOutcome, refuseWalk}
+use Rattle.walk.specs.Starting.{Walk, goOn, begun, roomFor, started, refuseWalk}
 use Rattle.counting.specs.Counting.{counted, countedSays}
 use Rattle.counting.specs.declared.Counted.{Counted}
 use Rattle.counting.specs.declared.Counted.the-variants as count

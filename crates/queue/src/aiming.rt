@@ -1,7 +1,6 @@
 ghost use mathlib.Core.Path.{_≡_};
 ghost use mathlib.Core.Bool.{true, false};
-ghost use Prim.Native.Nat.{ℕ, _+_, _*_, _≤_};
-ghost use lib.ListN.{length};
+ghost use Prim.Native.Nat.{_+_};
 ghost use Rattle.kinds.specs.Lists.{orElse};
 ghost use Rattle.kinds.specs.Lists.{all};
 ghost use Rattle.following.specs.Following.{target};

@@ -1,14 +1,12 @@
 ghost use mathlib.Core.Path.{_≡_};
-ghost use mathlib.Core.Bool.{true};
-ghost use Prim.Native.Nat.{ℕ, _+_, _*_, _<_, _≤_};
+ghost use Prim.Native.Nat.{_+_, _<_, _≤_};
 ghost use lib.ListN.{length};
 ghost use lib.Seq.{sets};
-ghost use Rattle.kinds.specs.Lists.{all};
 ghost use Rattle.kinds.specs.Bits.{withBit};
 ghost use Rattle.following.specs.Following.{target};
 ghost use Rattle.readers.specs.PlanParts.{pairWords};
 ghost use Rattle.queue.specs.Targets.{marked, Leading, Appended};
-ghost use Rattle.queue.specs.Targets.{fine, landed, closedUp, Leading, Appended};
+ghost use Rattle.queue.specs.Targets.{landed, closedUp, Leading, Appended};
 ghost use Rattle.readers.specs.BlockWords.{pairList};
 use crate::aiming::aim;
 use kinds::Node;

@@ -1,5 +1,4 @@
 ghost use mathlib.Core.Path.{_≡_};
-ghost use Prim.Native.Nat.{ℕ};
 ghost use Rattle.readers.specs.PlanParts.{viewGood, labelOf, lengthsOf, announcementOf, successorOf, pairIn};
 ghost use Rattle.readers.specs.BlockWords.{pairOf};
 use crate::Announcement;

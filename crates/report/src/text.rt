@@ -1,9 +1,9 @@
 ghost use mathlib.Core.Path.{_≡_};
-ghost use Prim.Native.Nat.{ℕ, _+_, _*_, _-_, _<_, _≤_};
+ghost use Prim.Native.Nat.{_+_, _*_, _-_, _<_, _≤_};
 ghost use lib.ListN.{length};
 ghost use lib.Seq.{sets};
 ghost use Rattle.report.specs.Paths.{childOf, pathOf};
-ghost use Rattle.report.specs.Text.{digitsTo, digits, field, pathText, stepOf, pathIn, numbersIn};
+ghost use Rattle.report.specs.Text.{digitsTo, field, pathText, stepOf, pathIn, numbersIn};
 use crate::Depth;
 use crate::Step;
 use kinds::limits::NUMBER_DIGITS;

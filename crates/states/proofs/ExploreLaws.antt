@@ -9,35 +9,33 @@
 use mathlib.Core.Path.{_≡_, refl, ap, ap₂, sym, _∙_}
 use mathlib.Core.List.{List, [], _∷_, _++_, map, append-assoc, append-nil}
 use mathlib.Core.Bool.{Bool, true, false, cond}
-use mathlib.Core.Option.{none, some}
-use mathlib.Core.Logic.{_⊎_, ⊎-elim}
-use Prim.Native.Nat.{ℕ, zero, suc, _+_, _-_, _*_, _/_, _%_, _<_, _≤_}
+use mathlib.Core.Option.{none}
+use mathlib.Core.Logic.{⊎-elim}
+use Prim.Native.Nat.{ℕ, suc, _+_, _-_, _*_, _/_, _%_, _<_, _≤_}
 use native.Mathlib.Omega.{arith}
-use native.Mathlib.Nat.{zero-add}
 use native.Mathlib.Numerals.{add-one}
 use lib.Dec.{eqb, ltb}
-use lib.ListN.{length, getD, getElem?, take, drop, replicate, length-append, length-map}
+use lib.ListN.{length, getD, drop, replicate, length-append, length-map}
 use lib.Seq.{sets, length-sets}
-use Rattle.kinds.specs.Lists.{gather, concat, range, sort}
+use Rattle.kinds.specs.Lists.{gather, concat, range}
 use Rattle.kinds.specs.declared.Reason.{Reason}
 use Rattle.kinds.specs.declared.Reason.the-variants.{ManyGoals, ManyStates}
 use Rattle.kinds.specs.Positions.{code}
 use Rattle.kinds.proofs.Members.{in-one, length-range, perm-length, sort-perm}
-use Rattle.kinds.specs.Members.{_∈_}
-use Rattle.kinds.proofs.ListLaws.{map-append, concat-append, from, from-end, run-whole}
-use Rattle.kinds.proofs.Places.{getElem-some, getD-in, getD-ext, ext-length}
+use Rattle.kinds.proofs.ListLaws.{map-append, concat-append, from, from-end}
+use Rattle.kinds.proofs.Places.{getElem-some, getD-ext, ext-length}
 use Rattle.automaton.specs.Exploring.{Succ, Block, Met, met, Made, refused, meet, meets, row, run, explored}
 use Rattle.automaton.specs.PlanWords.{blockWords}
 use Rattle.automaton.specs.FinalBlocks.{succOf}
 use Rattle.automaton.proofs.BlocksAgain.{meet-found, meets-found}
-use Rattle.goals.specs.GoalWords.{GoalWords, goalAt, goalsFrom, flat, labelCode}
-use Rattle.goals.specs.WordStages.{freshesW, freshW, derivW, liftW, reduct, annKey, announces, outputsW, displacementW, liftedW}
+use Rattle.goals.specs.GoalWords.{GoalWords, goalsFrom, flat, labelCode}
+use Rattle.goals.specs.WordStages.{freshesW, freshW, liftW, reduct, annKey, announces, outputsW, displacementW, liftedW}
 use Rattle.decoding.specs.WordMachine.{words, announcementW, stateIn, statesIn, statesWords, Kept}
 use Rattle.decoding.specs.GoodStates.{Ready, GoodState}
 use Rattle.deriving.specs.Orders.{classAt}
 use Rattle.deriving.specs.Passes.{PutsFirst, Lifts}
 use Rattle.automaton.specs.Classes.{Square}
-use Rattle.states.specs.Meeting.{placeOf, AllGood, Held, Behind, blocksLength, rowMost, ClassesMet, MetIs, SymbolIs, RowIs, ExploredIs}
+use Rattle.states.specs.Meeting.{placeOf, Held, Behind, blocksLength, rowMost, ClassesMet, MetIs, SymbolIs, RowIs, ExploredIs}
 use Rattle.states.specs.Parting.{derivedWords, OnSymbol, firsts, classesBy, Parted}
 use Rattle.classes.specs.Squares.{Squared}
 use Rattle.states.specs.declared.Parts.{Parts}
@@ -50,7 +48,7 @@ use Rattle.states.proofs.WordArrays.{flat-back, flat-thirds, picked-few
 use Rattle.states.proofs.PartLaws.{held-good, on-symbol}
 use Rattle.states.proofs.StateLaws.{states-length, states-at, added, states-added, kept-added, added-behind}
 use Rattle.states.proofs.MeetLaws.{meet-big, meet-known, meet-full, meet-new, onto, meets-begin, meets-stop, meets-on, meets-end, row-stop, row-on, run-stop, run-on, run-end}
-use Rattle.decoding.proofs.GoodLaws.{ready-few, good-start, good-label, good-next, deriv-low, deriv-room}
+use Rattle.decoding.proofs.GoodLaws.{ready-few, good-start, good-next}
 
 -- ---- one class
 module _ {goals : List ℕ} {n : ℕ} {dep : Square} (s : Squared goals n dep) (r : ℕ) where

@@ -5,11 +5,11 @@
 --   items-low          they name places within
 use mathlib.Core.Path.{_≡_, refl, ap, ap₂, sym, _∙_}
 use mathlib.Core.List.{List, [], _∷_, _++_, map}
-use mathlib.Core.Bool.{Bool, true, false, cond, not, _&&_}
-use Prim.Native.Nat.{ℕ, zero, suc, _+_, _-_, _*_, _%_, _<_, _≤_}
+use mathlib.Core.Bool.{Bool, true, false, cond}
+use Prim.Native.Nat.{ℕ, zero, suc, _+_, _*_, _%_, _<_, _≤_}
 use native.Mathlib.Omega.{arith}
 use native.Mathlib.Nat.{zero-add, add-zero}
-use lib.Dec.{ltb, eqb}
+use lib.Dec.{ltb}
 use lib.ListN.{length, getD, length-map}
 use Rattle.kinds.specs.Lists.{sort, gather, range}
 use Rattle.kinds.proofs.Bools.{bool-ext}
@@ -21,7 +21,7 @@ use Rattle.kinds.proofs.ChainLaws.{chain-within}
 use Rattle.automaton.specs.Classes.{Square, cell, through, close, leads, rowsFrom}
 use Rattle.automaton.proofs.Closure.{close-chain}
 use Rattle.goals.specs.GoalWords.{GoalWords, goalW, goalAt, goalsFrom}
-use Rattle.goals.specs.WordStages.{depW, pickedW, closedW, classKey, classesW, reduct, annKey, announces, outputsW}
+use Rattle.goals.specs.WordStages.{depW, pickedW, closedW, classKey, classesW, annKey, announces, outputsW}
 use Rattle.classes.specs.Squares.{shares, Closes}
 use Rattle.deriving.specs.Orders.{keyed, classAt, begins, leadItems, goalOn, goesOut, outItems}
 use Rattle.goals.proofs.GoalLaws.{goals-length, goals-at}

@@ -2,21 +2,20 @@
 --   meet-big meet-known meet-full meet-new        the four ways to meet a class
 --   onto meets-begin meets-stop meets-on meets-end   classes in turn, after successors met before
 --   row-on row-stop row-end, run-on run-stop run-end  symbols in turn; states in turn
-use mathlib.Core.Path.{_≡_, refl, ap, ap₂, sym, _∙_}
-use mathlib.Core.List.{List, [], _∷_, _++_, map, append-assoc, append-nil}
+use mathlib.Core.Path.{_≡_, refl, ap, sym, _∙_}
+use mathlib.Core.List.{List, [], _∷_, _++_, append-assoc, append-nil}
 use mathlib.Core.Bool.{Bool}
 use mathlib.Core.Option.{Option, none, some}
-use Prim.Native.Nat.{ℕ, zero, suc, _+_, _-_, _*_, _<_, _≤_}
+use Prim.Native.Nat.{ℕ, zero, suc, _+_, _-_, _<_, _≤_}
 use native.Mathlib.Omega.{arith}
 use native.Mathlib.Numerals.{add-one}
 use borrow.Author.Tests.{lt-ltb, le-ltb, le-leb, lt-leb}
-use lib.ListN.{length, getD, getElem?, drop}
+use lib.ListN.{length, getD}
 use Rattle.kinds.specs.Lists.{find, orElse}
 use Rattle.kinds.specs.declared.Reason.{Reason}
 use Rattle.kinds.specs.declared.Reason.the-variants.{ManyGoals, ManyStates}
 use Rattle.kinds.proofs.Places.{find-at, at-below}
-use Rattle.automaton.specs.Goals.{Announcement}
-use Rattle.automaton.specs.Exploring.{Construction, Succ, Block, Met, stopped, met, Made, refused, made, andThen, thenBlock, thenMore, numbered, meet, meets, row, run}
+use Rattle.automaton.specs.Exploring.{Construction, Succ, Block, Met, stopped, met, refused, made, andThen, thenBlock, thenMore, numbered, meet, meets, row, run}
 use Rattle.automaton.specs.FinalBlocks.{succOf}
 
 -- ---- the first that passes

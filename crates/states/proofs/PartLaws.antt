@@ -3,15 +3,15 @@
 --   state-stored derivable         what announcing and deriving ask
 --   Derived derived                the derivative in an array
 --   parted                         the whole
-use mathlib.Core.Path.{_≡_, refl, ap, sym, _∙_}
-use mathlib.Core.List.{List, [], map}
+use mathlib.Core.Path.{_≡_, ap, sym, _∙_}
+use mathlib.Core.List.{List, []}
 use mathlib.Core.Bool.{Bool}
 use mathlib.Core.Option.{some}
-use Prim.Native.Nat.{ℕ, _+_, _-_, _*_, _/_, _%_, _<_, _≤_}
+use Prim.Native.Nat.{ℕ, _+_, _/_, _%_, _<_, _≤_}
 use native.Mathlib.Omega.{arith}
 use lib.Dec.{ltb}
 use lib.ListN.{length, getD, getElem?, length-map}
-use lib.Seq.{sets, length-sets}
+use lib.Seq.{length-sets}
 use Rattle.kinds.specs.Lists.{sort}
 use Rattle.kinds.specs.Chains.{Yes}
 use Rattle.kinds.specs.Members.{_∈_}
@@ -20,19 +20,17 @@ use Rattle.kinds.proofs.Places.{getElem-some, getD-in}
 use Rattle.automaton.specs.Classes.{Square}
 use Rattle.goals.specs.GoalWords.{GoalWords, goalsFrom, flat, labelCode, Low, Stored}
 use Rattle.goals.specs.WordStages.{derivW, classesW, classKey, annKey, outputsW}
-use Rattle.goals.proofs.GoalLaws.{goals-length}
 use Rattle.deriving.specs.Orders.{keyed, classAt, begins, leadItems, goalOn, goesOut, outItems}
 use Rattle.deriving.specs.Passes.{PutsFirst, Derivable, Arranged}
 use Rattle.deriving.proofs.SortLaws.{sort-length}
 use Rattle.deriving.proofs.OrderLaws.{keyed-count}
-use Rattle.classes.specs.Squares.{IsSquare, Squared, shares, Closes}
-use Rattle.decoding.specs.WordMachine.{words, placeIn, statesWords, stateIn, statesIn, Kept}
+use Rattle.classes.specs.Squares.{shares, Closes}
+use Rattle.decoding.specs.WordMachine.{words, placeIn, stateIn, statesIn}
 use Rattle.decoding.specs.GoodStates.{GoodState}
 use Rattle.decoding.proofs.Room.{flat-length}
 use Rattle.decoding.proofs.GoodLaws.{ready-few, good-low, good-label, deriv-low, deriv-room}
-use Rattle.states.specs.Meeting.{AllGood, Held}
+use Rattle.states.specs.Meeting.{Held}
 use Rattle.states.specs.Parting.{derivedWords, OnSymbol, firsts, Named, goalsBy, classesBy, Lent, Parted}
-use Rattle.states.specs.declared.Parts.{Parts}
 use Rattle.states.proofs.StateLaws.{states-length, states-at}
 use Rattle.states.proofs.WordArrays.{flat-back, flat-thirds}
 use Rattle.states.proofs.InOrder.{classes-in-order, outputs-in-order, items-low}

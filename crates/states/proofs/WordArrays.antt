@@ -3,14 +3,14 @@
 --   flat-thirds       how many, from how many words
 --   picked-few        a row picks no more than there are
 use mathlib.Core.Path.{_≡_, refl, ap, sym, _∙_}
-use mathlib.Core.List.{List, [], _∷_, _++_}
+use mathlib.Core.List.{List, [], _∷_}
 use mathlib.Core.Bool.{Bool, true, false, cond}
-use Prim.Native.Nat.{ℕ, zero, suc, _+_, _-_, _*_, _/_, _<_, _≤_}
+use Prim.Native.Nat.{ℕ, suc, _+_, _*_, _/_, _≤_}
 use native.Mathlib.Omega.{arith}
-use native.Mathlib.Nat.{zero-add, add-zero}
+use native.Mathlib.Nat.{zero-add}
 use lib.ListN.{length, getD}
 use lib.Seq.{sets}
-use Rattle.goals.specs.GoalWords.{GoalWords, goalAt, goalsFrom, flat}
+use Rattle.goals.specs.GoalWords.{GoalWords, goalsFrom, flat}
 use Rattle.goals.specs.WordStages.{pickedW}
 use Rattle.decoding.proofs.Room.{flat-length}
 use Rattle.classes.proofs.SameLaws.{goals-same}

@@ -9,7 +9,7 @@
 --   Parted         what they hold then
 use mathlib.Core.Path.{_≡_}
 use mathlib.Core.List.{List, map}
-use Prim.Native.Nat.{ℕ, _-_, _*_, _%_, _<_, _≤_}
+use Prim.Native.Nat.{ℕ, _-_, _%_, _<_, _≤_}
 use lib.ListN.{length, getD, take}
 use Rattle.automaton.specs.Classes.{Square}
 use Rattle.goals.specs.GoalWords.{GoalWords, labelCode}

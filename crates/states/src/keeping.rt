@@ -2,7 +2,7 @@ use crate::STATE_WORDS;
 use crate::STATES;
 use classes::same::same_state;
 ghost use mathlib.Core.Path.{_≡_};
-ghost use Prim.Native.Nat.{ℕ, _+_, _*_};
+ghost use Prim.Native.Nat.{_+_, _*_};
 ghost use lib.ListN.{set, take};
 ghost use lib.Seq.{sets};
 ghost use Rattle.goals.specs.GoalWords.{goalsFrom, GoalsIn};

@@ -8,7 +8,6 @@ use deriving::derivative::derive;
 use kinds::Position;
 use kinds::State;
 use kinds::Symbol;
-ghost use Prim.Native.Nat.{ℕ};
 ghost use lib.ListN.{getD};
 ghost use Rattle.states.specs.Parting.{OnSymbol, Lent, Parted};
 

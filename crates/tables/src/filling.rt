@@ -1,7 +1,7 @@
 use crate::AREA_WORDS;
 use crate::TABLE_WORDS;
 ghost use mathlib.Core.Path.{_≡_};
-ghost use Prim.Native.Nat.{ℕ, _+_, _*_, _<_, _≤_};
+ghost use Prim.Native.Nat.{_+_, _*_, _<_, _≤_};
 ghost use lib.ListN.{length, getD};
 ghost use lib.Seq.{sets};
 ghost use Rattle.tables.specs.ShapeTables.{wordAt, spanAt, seekFrom, Seekable, kidsAt, nodeWord, entryW, tableWords, entriesFrom};

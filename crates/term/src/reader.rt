@@ -1,5 +1,4 @@
 ghost use mathlib.Core.Path.{_≡_};
-ghost use Prim.Native.Nat.{ℕ};
 ghost use Rattle.term.specs.Reading.{childrenOf, headOf, reading};
 use crate::Count;
 use crate::Fault;

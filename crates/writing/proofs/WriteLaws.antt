@@ -6,23 +6,20 @@
 --   Rowed rowed-…                       the blocks of a state and their starts, in step
 --   Planned planned-…                   labels, starts and blocks, in step
 use mathlib.Core.Path.{_≡_, refl, ap, ap₂, sym, _∙_}
-use mathlib.Core.List.{List, [], _∷_, _++_, map, append-assoc, append-nil}
-use mathlib.Core.Bool.{Bool, true, false}
+use mathlib.Core.List.{List, [], _∷_, _++_, map}
 use mathlib.Core.Option.{Option, none, some}
-use Prim.Native.Nat.{ℕ, zero, suc, _+_, _-_, _*_, _/_, _%_, _<_, _≤_}
+use Prim.Native.Nat.{ℕ, suc, _+_, _-_, _*_, _/_, _%_, _<_, _≤_}
 use native.Mathlib.Omega.{arith}
 use native.Mathlib.Nat.{add-zero, zero-add, sub-zero, zero-mul, suc-mul, add-mul, mul-le-mul}
 use native.Mathlib.Numerals.{add-one}
-use lib.Dec.{ltb}
-use lib.ListN.{length, getD, getElem?, drop, set, length-set, length-append, length-map, length-drop, drop-of-length-le}
+use lib.ListN.{length, getD, drop, set, length-set, length-append, length-map, length-drop, drop-of-length-le}
 use lib.Seq.{sets, length-sets, drop-cons}
 use Rattle.kinds.specs.Lists.{find, gather, concat, orElse}
 use Rattle.kinds.specs.Positions.{code, decode}
 use Rattle.kinds.proofs.Members.{map-in, gather-length}
-use Rattle.kinds.specs.Members.{_∈_}
-use Rattle.kinds.proofs.ListLaws.{sets-append, set-before, from, from-end, gather-map, gather-same, map-append, concat-append, gather-append}
+use Rattle.kinds.proofs.ListLaws.{sets-append, set-before, from, from-end, gather-map, gather-same, map-append, concat-append}
 use Rattle.kinds.proofs.Places.{getD-in, find-at, at-below, getElem-some}
-use Rattle.automaton.specs.Exploring.{Succ, Block}
+use Rattle.automaton.specs.Exploring.{Block}
 use Rattle.automaton.specs.PlanWords.{blockWords, startsFrom}
 use Rattle.automaton.specs.Classes.{Square}
 use Rattle.automaton.specs.FinalBlocks.{succOf, blockOf, blocksOf, SmallOn}

@@ -11,7 +11,6 @@ use states::keeping::find_state;
 use states::parting::part;
 ghost use mathlib.Core.Path.{_≡_};
 ghost use mathlib.Core.List.{[], _∷_};
-ghost use Prim.Native.Nat.{ℕ};
 ghost use lib.Seq.{sets};
 ghost use Rattle.goals.specs.WordStages.{displacementW, liftedW};
 ghost use Rattle.deriving.specs.Orders.{classAt};

@@ -1,4 +1,4 @@
-use Prim.Native.Nat.{ℕ, _-_, _≤_}
+use Prim.Native.Nat.{_-_}
 use borrow.Author.Needs.{needs}
 use Rattle.damaged.proofs.main.Statement.{statement}
 use Rattle.damaged.proofs.main.Tie as tie

@@ -1,9 +1,6 @@
 use Rattle.classes.proofs.ClosureLaws.{closed-none, closed-more, closed-all}
 use Rattle.classes.specs.Squares.{ClosedUpTo}
-use mathlib.Core.Bool.{Bool, true, false}
-use mathlib.Core.Path.{_≡_, refl, ap, sym, _∙_}
-use native.Mathlib.Omega.{arith}
-use Prim.Native.Nat.{ℕ, _≤_, _<_, _+_, _-_}
+use Prim.Native.Nat.{_-_}
 use borrow.Author.Needs.{needs}
 use Rattle.classes.proofs.closure.close.Statement.{statement}
 use Rattle.classes.proofs.closure.close.Tie as tie

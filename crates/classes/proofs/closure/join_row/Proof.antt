@@ -1,11 +1,7 @@
 use Rattle.classes.proofs.ClosureLaws.{Row, row-none, row-skip, row-put, grown-refl, no-both}
 use mathlib.Core.Logic.{⊎-elim}
-use Rattle.classes.proofs.ClosureLaws.{put, cell-same, cell-other, square-put, grown-put, grown-refl, grown-trans}
-use lib.ListN.{length, getD, set, length-set}
-use mathlib.Core.Bool.{Bool, true, false}
-use mathlib.Core.Path.{_≡_, refl, ap, sym, _∙_}
 use native.Mathlib.Omega.{arith}
-use Prim.Native.Nat.{ℕ, _≤_, _<_, _+_, _-_}
+use Prim.Native.Nat.{_-_}
 use borrow.Author.Needs.{needs}
 use Rattle.classes.proofs.closure.join_row.Statement.{statement}
 use Rattle.classes.proofs.closure.join_row.Tie as tie

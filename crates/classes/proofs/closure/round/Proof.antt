@@ -1,9 +1,7 @@
 use Rattle.classes.proofs.ClosureLaws.{rows-more, grown-refl}
 use Rattle.classes.specs.Squares.{RowsJoined}
-use mathlib.Core.Bool.{Bool, true, false}
-use mathlib.Core.Path.{_≡_, refl, ap, sym, _∙_}
 use native.Mathlib.Omega.{arith}
-use Prim.Native.Nat.{ℕ, _≤_, _<_, _+_, _-_}
+use Prim.Native.Nat.{_-_}
 use borrow.Author.Needs.{needs}
 use Rattle.classes.proofs.closure.round.Statement.{statement}
 use Rattle.classes.proofs.closure.round.Tie as tie

@@ -2,14 +2,12 @@ use Rattle.deriving.proofs.DeriveLaws.{run-three}
 use Rattle.classes.proofs.ClassLaws.{Left, pick-on, pick-off, pick-end, pick-all}
 use Rattle.goals.specs.GoalWords.{goalsFrom, flat}
 use Rattle.goals.specs.WordStages.{pickedW}
-use Prim.Native.Nat.{ℕ, _≤_, _<_, _+_, _-_, _*_}
-use native.Mathlib.Nat.{sub-zero}
+use Prim.Native.Nat.{_≤_, _<_, _+_, _-_, _*_}
 use lib.Seq.{sets}
-use lib.ListN.{length, getD, drop}
-use mathlib.Core.Bool.{Bool, true, false}
-use mathlib.Core.List.{List, [], _∷_}
+use lib.ListN.{length, getD}
+use mathlib.Core.List.{[]}
 use mathlib.Core.Logic.{⊎-elim}
-use mathlib.Core.Path.{_≡_, refl, ap, ap₂, sym, _∙_}
+use mathlib.Core.Path.{_≡_, refl, ap, sym, _∙_}
 use native.Mathlib.Omega.{arith}
 use borrow.Author.Needs.{needs}
 use Rattle.classes.proofs.members.put_class.Statement.{statement}

@@ -2,10 +2,9 @@ use Rattle.deriving.proofs.OrderLaws.{Listed, listed-begin, listed-on, listed-o
 use Rattle.deriving.specs.Orders.{begins, classAt}
 use Rattle.goals.specs.GoalWords.{pad}
 use Rattle.goals.specs.WordStages.{classKey}
-use Prim.Native.Nat.{ℕ, _≤_, _<_, _+_, _-_, _*_}
-use lib.ListN.{length, getD}
+use Prim.Native.Nat.{_+_, _-_, _*_}
 use mathlib.Core.Logic.{⊎-elim}
-use mathlib.Core.Path.{_≡_, refl, ap, sym, _∙_}
+use mathlib.Core.Path.{ap, sym, _∙_}
 use native.Mathlib.Omega.{arith}
 use borrow.Author.Needs.{needs}
 use Rattle.classes.proofs.order.class_order.Statement.{statement}

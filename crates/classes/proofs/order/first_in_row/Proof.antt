@@ -1,12 +1,11 @@
 use Rattle.goals.proofs.GoalLaws.{stored-first}
 use Rattle.goals.specs.GoalWords.{noCode}
 use Rattle.deriving.proofs.OrderLaws.{firstFrom, first-on, first-off, first-end, first-all}
-use Rattle.goals.specs.GoalWords.{goalAt, owedBy, firstCode}
-use Prim.Native.Nat.{ℕ, _≤_, _<_, _+_, _-_, _*_}
+use Prim.Native.Nat.{_≤_, _<_, _-_}
 use lib.ListN.{length, getD}
-use mathlib.Core.List.{List, []}
+use mathlib.Core.List.{[]}
 use mathlib.Core.Logic.{⊎-elim}
-use mathlib.Core.Path.{_≡_, refl, ap, sym, _∙_}
+use mathlib.Core.Path.{_≡_, refl, sym, _∙_}
 use native.Mathlib.Omega.{arith}
 use borrow.Author.Needs.{needs}
 use Rattle.classes.proofs.order.first_in_row.Statement.{statement}

@@ -1,22 +1,15 @@
-use Rattle.goals.specs.GoalKinds.{asGoal, asWords}
+use Rattle.goals.specs.GoalKinds.{asWords}
 use Rattle.goals.specs.declared.Goal.{Goal}
 use Rattle.goals.specs.WordStages.{sameW}
 use Rattle.classes.proofs.SameLaws.{among-here, among-not, among-end}
-use Rattle.goals.specs.GoalWords.{goalsFrom, goalAt, goalW}
-use Rattle.goals.specs.WordStages.{amongW, sameW}
-use Prim.Native.Nat.{ℕ, suc, _+_, _*_, _-_, _≤_}
-use mathlib.Core.Bool.{Bool, true, false}
-use mathlib.Core.List.{List, [], _∷_, _++_}
-use lib.Seq.{sets}
-use lib.ListN.{length, getD, take, drop, set, length-set}
-use mathlib.Core.Path.{_≡_, refl, ap, ap₂, sym, _∙_}
+use Rattle.goals.specs.GoalWords.{goalsFrom}
+use Rattle.goals.specs.WordStages.{amongW}
+use Prim.Native.Nat.{_+_, _*_}
+use mathlib.Core.Path.{_≡_, refl, ap, sym, _∙_}
 use native.Mathlib.Omega.{arith}
 use borrow.Author.Needs.{needs}
 use Rattle.classes.proofs.same.among.Statement.{statement}
 use Rattle.classes.proofs.same.among.Tie as tie
-use Rattle.goals.specs.GoalKinds.{asGoal, asWords}
-use Rattle.goals.specs.declared.Goal.{Goal}
-use Rattle.goals.specs.WordStages.{sameW}
 use Rattle.classes.proofs.same.among.Reads as reads
 use Rattle.classes.proofs.same.among.Lts as lts
 use Rattle.classes.proofs.same.same_goal.Reads as same-goal-reads

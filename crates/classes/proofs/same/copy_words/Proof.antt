@@ -1,11 +1,9 @@
 use Rattle.classes.proofs.SameLaws.{copy-next, copy-end}
 use native.Mathlib.Nat.{sub-zero, add-zero}
-use Prim.Native.Nat.{ℕ, suc, _+_, _*_, _-_, _≤_}
-use mathlib.Core.Bool.{Bool, true, false}
-use mathlib.Core.List.{List, [], _∷_, _++_}
+use Prim.Native.Nat.{_+_, _-_, _≤_}
 use lib.Seq.{sets}
-use lib.ListN.{length, getD, take, drop, set, length-set}
-use mathlib.Core.Path.{_≡_, refl, ap, ap₂, sym, _∙_}
+use lib.ListN.{length, take, drop, length-set}
+use mathlib.Core.Path.{_≡_, refl, sym, _∙_}
 use native.Mathlib.Omega.{arith}
 use borrow.Author.Needs.{needs}
 use Rattle.classes.proofs.same.copy_words.Statement.{statement}

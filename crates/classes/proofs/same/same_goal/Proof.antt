@@ -1,13 +1,8 @@
 use Rattle.goals.specs.GoalKinds.{asWords}
 use Rattle.classes.proofs.SameLaws.{other-shape, other-place, by-mask}
 use mathlib.Core.Path.{sym}
-use borrow.Author.Tests.{eq-eqb, ne-eqb}
-use borrow.Author.Needs.{needs}
 use Rattle.classes.proofs.same.same_goal.Statement.{statement}
 use Rattle.classes.proofs.same.same_goal.Tie as tie
-use Rattle.goals.specs.GoalKinds.{asWords}
-use Rattle.classes.proofs.SameLaws.{other-shape, other-place, by-mask}
-use mathlib.Core.Path.{sym}
 use Rattle.classes.proofs.same.same_goal.Reads as reads
 use Rattle.classes.proofs.same.same_goal.Lts as lts
 

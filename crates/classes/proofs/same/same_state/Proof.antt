@@ -1,13 +1,9 @@
 use Rattle.classes.proofs.SameLaws.{copied}
 use Rattle.goals.specs.GoalWords.{goalsFrom}
-use Rattle.goals.specs.WordStages.{withinW, sameStateW}
+use Rattle.goals.specs.WordStages.{withinW}
 use lib.ListN.{replicate}
-use Prim.Native.Nat.{ℕ, suc, _+_, _*_, _-_, _≤_}
-use mathlib.Core.Bool.{Bool, true, false}
-use mathlib.Core.List.{List, [], _∷_, _++_}
-use lib.Seq.{sets}
-use lib.ListN.{length, getD, take, drop, set, length-set}
-use mathlib.Core.Path.{_≡_, refl, ap, ap₂, sym, _∙_}
+use Prim.Native.Nat.{ℕ, _*_}
+use mathlib.Core.Path.{refl, ap, ap₂, sym, _∙_}
 use native.Mathlib.Omega.{arith}
 use borrow.Author.Needs.{needs}
 use Rattle.classes.proofs.same.same_state.Statement.{statement}

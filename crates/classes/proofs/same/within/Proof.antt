@@ -1,15 +1,11 @@
-use Rattle.goals.specs.GoalKinds.{asGoal, asWords}
+use Rattle.goals.specs.GoalKinds.{asWords}
 use Rattle.goals.specs.declared.Goal.{Goal}
 use Rattle.goals.specs.WordStages.{amongW}
 use Rattle.classes.proofs.SameLaws.{within-on, within-off, within-end}
-use Rattle.goals.specs.GoalWords.{goalsFrom, goalAt, goalW}
-use Rattle.goals.specs.WordStages.{amongW, withinW}
-use Prim.Native.Nat.{ℕ, suc, _+_, _*_, _-_, _≤_}
-use mathlib.Core.Bool.{Bool, true, false}
-use mathlib.Core.List.{List, [], _∷_, _++_}
-use lib.Seq.{sets}
-use lib.ListN.{length, getD, take, drop, set, length-set}
-use mathlib.Core.Path.{_≡_, refl, ap, ap₂, sym, _∙_}
+use Rattle.goals.specs.GoalWords.{goalsFrom}
+use Rattle.goals.specs.WordStages.{withinW}
+use Prim.Native.Nat.{_+_, _*_}
+use mathlib.Core.Path.{_≡_, refl, ap, sym, _∙_}
 use native.Mathlib.Omega.{arith}
 use borrow.Author.Needs.{needs}
 use Rattle.classes.proofs.same.within.Statement.{statement}

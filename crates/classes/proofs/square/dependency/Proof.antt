@@ -1,8 +1,4 @@
 use Rattle.classes.proofs.ClosureLaws.{filled-closes}
-use Rattle.goals.specs.GoalWords.{goalAt}
-use Rattle.goals.specs.WordStages.{depW}
-use Prim.Native.Nat.{ℕ, _*_}
-use mathlib.Core.Bool.{Bool}
 use borrow.Author.Needs.{needs}
 use Rattle.classes.proofs.square.dependency.Statement.{statement}
 use Rattle.classes.proofs.square.dependency.Tie as tie

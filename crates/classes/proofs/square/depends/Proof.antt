@@ -1,11 +1,8 @@
-use Rattle.goals.specs.GoalKinds.{asGoal, asWords}
-use Rattle.goals.specs.declared.Goal.{Goal}
+use Rattle.goals.specs.GoalKinds.{asWords}
 use Rattle.goals.specs.GoalWords.{owedBy}
 use Rattle.goals.proofs.GoalLaws.{shared-is}
 use Rattle.goals.specs.Sharing.{isAt}
-use Rattle.goals.specs.GoalWords.{owedCodes, goalW}
-use Rattle.goals.specs.WordStages.{depW}
-use mathlib.Core.Path.{_≡_, refl, ap, sym, _∙_}
+use mathlib.Core.Path.{ap, sym, _∙_}
 use borrow.Author.Needs.{needs}
 use Rattle.classes.proofs.square.depends.Statement.{statement}
 use Rattle.classes.proofs.square.depends.Tie as tie

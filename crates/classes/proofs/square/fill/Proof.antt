@@ -1,9 +1,6 @@
 use Rattle.classes.proofs.SquareLaws.{rows-none, rows-more, rows-all}
 use Rattle.classes.specs.Squares.{shares, RowsFilled}
-use Rattle.goals.specs.GoalWords.{goalAt}
-use Rattle.goals.specs.WordStages.{depW}
-use Prim.Native.Nat.{ℕ, _≤_, _<_, _+_, _-_, _*_}
-use mathlib.Core.Path.{_≡_, refl, ap, sym, _∙_}
+use Prim.Native.Nat.{_≤_, _-_}
 use native.Mathlib.Omega.{arith}
 use borrow.Author.Needs.{needs}
 use Rattle.classes.proofs.square.fill.Statement.{statement}

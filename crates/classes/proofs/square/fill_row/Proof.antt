@@ -1,14 +1,12 @@
-use Rattle.goals.specs.GoalKinds.{asGoal, asWords}
+use Rattle.goals.specs.GoalKinds.{asWords}
 use Rattle.goals.specs.declared.Goal.{Goal}
 use mathlib.Core.Path.{ap₂}
 use Rattle.classes.proofs.SquareLaws.{row-none, row-more}
 use Rattle.classes.specs.Squares.{shares, RowFilled}
 use Rattle.goals.proofs.GoalLaws.{stored-first}
-use Rattle.goals.specs.GoalWords.{goalAt}
 use Rattle.goals.specs.WordStages.{depW}
-use lib.ListN.{length}
-use Prim.Native.Nat.{ℕ, _≤_, _<_, _+_, _-_, _*_}
-use mathlib.Core.Path.{_≡_, refl, ap, sym, _∙_}
+use Prim.Native.Nat.{_≤_, _-_}
+use mathlib.Core.Path.{_≡_, _∙_}
 use native.Mathlib.Omega.{arith}
 use borrow.Author.Needs.{needs}
 use Rattle.classes.proofs.square.fill_row.Statement.{statement}

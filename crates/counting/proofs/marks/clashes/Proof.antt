@@ -2,11 +2,11 @@ use Rattle.counting.proofs.CountLaws.{count-bad, count-short, count-is,
 use Rattle.counting.specs.Clashes.{clashNumber, clash}
 use Rattle.checks.proofs.LawsAgain.{score-good-is}
 use Rattle.term.proofs.LawsSpans.{length-spans}
-use mathlib.Core.Path.{_≡_, refl, ap, sym, _∙_}
+use mathlib.Core.Path.{ap, sym, _∙_}
 use native.Mathlib.Omega.{arith}
-use lib.ListN.{length, take, length-take}
+use lib.ListN.{length, length-take}
 use Rattle.counting.specs.declared.Counted.the-variants.{Number}
-use Prim.Native.Nat.{ℕ, _-_, _≤_}
+use Prim.Native.Nat.{_-_}
 use borrow.Author.Needs.{needs}
 use Rattle.counting.proofs.marks.clashes.Statement.{statement}
 use Rattle.counting.proofs.marks.clashes.Tie as tie

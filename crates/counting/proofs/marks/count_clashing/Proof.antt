@@ -2,11 +2,10 @@ use Rattle.counting.proofs.ClashLaws.{Reach, reach-none, reach-next, co
 use Rattle.kinds.specs.Bits.{sumTo}
 use Rattle.counting.specs.Counting.{numberAt}
 use Rattle.counting.specs.Clashes.{clashing, clash}
-use Rattle.counting.specs.Passing.{hits}
 use mathlib.Core.Bool.{cond}
-use mathlib.Core.Path.{_≡_, refl, ap, sym, _∙_}
+use mathlib.Core.Path.{_≡_, refl, ap, _∙_}
 use native.Mathlib.Omega.{arith}
-use Prim.Native.Nat.{ℕ, _-_, _≤_, _<_, _*_, _+_}
+use Prim.Native.Nat.{ℕ, _-_, _≤_, _*_}
 use lib.ListN.{length, getD}
 use lib.Count.{ones, ones-le}
 use borrow.Author.Needs.{needs}

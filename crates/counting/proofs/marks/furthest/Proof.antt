@@ -1,6 +1,5 @@
 use Rattle.counting.proofs.ClashLaws.{further-end, further-same, further-none}
-use mathlib.Core.Path.{_≡_, refl, ap, sym, _∙_}
-use borrow.Author.Needs.{needs}
+use mathlib.Core.Path.{sym}
 use Rattle.counting.proofs.marks.furthest.Statement.{statement}
 use Rattle.counting.proofs.marks.furthest.Tie as tie
 

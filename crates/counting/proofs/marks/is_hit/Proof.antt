@@ -1,6 +1,5 @@
 use Rattle.counting.proofs.ClashLaws.{hit-many, hit-above, hit-none, hit-below}
-use mathlib.Core.Path.{_≡_, refl, ap, sym, _∙_}
-use native.Mathlib.Omega.{arith}
+use mathlib.Core.Path.{sym, _∙_}
 use borrow.Author.Needs.{needs}
 use Rattle.counting.proofs.marks.is_hit.Statement.{statement}
 use Rattle.counting.proofs.marks.is_hit.Tie as tie

@@ -1,9 +1,9 @@
 use Rattle.counting.proofs.ClashLaws.{marked-here, marked-none, free-next}
-use mathlib.Core.Path.{_≡_, refl, ap, sym, _∙_}
+use mathlib.Core.Path.{_≡_, sym}
 use mathlib.Core.Logic.{inl, inr}
 use native.Mathlib.Omega.{arith}
 use Prim.Native.Nat.{ℕ, _-_, _≤_, _<_}
-use lib.ListN.{length, getD}
+use lib.ListN.{getD}
 use borrow.Author.Needs.{needs}
 use Rattle.counting.proofs.marks.is_marked.Statement.{statement}
 use Rattle.counting.proofs.marks.is_marked.Tie as tie

@@ -1,11 +1,10 @@
 use Rattle.counting.proofs.CountLaws.{count-bad, count-short, count-is, few-nodes}
 use Rattle.counting.specs.Counting.{total}
-use mathlib.Core.Path.{_≡_, refl, ap, sym, _∙_}
+use mathlib.Core.Path.{ap, sym, _∙_}
 use native.Mathlib.Omega.{arith}
-use native.Mathlib.Nat.{sub-zero}
-use lib.ListN.{length, take, length-take}
+use lib.ListN.{length, length-take}
 use Rattle.counting.specs.declared.Counted.the-variants.{Number}
-use Prim.Native.Nat.{ℕ, _-_, _≤_}
+use Prim.Native.Nat.{_-_}
 use borrow.Author.Needs.{needs}
 use Rattle.counting.proofs.marks.matches.Statement.{statement}
 use Rattle.counting.proofs.marks.matches.Tie as tie

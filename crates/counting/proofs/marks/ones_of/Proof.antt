@@ -1,10 +1,10 @@
 use Rattle.counting.proofs.CountLaws.{total-next, total-end}
 use Rattle.counting.specs.Counting.{total}
 use lib.ListN.{length, getD, drop}
-use lib.Count.{ones, ones-le}
-use mathlib.Core.Path.{_≡_, refl, ap, sym, _∙_}
+use lib.Count.{ones-le}
+use mathlib.Core.Path.{_≡_}
 use native.Mathlib.Omega.{arith}
-use Prim.Native.Nat.{ℕ, _≤_, _<_, _+_, _-_, _*_}
+use Prim.Native.Nat.{_≤_, _+_, _-_, _*_}
 use borrow.Author.Needs.{needs}
 use Rattle.counting.proofs.marks.ones_of.Statement.{statement}
 use Rattle.counting.proofs.marks.ones_of.Tie as tie

@@ -1,18 +1,16 @@
 use Rattle.goals.proofs.GoalLaws.{stored-low}
-use Rattle.goals.specs.GoalKinds.{asGoal, asWords}
+use Rattle.goals.specs.GoalKinds.{asWords}
 use Rattle.goals.specs.declared.Goal.{Goal}
 use Rattle.goals.specs.GoalWords.{pad}
 use Rattle.goals.specs.WordStages.{reduct}
 use mathlib.Core.Path.{ap₂}
 use Rattle.deriving.proofs.OrderLaws.{Listed, listed-begin, listed-on, listed-off, listed-end, pad-word}
 use Rattle.deriving.specs.Orders.{goalOn, goesOut}
-use Rattle.goals.specs.GoalWords.{pad}
 use Rattle.goals.specs.WordStages.{annKey}
 use borrow.Author.Tests.{eq-eqb, ne-eqb}
-use Prim.Native.Nat.{ℕ, _≤_, _<_, _+_, _-_, _*_}
-use lib.ListN.{length, getD}
+use Prim.Native.Nat.{ℕ, _+_, _-_, _*_}
 use mathlib.Core.Logic.{⊎-elim}
-use mathlib.Core.Path.{_≡_, refl, ap, sym, _∙_}
+use mathlib.Core.Path.{ap, sym, _∙_}
 use native.Mathlib.Omega.{arith}
 use borrow.Author.Needs.{needs}
 use Rattle.deriving.proofs.announce.outputs.Statement.{statement}

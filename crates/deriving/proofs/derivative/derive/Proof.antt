@@ -1,12 +1,9 @@
 use Rattle.deriving.proofs.DeriveLaws.{deriv-words, deriv-size, three-runs}
 use Rattle.goals.specs.GoalWords.{flat, goalsFrom}
-use Rattle.goals.specs.WordStages.{stays, moves, bornW, derivW}
+use Rattle.goals.specs.WordStages.{stays, moves, bornW}
 use Rattle.kinds.specs.Lists.{gather}
-use Prim.Native.Nat.{ℕ, suc, _+_, _*_, _-_, _≤_}
-use mathlib.Core.List.{List, [], _∷_, _++_}
 use lib.Seq.{sets}
-use lib.ListN.{length}
-use mathlib.Core.Path.{_≡_, refl, ap, ap₂, sym, _∙_}
+use mathlib.Core.Path.{ap, sym, _∙_}
 use native.Mathlib.Omega.{arith}
 use borrow.Author.Needs.{needs}
 use Rattle.deriving.proofs.derivative.derive.Statement.{statement}

@@ -2,10 +2,9 @@ use Rattle.kinds.proofs.ListLaws.{sets-append}
 use Rattle.deriving.proofs.DeriveLaws.{bornFrom, born-next, born-end, born-all}
 use Rattle.goals.specs.GoalWords.{flat}
 use Rattle.goals.specs.WordStages.{freshesW, bornW}
-use Prim.Native.Nat.{ℕ, suc, _+_, _*_, _-_, _≤_}
-use mathlib.Core.List.{List, [], _∷_, _++_}
+use Prim.Native.Nat.{_+_, _*_, _-_, _≤_}
 use lib.Seq.{sets}
-use lib.ListN.{length, getD, length-set, length-append}
+use lib.ListN.{length, length-append}
 use mathlib.Core.Path.{_≡_, refl, ap, ap₂, sym, _∙_}
 use native.Mathlib.Omega.{arith}
 use borrow.Author.Needs.{needs}

@@ -1,11 +1,10 @@
 use Rattle.deriving.proofs.DeriveLaws.{freshFrom, fresh-next, fresh-end, fresh-all, run-three}
 use Rattle.goals.specs.GoalWords.{flat}
 use Rattle.goals.specs.WordStages.{freshesW}
-use Prim.Native.Nat.{ℕ, suc, _+_, _*_, _-_, _≤_}
-use mathlib.Core.List.{List, [], _∷_, _++_}
+use Prim.Native.Nat.{_+_, _-_, _≤_}
 use lib.Seq.{sets}
-use lib.ListN.{length, getD, length-set, length-append}
-use mathlib.Core.Path.{_≡_, refl, ap, ap₂, sym, _∙_}
+use lib.ListN.{length}
+use mathlib.Core.Path.{_≡_, refl, ap, sym, _∙_}
 use native.Mathlib.Omega.{arith}
 use borrow.Author.Needs.{needs}
 use Rattle.deriving.proofs.derivative.put_fresh.Statement.{statement}

@@ -1,17 +1,13 @@
-use Rattle.goals.specs.GoalKinds.{asGoal, asWords}
+use Rattle.goals.specs.GoalKinds.{asWords}
 use Rattle.deriving.proofs.DeriveLaws.{goes, goes-out, goes-not, flat-none, flat-one}
-use Rattle.goals.specs.GoalWords.{goalW, flat}
 use Rattle.goals.specs.WordStages.{goesOn, withMask}
-use Prim.Native.Nat.{ℕ, suc, _+_, _*_, _-_, _≤_}
-use mathlib.Core.List.{List, [], _∷_, _++_}
 use lib.Seq.{sets}
-use lib.ListN.{length, getD, length-set, length-append}
-use mathlib.Core.Path.{_≡_, refl, ap, ap₂, sym, _∙_}
+use lib.ListN.{length}
+use mathlib.Core.Path.{ap, sym, _∙_}
 use native.Mathlib.Omega.{arith}
 use borrow.Author.Needs.{needs}
 use Rattle.deriving.proofs.derivative.put_moved.Statement.{statement}
 use Rattle.deriving.proofs.derivative.put_moved.Tie as tie
-use Rattle.goals.specs.GoalKinds.{asGoal, asWords}
 use Rattle.deriving.proofs.derivative.put_moved.Reads as reads
 use Rattle.deriving.proofs.derivative.put_moved.Lts as lts
 use Rattle.goals.proofs.words.put_goal.Reads as put-goal-reads

@@ -1,11 +1,8 @@
 use Rattle.deriving.proofs.DeriveLaws.{Passing, passing-begin, passing-low, passing-end, move-room, move-on}
 use Rattle.goals.specs.WordStages.{moves}
-use native.Mathlib.Omega.{arith}
 use borrow.Author.Needs.{needs}
 use Rattle.deriving.proofs.derivative.put_moving.Statement.{statement}
 use Rattle.deriving.proofs.derivative.put_moving.Tie as tie
-use Rattle.goals.specs.GoalKinds.{asGoal, asWords}
-use Rattle.goals.specs.WordStages.{reduct}
 use Rattle.deriving.proofs.derivative.put_moving.Reads as reads
 use Rattle.deriving.proofs.derivative.put_moving.Lts as lts
 use Rattle.deriving.proofs.derivative.put_moved.Reads as put-moved-reads

@@ -2,7 +2,6 @@ use Rattle.deriving.proofs.DeriveLaws.{Passing, passing-begin, passing-
 use Rattle.goals.specs.WordStages.{stays}
 use mathlib.Core.Logic.{⊎-elim}
 use mathlib.Core.Path.{_∙_}
-use native.Mathlib.Omega.{arith}
 use borrow.Author.Needs.{needs}
 use Rattle.deriving.proofs.derivative.put_staying.Statement.{statement}
 use Rattle.deriving.proofs.derivative.put_staying.Tie as tie

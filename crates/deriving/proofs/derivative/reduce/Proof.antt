@@ -1,16 +1,12 @@
-use Rattle.goals.specs.GoalKinds.{asGoal, asWords}
+use Rattle.goals.specs.GoalKinds.{asWords}
 use Rattle.deriving.proofs.DeriveLaws.{no-node, no-symbol, reduces}
 use Rattle.goals.proofs.GoalLaws.{node-low}
-use Rattle.goals.specs.GoalWords.{nodeAt, sizeOf, goalW}
-use borrow.Author.Tests.{eq-eqb, ne-eqb}
-use Prim.Native.Nat.{ℕ, suc, _+_, _*_}
-use lib.ListN.{length, getD}
-use mathlib.Core.Path.{_≡_, refl, ap, ap₂, sym, _∙_}
+use Rattle.goals.specs.GoalWords.{sizeOf}
+use mathlib.Core.Path.{sym, _∙_}
 use native.Mathlib.Omega.{arith}
 use borrow.Author.Needs.{needs}
 use Rattle.deriving.proofs.derivative.reduce.Statement.{statement}
 use Rattle.deriving.proofs.derivative.reduce.Tie as tie
-use Rattle.goals.specs.GoalKinds.{asGoal, asWords}
 use Rattle.deriving.proofs.derivative.reduce.Reads as reads
 use Rattle.deriving.proofs.derivative.reduce.Lts as lts
 use Rattle.goals.proofs.obligations.mask_after.Reads as mask-after-reads

@@ -1,9 +1,9 @@
 use Rattle.deriving.proofs.LiftLaws.{least-next, least-keep, least-end}
 use Rattle.goals.specs.GoalWords.{goalsFrom}
 use Rattle.goals.specs.WordStages.{leastCode}
-use Prim.Native.Nat.{ℕ, _≤_, _<_, _+_, _-_, _*_}
+use Prim.Native.Nat.{_+_, _*_}
 use mathlib.Core.Logic.{⊎-elim}
-use mathlib.Core.Path.{_≡_, refl, ap, sym, _∙_}
+use mathlib.Core.Path.{_≡_, refl, sym, _∙_}
 use native.Mathlib.Omega.{arith}
 use borrow.Author.Needs.{needs}
 use Rattle.deriving.proofs.lift.least.Statement.{statement}

@@ -1,18 +1,16 @@
 use Rattle.goals.specs.declared.Goal.{Goal}
 use Rattle.deriving.proofs.LiftLaws.{lifted, lifted-next, lifted-end}
 use Rattle.deriving.proofs.DeriveLaws.{run-three}
-use Rattle.goals.specs.GoalWords.{goalsFrom}
 use Rattle.goals.specs.WordStages.{underCode}
-use Prim.Native.Nat.{ℕ, _≤_, _<_, _+_, _-_, _*_}
+use Prim.Native.Nat.{ℕ, _≤_, _+_, _-_, _*_}
 use lib.Seq.{sets}
 use lib.ListN.{length, getD}
-use mathlib.Core.List.{List, [], _∷_}
+use mathlib.Core.List.{[], _∷_}
 use mathlib.Core.Path.{_≡_, refl, ap, ap₂, sym, _∙_}
 use native.Mathlib.Omega.{arith}
 use borrow.Author.Needs.{needs}
 use Rattle.deriving.proofs.lift.put_lifted.Statement.{statement}
 use Rattle.deriving.proofs.lift.put_lifted.Tie as tie
-use Rattle.goals.specs.declared.Goal.{Goal}
 use Rattle.deriving.proofs.lift.put_lifted.Reads as reads
 use Rattle.deriving.proofs.lift.put_lifted.Lts as lts
 use Rattle.deriving.proofs.lift.under.Reads as under-reads

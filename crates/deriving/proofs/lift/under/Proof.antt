@@ -1,6 +1,6 @@
 use Rattle.deriving.proofs.LiftLaws.{under-stop, under-next, under-end, five-le, five-next, rem-le}
 use Rattle.goals.specs.WordStages.{underFrom, underCode}
-use Prim.Native.Nat.{ℕ, _≤_, _<_, _+_, _-_, _*_, _/_, _^_}
+use Prim.Native.Nat.{_≤_, _-_, _*_, _^_}
 use mathlib.Core.Path.{_≡_, refl, ap, sym, _∙_}
 use native.Mathlib.Omega.{arith}
 use borrow.Author.Needs.{needs}

@@ -1,8 +1,7 @@
 use Rattle.states.proofs.ExploreLaws.{Running, running-begin, running-on, running-stop, running-end, fresh-room}
 use Rattle.decoding.proofs.GoodLaws.{ready-few}
-use lib.ListN.{length, getD}
-use Prim.Native.Nat.{ℕ, _≤_, _<_, _+_, _-_, _*_, _/_, _%_}
-use mathlib.Core.Path.{_≡_, refl, ap, ap₂, sym, _∙_}
+use Prim.Native.Nat.{_-_}
+use mathlib.Core.Path.{_∙_}
 use native.Mathlib.Omega.{arith}
 use borrow.Author.Needs.{needs}
 use Rattle.exploring.proofs.meeting.explore.Statement.{statement}

@@ -1,12 +1,9 @@
 use Rattle.states.proofs.ExploreLaws.{Rowing, rowing-begin, rowing-symbol, rowing-on, rowing-stop, rowing-end}
 use Rattle.states.proofs.PartLaws.{held-good, held-count, held-number, held-stored}
-use Rattle.decoding.proofs.GoodLaws.{good-low, good-label}
-use Rattle.decoding.specs.GoodStates.{GoodState}
-use Rattle.goals.specs.GoalWords.{labelCode}
-use Rattle.decoding.specs.WordMachine.{stateIn}
-use lib.ListN.{length, getD}
-use Prim.Native.Nat.{ℕ, _≤_, _<_, _+_, _-_, _*_, _/_, _%_}
-use mathlib.Core.Path.{_≡_, refl, ap, ap₂, sym, _∙_}
+use Rattle.decoding.proofs.GoodLaws.{good-label}
+use lib.ListN.{length}
+use Prim.Native.Nat.{_-_}
+use mathlib.Core.Path.{_∙_}
 use native.Mathlib.Omega.{arith}
 use borrow.Author.Needs.{needs}
 use Rattle.exploring.proofs.meeting.explore_state.Statement.{statement}

@@ -1,6 +1,5 @@
 use Rattle.states.proofs.ExploreLaws.{symbol-base, symbol-met}
 use Rattle.classes.proofs.ClosureLaws.{empty-square}
-use mathlib.Core.Path.{refl}
 use native.Mathlib.Omega.{arith}
 use borrow.Author.Needs.{needs}
 use Rattle.exploring.proofs.meeting.explore_symbol.Statement.{statement}

@@ -1,7 +1,7 @@
 use Rattle.states.proofs.ExploreLaws.{Meeting, meeting-begin, meeting-on, meeting-stop, meeting-end}
 use lib.ListN.{length}
-use Prim.Native.Nat.{ℕ, _≤_, _<_, _+_, _-_, _*_}
-use mathlib.Core.Path.{_≡_, refl, ap, sym, _∙_}
+use Prim.Native.Nat.{_-_}
+use mathlib.Core.Path.{_∙_}
 use native.Mathlib.Omega.{arith}
 use borrow.Author.Needs.{needs}
 use Rattle.exploring.proofs.meeting.meet_all.Statement.{statement}

@@ -1,8 +1,8 @@
 use Rattle.goals.proofs.GoalLaws.{word-mul}
 use Rattle.goals.specs.GoalWords.{powersAt}
-use lib.ListN.{length, getD, drop, set, length-set}
-use Prim.Native.Nat.{ℕ, _≤_, _<_, _+_, _-_, _*_, _/_, _%_, _^_}
-use mathlib.Core.Path.{_≡_, refl, ap, ap₂, sym, _∙_}
+use lib.ListN.{getD}
+use Prim.Native.Nat.{_+_, _*_}
+use mathlib.Core.Path.{refl}
 use native.Mathlib.Omega.{arith}
 use borrow.Author.Needs.{needs}
 use Rattle.goals.proofs.obligations.code_at.Statement.{statement}

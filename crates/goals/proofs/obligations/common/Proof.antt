@@ -1,11 +1,9 @@
 use Rattle.goals.proofs.GoalLaws.{has-next, has-here, has-end, first-next, first-here, first-end}
 use Rattle.goals.specs.WordStages.{hasCode}
 use Rattle.goals.specs.Sharing.{firstShared}
-use mathlib.Core.Bool.{Bool, true, false}
-use lib.ListN.{length, getD, drop, set, length-set}
-use Prim.Native.Nat.{ℕ, _≤_, _<_, _+_, _-_, _*_, _/_, _%_, _^_}
-use mathlib.Core.Path.{_≡_, refl, ap, sym, _∙_}
-use native.Mathlib.Omega.{arith}
+use lib.ListN.{length, drop}
+use Prim.Native.Nat.{_-_}
+use mathlib.Core.Path.{_≡_, sym, _∙_}
 use borrow.Author.Needs.{needs}
 use Rattle.goals.proofs.obligations.common.Statement.{statement}
 use Rattle.goals.proofs.obligations.common.Tie as tie

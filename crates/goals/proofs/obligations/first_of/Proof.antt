@@ -1,9 +1,9 @@
 use Rattle.goals.proofs.GoalLaws.{best-next, best-keep, best-end}
 use mathlib.Core.Logic.{⊎-elim}
-use Rattle.goals.specs.GoalWords.{firstCode, pad}
-use lib.ListN.{length, getD, drop, set, length-set}
-use Prim.Native.Nat.{ℕ, _≤_, _<_, _+_, _-_, _*_, _/_, _%_, _^_}
-use mathlib.Core.Path.{_≡_, refl, ap, sym, _∙_}
+use Rattle.goals.specs.GoalWords.{firstCode}
+use lib.ListN.{length, drop}
+use Prim.Native.Nat.{_-_}
+use mathlib.Core.Path.{_≡_, sym, _∙_}
 use native.Mathlib.Omega.{arith}
 use borrow.Author.Needs.{needs}
 use Rattle.goals.proofs.obligations.first_of.Statement.{statement}

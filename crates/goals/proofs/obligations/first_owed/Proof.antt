@@ -1,9 +1,8 @@
 use Rattle.goals.proofs.GoalLaws.{owed-short, front}
 use Rattle.goals.specs.GoalWords.{owedCodes, sizeOf, firstCode}
-use lib.Seq.{sets}
 use Prim.Native.Nat.{ℕ, _-_}
-use lib.ListN.{length, replicate, take, drop}
-use mathlib.Core.Path.{_≡_, refl, ap, ap₂, sym, _∙_}
+use lib.ListN.{replicate, take, drop}
+use mathlib.Core.Path.{ap, _∙_}
 use native.Mathlib.Omega.{arith}
 use borrow.Author.Needs.{needs}
 use Rattle.goals.proofs.obligations.first_owed.Statement.{statement}

@@ -1,15 +1,13 @@
 use Rattle.goals.specs.declared.Goal.{Goal}
 use Rattle.goals.proofs.GoalLaws.{label-on, label-off, label-end, low-next}
-use Rattle.goals.specs.GoalWords.{owedCodes, sizeOf, firstCode, labelCode, rootCodes, goalsFrom, Low}
+use Rattle.goals.specs.GoalWords.{firstCode, labelCode, rootCodes, goalsFrom, Low}
 use mathlib.Core.Logic.{⊎-elim}
-use Prim.Native.Nat.{ℕ, _-_, _+_, _*_, _≤_, _<_}
-use lib.ListN.{length, getD}
-use mathlib.Core.Path.{_≡_, refl, ap, ap₂, sym, _∙_}
+use Prim.Native.Nat.{_+_, _*_}
+use mathlib.Core.Path.{_≡_, refl, ap, sym, _∙_}
 use native.Mathlib.Omega.{arith}
 use borrow.Author.Needs.{needs}
 use Rattle.goals.proofs.obligations.label.Statement.{statement}
 use Rattle.goals.proofs.obligations.label.Tie as tie
-use Rattle.goals.specs.declared.Goal.{Goal}
 use Rattle.goals.proofs.obligations.label.Reads as reads
 use Rattle.goals.proofs.obligations.label.Lts as lts
 use Rattle.goals.proofs.obligations.first_owed.Reads as first-owed-reads

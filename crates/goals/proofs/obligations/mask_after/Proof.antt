@@ -2,9 +2,8 @@ use lib.Bits.{bitOr, bitXor}
 use lib.Dec.{lit<}
 use lib.Pow.{shl-exact}
 use native.Mathlib.Nat.{one-mul}
-use lib.ListN.{length, getD, drop, set, length-set}
-use Prim.Native.Nat.{ℕ, _≤_, _<_, _+_, _-_, _*_, _/_, _%_, _^_}
-use mathlib.Core.Path.{_≡_, refl, ap, ap₂, sym, _∙_}
+use Prim.Native.Nat.{ℕ}
+use mathlib.Core.Path.{ap, _∙_}
 use native.Mathlib.Omega.{arith}
 use borrow.Author.Needs.{needs}
 use Rattle.goals.proofs.obligations.mask_after.Statement.{statement}

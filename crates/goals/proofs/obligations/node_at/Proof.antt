@@ -1,10 +1,8 @@
 use mathlib.Core.Logic.{⊎-elim}
-use mathlib.Core.Path.{_≡_, refl, ap, ap₂, sym, _∙_}
+use mathlib.Core.Path.{_≡_, refl, sym, _∙_}
 use Rattle.goals.proofs.GoalLaws.{node-here, node-other, node-off, node-end}
-use Rattle.goals.specs.GoalWords.{nodeFrom, nodeAt, sizeOf, sizesAt, codeAt, Tabled}
-use lib.ListN.{length, getD, drop, set, length-set}
-use Prim.Native.Nat.{ℕ, _≤_, _<_, _+_, _-_, _*_, _/_, _%_, _^_}
-use mathlib.Core.Path.{_≡_, refl, ap, sym, _∙_}
+use Rattle.goals.specs.GoalWords.{nodeFrom, nodeAt, sizeOf, sizesAt}
+use Prim.Native.Nat.{_+_, _*_}
 use native.Mathlib.Omega.{arith}
 use borrow.Author.Needs.{needs}
 use Rattle.goals.proofs.obligations.node_at.Statement.{statement}

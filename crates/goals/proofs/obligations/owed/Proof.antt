@@ -1,18 +1,15 @@
-use mathlib.Core.Path.{_≡_, refl, ap, ap₂, sym, _∙_}
+use mathlib.Core.Path.{_≡_, refl, ap, sym, _∙_}
 use Rattle.goals.proofs.GoalLaws.{owed-on, owed-off, owed-end, run-on}
-use Rattle.goals.specs.GoalWords.{owedFrom, owedBy, sizeOf, sizesAt, codeAt, Tabled}
+use Rattle.goals.specs.GoalWords.{owedFrom, owedBy, sizeOf, sizesAt, codeAt}
 use Rattle.goals.specs.GoalKinds.{asWords}
 use mathlib.Core.Logic.{⊎-elim}
 use lib.Seq.{sets}
-use lib.ListN.{length, getD, drop, set, length-set}
-use Prim.Native.Nat.{ℕ, _≤_, _<_, _+_, _-_, _*_, _/_, _%_, _^_}
-use mathlib.Core.Path.{_≡_, refl, ap, sym, _∙_}
+use lib.ListN.{length, length-set}
+use Prim.Native.Nat.{_≤_, _+_, _-_, _*_, _/_}
 use native.Mathlib.Omega.{arith}
 use borrow.Author.Needs.{needs}
 use Rattle.goals.proofs.obligations.owed.Statement.{statement}
 use Rattle.goals.proofs.obligations.owed.Tie as tie
-use Rattle.goals.specs.GoalWords.{owedFrom, owedBy, sizeOf, sizesAt, codeAt, Tabled}
-use Rattle.goals.specs.GoalKinds.{asWords}
 use Rattle.goals.proofs.obligations.owed.Reads as reads
 use Rattle.goals.proofs.obligations.owed.Lts as lts
 use Rattle.goals.proofs.obligations.code_at.Reads as code-at-reads

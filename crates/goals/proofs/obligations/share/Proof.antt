@@ -1,10 +1,9 @@
 use Rattle.goals.proofs.GoalLaws.{owed-short, front}
 use Rattle.goals.specs.Sharing.{firstShared}
 use Rattle.goals.specs.GoalWords.{owedCodes, sizeOf}
-use lib.Seq.{sets}
-use lib.ListN.{length, replicate, take, drop}
+use lib.ListN.{replicate, take, drop}
 use Prim.Native.Nat.{ℕ, _-_}
-use mathlib.Core.Path.{_≡_, refl, ap, ap₂, sym, _∙_}
+use mathlib.Core.Path.{ap, ap₂, _∙_}
 use native.Mathlib.Omega.{arith}
 use borrow.Author.Needs.{needs}
 use Rattle.goals.proofs.obligations.share.Statement.{statement}

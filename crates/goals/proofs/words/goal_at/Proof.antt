@@ -1,5 +1,4 @@
 use mathlib.Core.Path.{refl}
-use native.Mathlib.Omega.{arith}
 use borrow.Author.Needs.{needs}
 use Rattle.goals.proofs.words.goal_at.Statement.{statement}
 use Rattle.goals.proofs.words.goal_at.Tie as tie

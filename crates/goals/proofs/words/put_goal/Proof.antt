@@ -1,8 +1,8 @@
 use lib.Seq.{lt-length-set}
-use Prim.Native.Nat.{ℕ, suc, _+_}
+use Prim.Native.Nat.{suc, _+_}
 use native.Mathlib.Numerals.{add-one}
-use lib.ListN.{length, getD, set, length-set}
-use mathlib.Core.Path.{_≡_, refl, ap, ap₂, sym, _∙_}
+use lib.ListN.{set}
+use mathlib.Core.Path.{_≡_, refl}
 use native.Mathlib.Omega.{arith}
 use borrow.Author.Needs.{needs}
 use Rattle.goals.proofs.words.put_goal.Statement.{statement}

@@ -1,9 +1,6 @@
 use Rattle.plan.proofs.BuildLaws.{Clearing, clearing-begin, clearing-on, clearing-end, clearing-done}
-use lib.ListN.{length}
-use Prim.Native.Nat.{ℕ, _≤_, _<_, _+_, _-_, _*_, _/_, _%_}
-use mathlib.Core.Path.{_≡_, refl, ap, ap₂, sym, _∙_}
+use Prim.Native.Nat.{_-_}
 use native.Mathlib.Omega.{arith}
-use borrow.Author.Needs.{needs}
 use Rattle.plan.proofs.building.clear.Statement.{statement}
 use Rattle.plan.proofs.building.clear.Tie as tie
 use Rattle.plan.proofs.building.clear.Reads as reads

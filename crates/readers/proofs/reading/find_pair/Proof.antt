@@ -2,7 +2,7 @@ use mathlib.Core.Path.{ap, sym, _∙_}
 use mathlib.Core.Bool.{cond}
 use native.Mathlib.Omega.{arith}
 use borrow.Author.Tests.{not-true, not-false}
-use Rattle.readers.specs.BlockWords.{begins, middle, outsAt, nextsAt}
+use Rattle.readers.specs.BlockWords.{begins, outsAt, nextsAt}
 use Rattle.readers.specs.PlanParts.{pairAt}
 use Rattle.readers.proofs.LawsParts as law
 use lib.ListN.{getD}

@@ -1,8 +1,7 @@
 use Rattle.report.proofs.DigitLaws.{digits-none, digits-single, digits-more, digits-few}
-use mathlib.Core.Path.{_≡_, refl, ap, sym, _∙_}
 use native.Mathlib.Omega.{arith}
-use Prim.Native.Nat.{_-_, _≤_, _+_, _/_}
-use lib.ListN.{length, length-set}
+use Prim.Native.Nat.{_-_, _/_}
+use lib.ListN.{length-set}
 use borrow.Author.Needs.{needs}
 use Prim.Native.Nat.{ℕ, _<_}
 use borrow.Fn.Kinds.{In}

@@ -1,9 +1,6 @@
-use Prim.Native.Nat.{ℕ, _+_, _-_, _≤_, _<_}
-use mathlib.Core.Path.{_≡_, refl, ap, sym, _∙_}
+use Prim.Native.Nat.{ℕ, _-_}
 use native.Mathlib.Omega.{arith}
-use lib.ListN.{length, getD, drop, length-set}
-use lib.Seq.{sets}
-use Rattle.report.specs.Text.{pathText, digitsTo}
+use lib.ListN.{length, getD, length-set}
 use Rattle.report.proofs.DigitLaws.{digits-few}
 use Rattle.report.proofs.TextLaws.{Dots, dots-begin, dots-next, dots-end, path-root}
 use borrow.Author.Needs.{needs}

@@ -1,8 +1,7 @@
 use Rattle.states.proofs.StateLaws.{placeFrom, place-all, place-here, place-next, place-end}
 use Rattle.goals.specs.GoalWords.{goalsFrom}
-use Prim.Native.Nat.{ℕ, _≤_, _<_, _+_, _-_, _*_}
-use lib.ListN.{length, getD}
-use mathlib.Core.Path.{_≡_, refl, ap, sym, _∙_}
+use Prim.Native.Nat.{_≤_, _-_}
+use mathlib.Core.Path.{_≡_, refl, sym, _∙_}
 use native.Mathlib.Omega.{arith}
 use borrow.Author.Needs.{needs}
 use Rattle.states.proofs.keeping.find_state.Statement.{statement}

@@ -1,7 +1,6 @@
-use Rattle.tables.proofs.TableLaws.{in-any, past}
-use mathlib.Core.Path.{_≡_, refl, ap, sym, _∙_}
+use Rattle.tables.proofs.TableLaws.{past}
+use mathlib.Core.Path.{refl, sym}
 use native.Mathlib.Omega.{arith}
-use lib.ListN.{length, getD}
 use borrow.Author.Needs.{needs}
 use Rattle.tables.proofs.filling.children_of.Statement.{statement}
 use Rattle.tables.proofs.filling.children_of.Tie as tie

@@ -1,11 +1,10 @@
 use native.Mathlib.Numerals.{add-one}
 use native.Mathlib.Omega.{arith}
-use mathlib.Core.Path.{_≡_, refl, ap, ap₂, sym, _∙_}
-use mathlib.Core.List.{List, [], _∷_}
-use Prim.Native.Nat.{ℕ, suc, _≤_, _<_, _+_, _-_, _*_}
+use mathlib.Core.Path.{_≡_, refl, ap, sym, _∙_}
+use Prim.Native.Nat.{_≤_, _<_, _+_, _-_}
 use lib.Seq.{sets}
-use lib.ListN.{length, getD, set, length-set}
-use Rattle.tables.specs.ShapeTables.{entryW, entriesFrom, tableWords}
+use lib.ListN.{length, length-set}
+use Rattle.tables.specs.ShapeTables.{entriesFrom, tableWords}
 use Rattle.tables.proofs.TableLaws.{entries-next, entries-end}
 use borrow.Author.Needs.{needs}
 use Rattle.tables.proofs.filling.fill_tables.Statement.{statement}

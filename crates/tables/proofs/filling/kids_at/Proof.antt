@@ -1,13 +1,12 @@
 use Rattle.tables.proofs.TableLaws.{kids-end, kids-there, kids-on, kids-off}
-use Rattle.tables.specs.ShapeTables.{kidsFrom, kidsAt, spanAt, wordAt}
-use mathlib.Core.Path.{_≡_, refl, ap, ap₂, sym, _∙_}
+use Rattle.tables.specs.ShapeTables.{kidsFrom, kidsAt}
+use mathlib.Core.Path.{_≡_, ap, sym, _∙_}
 use mathlib.Core.Logic.{⊎-elim}
 use native.Mathlib.Omega.{arith}
 use native.Mathlib.Nat.{one-mul}
 use lib.Dec.{lit<}
 use lib.Pow.{shl-exact, pow-lt}
-use lib.ListN.{length, getD}
-use Prim.Native.Nat.{ℕ, _≤_, _<_, _+_, _-_, _*_, _%_, _^_}
+use Prim.Native.Nat.{_≤_, _<_, _+_, _*_, _^_}
 use borrow.Author.Needs.{needs}
 use Rattle.tables.proofs.filling.kids_at.Statement.{statement}
 use Rattle.tables.proofs.filling.kids_at.Tie as tie

@@ -1,5 +1,4 @@
-use native.Mathlib.Omega.{arith}
-use mathlib.Core.Path.{_≡_, refl, ap, ap₂, sym, _∙_}
+use mathlib.Core.Path.{sym, _∙_}
 use Rattle.tables.proofs.TableLaws.{word-0, word-1, word-2, word-3, word-4}
 use borrow.Author.Needs.{needs}
 use Rattle.tables.proofs.filling.node_word.Statement.{statement}

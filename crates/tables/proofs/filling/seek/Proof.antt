@@ -1,10 +1,9 @@
 use Rattle.tables.proofs.TableLaws.{seek-end, seek-there, seek-down, seek-on}
-use Rattle.tables.specs.ShapeTables.{seekFrom, spanAt}
-use mathlib.Core.Path.{_≡_, refl, ap, ap₂, sym, _∙_}
+use Rattle.tables.specs.ShapeTables.{seekFrom}
+use mathlib.Core.Path.{_≡_, refl, sym, _∙_}
 use mathlib.Core.Logic.{⊎-elim}
 use native.Mathlib.Omega.{arith}
-use lib.ListN.{length, getD}
-use Prim.Native.Nat.{ℕ, _≤_, _<_, _+_, _-_, _*_, _%_}
+use Prim.Native.Nat.{_≤_, _+_, _*_}
 use borrow.Author.Needs.{needs}
 use Rattle.tables.proofs.filling.seek.Statement.{statement}
 use Rattle.tables.proofs.filling.seek.Tie as tie

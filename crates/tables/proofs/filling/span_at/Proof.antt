@@ -1,9 +1,9 @@
 use Rattle.tables.proofs.TableLaws.{span-end, span-none, span-next}
-use Rattle.tables.specs.ShapeTables.{spanFrom, wordAt}
-use mathlib.Core.Path.{_≡_, refl, ap, sym, _∙_}
+use Rattle.tables.specs.ShapeTables.{spanFrom}
+use mathlib.Core.Path.{_≡_, refl, ap, _∙_}
 use native.Mathlib.Omega.{arith}
-use lib.ListN.{length, getD}
-use Prim.Native.Nat.{ℕ, _≤_, _<_, _+_, _-_, _*_}
+use lib.ListN.{getD}
+use Prim.Native.Nat.{_≤_, _+_, _-_, _*_}
 use borrow.Author.Needs.{needs}
 use Rattle.tables.proofs.filling.span_at.Statement.{statement}
 use Rattle.tables.proofs.filling.span_at.Tie as tie

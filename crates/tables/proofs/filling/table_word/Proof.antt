@@ -1,8 +1,6 @@
 use native.Mathlib.Omega.{arith}
-use mathlib.Core.Path.{_≡_, refl, ap, ap₂, sym, _∙_}
-use Prim.Native.Nat.{ℕ, _≤_, _<_, _+_, _-_, _*_, _%_, _/_}
-use lib.ListN.{length, getD}
-use Rattle.tables.specs.ShapeTables.{entryW, nodeWord, spanAt}
+use mathlib.Core.Path.{sym, _∙_}
+use Prim.Native.Nat.{_%_, _/_}
 use Rattle.tables.proofs.TableLaws.{entry-none, entry-past, entry-in}
 use borrow.Author.Needs.{needs}
 use Rattle.tables.proofs.filling.table_word.Statement.{statement}

@@ -1,5 +1,5 @@
 use Rattle.tables.proofs.TableLaws.{in-any, past}
-use mathlib.Core.Path.{_≡_, refl, ap, sym, _∙_}
+use mathlib.Core.Path.{sym}
 use borrow.Author.Needs.{needs}
 use Rattle.tables.proofs.filling.word_at.Statement.{statement}
 use Rattle.tables.proofs.filling.word_at.Tie as tie
