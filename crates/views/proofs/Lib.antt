@@ -1,2 +1,5 @@
+pub mod Answering
 pub mod Passing
 pub mod PassingPairs
+pub mod Opening
+pub mod OpeningPairs
