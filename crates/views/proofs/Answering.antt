@@ -1,4 +1,5 @@
--- Functions over one lifetime whose contract is what they say of their answer: nothing is required, and nothing is said of a parameter at the exit. What their proofs share:
+-- Functions over one lifetime whose contract is what they say of their answer: nothing is required, and nothing is said of a parameter at the exit.
+-- What their proofs share:
 --     Laws ss          what a walk needs of the parameters.        nothing-else, also        of none, and of one more
 --     Function         what a function is asked, what it answers, and what it says of the answer.        Told        its contract
 --     Call             one call: its lifetime and share, and what is passed
@@ -14,7 +15,8 @@ use prog.Wp.{Heap, Env, Calls, Loops, WpFn, Tables}
 use ghost.Atoms.{Atoms, sem}
 use contract.Lifetimes.{Lfts}
 use contract.Monad.{fact}
-use types.Kit.{Given, Item, ‵, raw, _⊛_, ⋆, some, later, Post, runs, lands, Seq, _$_, _∵_, !, qed, move, use0, use1, use2, split, join, pick, suffices, frame, await, done}
+use types.Kit.{Given, Item, ‵, raw, _⊛_, ⋆, some, later, Post, runs, lands, Seq, _$_, _∵_, ! }
+use types.Kit.{qed, move, use0, use1, use2, split, join, pick, suffices, frame, await, done}
 use types.Run.{Opds}
 use sound.WpLaws.{FmC, WpFn-mono}
 use denote.RattleType.{RattleType, Denots, Valss, flat, owns}
@@ -102,7 +104,7 @@ module _ (F : Function) where
   ended = record { signature = record { lifetimes = 1; outlives = []; params = F .asked; result = plain (F .answer) }; kept = all yes (F .asked) }
 
   module _ {M : Type 1} (𝓤 : URA M) where
-    abbrev clauses : Clauses 𝓤 ended
+    abbrev pub clauses : Clauses 𝓤 ended
     clauses κs a = record { ghost = Unit {0}; requires = λ g. emp 𝓤; ensures = λ g r e. fact 𝓤 (F .says κs a r) }
 
   module _ {M : Type 1} (𝓤 : URA M) (H : Heap 𝓤) (A : Atoms 𝓤) where

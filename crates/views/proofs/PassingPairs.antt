@@ -9,12 +9,12 @@ use ghost.Atoms.{Atoms}
 use types.Kit.{Given, raw, _$_, _∵_, !, qed, by, move}
 use types.Run.{look, init, forget, stop, from, load, and-then, no-more, land, returns, enter, alloc1, alloc0, params1, pass1, pass0, free1, free0}
 use sound.WpLaws.{FmC}
-use denote.Builtin.{u16, usize}
+use denote.Builtin.{u16}
 use denote.Enum.Declared as E
 use denote.Enum.Enum.{Few}
 use denote.Enum.Laws as EL
 use denote.RattleType.{mirs}
-use denote.Signature.{plain, typesAt}
+use denote.Signature.{typesAt}
 use denote.Slice.{shr-slice-lawful}
 use denote.Struct.Laws as LL
 use denote.Triple.Statement.{Triple}
@@ -24,8 +24,9 @@ use Rattle.kinds.proofs.Symbol as symbol
 use Rattle.kinds.proofs.Symbol.Laws as symbol′
 use Rattle.views.proofs.PlanView.Laws as T′
 use Rattle.views.proofs.Answering as answering
-use Rattle.views.proofs.Answering.{Told, also-state, also-symbol, also-usize, nothing-else}
+use Rattle.views.proofs.Answering.{Function, Told}
 use Rattle.views.proofs.Passing as P
+use Rattle.views.proofs.Readers as readers
 use Rattle.views.proofs.viewing.view.Symbol.{name as #view}
 
 abbrev pub values : List Ty → List Local
@@ -33,14 +34,11 @@ values [] = []
 values (τ ∷ τs) = local τ valueLocal ∷ values τs
 
 module _ (N : E.Declared) (L : EL.Laws N) (few : Few (E.shape N)) (found : List ℕ → ℕ → ℕ → ℕ → ℕ → ℕ → N .D) where
-  abbrev pub reader : P.Reader
-  reader = record {
-    asked = plain (λ _. state.the-row) ∷ plain (λ _. symbol.the-row) ∷ plain (λ _. usize) ∷ [];
-    laws = also-state (also-symbol (also-usize nothing-else));
-    answer = E.row N;
-    lawful = λ 𝓤 H A W. EL.lawful N L 𝓤 H A W few;
-    found = λ κs w m k a. found w m k (a .0 .0) (a .1 .0 .0) (a .1 .1 .0);
-  }
+  abbrev reader : readers.Reader
+  reader = readers.pair N L few found
+
+  abbrev F : Function
+  F = readers.over-words reader
 
   -- the code, at the reader that is called
   abbrev pub code : Name → Fn
@@ -48,17 +46,17 @@ module _ (N : E.Declared) (L : EL.Laws N) (few : Few (E.shape N)) (found : List 
     lifetimes = 1;
     outlives = [];
     params = 6;
-    locals = values (E.row N .mir ++ (mirs (typesAt (P.over-words reader .asked) ([], tt)) ++ (T′.mir erased ∷ [])));
+    locals = values (E.row N .mir ++ (mirs (typesAt (F .asked) ([], tt)) ++ (T′.mir erased ∷ [])));
     body = seq (call #view (copy (place 1 []) ∷ copy (place 2 []) ∷ copy (place 3 []) ∷ []) (place 7 []))
         (seq (call f (copy (place 7 []) ∷ copy (place 4 []) ∷ copy (place 5 []) ∷ copy (place 6 []) ∷ []) (place 0 [])) return);
   }
 
   module _ {M : Type 1} (𝓤 : URA M) (H : Heap 𝓤) (A : Atoms 𝓤) (W : Given 𝓤 H A) (C : Calls 𝓤 H)
-      (Λ : Loops 𝓤 H) (fm : FmC 𝓤 H (W .laws) C) (known-new : Triple 𝓤 (C #view) (Told P.making 𝓤 H A)) (f : Name)
-      (known-next : Triple 𝓤 (C f) (Told (P.over-view reader) 𝓤 H A)) where
-    pub walk : answering.Walk (P.over-words reader) 𝓤 H A W (code f) C Λ
+      (Λ : Loops 𝓤 H) (fm : FmC 𝓤 H (W .laws) C) (known-new : Triple 𝓤 (C #view) (Told readers.making 𝓤 H A)) (f : Name)
+      (known-next : Triple 𝓤 (C f) (Told (readers.over-view reader) 𝓤 H A)) where
+    pub walk : answering.Walk F 𝓤 H A W (code f) C Λ
     walk c are =
-        qed W (raw (answering.entry (P.over-words reader) 𝓤 H A W c) ∷ []) ∵ enter ! C Λ (code f) (answering.passed (P.over-words reader) c) _ $
+        qed W (raw (answering.entry F 𝓤 H A W c) ∷ []) ∵ enter ! C Λ (code f) (answering.passed F c) _ $
         alloc1 ! (λ l₀. alloc1 ! (λ l₁. alloc1 ! (λ l₂. alloc1 ! (λ l₃. alloc1 ! (λ l₄.
         alloc1 ! (λ l₅. alloc1 ! (λ l₆. alloc1 ! (λ l₇. alloc0 ! $ params1 ! $
         pass1 ! (init ! 12 refl (shr-slice-lawful 𝓤 H A W (named 0) (c .lft) u16 .typed (c .args .0) _ (are .0) .0)) $
@@ -81,4 +79,4 @@ module _ (N : E.Declared) (L : EL.Laws N) (few : Few (E.shape N)) (found : List 
         forget ! 16 refl $
         move ! (16 ∷ 17 ∷ []) $ free1 ! $ move ! (14 ∷ 15 ∷ []) $ free1 ! $ move ! (12 ∷ 13 ∷ []) $ free1 ! $ move ! (10 ∷ 11 ∷ []) $ free1 ! $
         move ! (8 ∷ 9 ∷ []) $ free1 ! $ move ! (6 ∷ 7 ∷ []) $ free1 ! $ move ! (4 ∷ 5 ∷ []) $ free1 ! $ move ! (2 ∷ 3 ∷ []) $ free1 ! $ free0 ! $
-        by ! (answering.exits (P.over-words reader) 𝓤 H A W c t w found)))))))))))
+        by ! (answering.exits F 𝓤 H A W c t w found)))))))))))

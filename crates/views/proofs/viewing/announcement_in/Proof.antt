@@ -10,18 +10,17 @@ use Rattle.readers.proofs.Announcement.Laws as S′
 use Rattle.readers.proofs.reading.announcement_of.Symbol as callee-def
 use Rattle.readers.proofs.reading.announcement_of.Symbol.{name as #announcement-of}
 use Rattle.readers.proofs.reading.announcement_of.Met as callee-thm
-use Rattle.views.proofs.Answering as answering
 use Rattle.views.proofs.Answering.{Told}
+use Rattle.views.proofs.Opening as O
 use Rattle.views.proofs.OpeningPairs as opening
-use Rattle.views.proofs.Passing as P
-use Rattle.views.proofs.PassingPairs as pairs
+use Rattle.views.proofs.Readers as readers
 use Rattle.views.proofs.viewing.announcement_in.Key.{name as #announcement-in}
 use Rattle.views.proofs.viewing.announcement_in as top
 use Rattle.views.proofs.viewing.announcement_in.Statement as stated
 use Rattle.views.proofs.viewing.announcement_in.Code as code
 
-abbrev reader : P.Reader
-reader = pairs.reader S.the-type S′.the-laws tt announcementOf
+abbrev reader : readers.Reader
+reader = readers.pair S.the-type S′.the-laws tt announcementOf
 
 pub announcement-in-spec : {M : Type 1} → stated.statement M
 unfolding code.routine tablesOf
@@ -30,7 +29,7 @@ announcement-in-spec 𝓤 H 𝓜 𝓖 𝓡 =
     let 𝓣 = tablesOf 𝓤 H 𝓜 (tables 𝓤 H 𝓜 𝓡 code.env) in
     entered 𝓤 H (tripleOf 𝓤 H (𝓖 .A) top.signature (top.spec 𝓤 H (𝓖 .A) (𝓜 .mem) (𝓡 .run)))
     (tables 𝓤 H 𝓜 𝓡 code.env .C) (tables 𝓤 H 𝓜 𝓡 code.env .Λ) #announcement-in code.function (code.unfolded 𝓤 H 𝓜 𝓡)
-    (answering.meets (P.over-view reader) 𝓤 H (𝓖 .A) W code.function 𝓣
+    (O.meets reader 𝓤 H (𝓖 .A) W code.function 𝓣
     (opening.walk S.the-type S′.the-laws tt announcementOf 𝓤 H (𝓖 .A) W (𝓣 .C) (𝓣 .Λ) (fmOf 𝓤 H (W .laws) 𝓣) #announcement-of
-    (cited 𝓤 H (Told (P.over-words reader) 𝓤 H (𝓖 .A)) 𝓜 𝓡 code.env #announcement-of callee-def.routine code.calls-readers·reading·announcement-of
+    (cited 𝓤 H (Told (readers.over-words reader) 𝓤 H (𝓖 .A)) 𝓜 𝓡 code.env #announcement-of callee-def.routine code.calls-readers·reading·announcement-of
     (callee-thm.met 𝓤 H 𝓜 𝓖 𝓡))))
