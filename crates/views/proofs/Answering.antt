@@ -32,7 +32,7 @@ use denote.Triple.Call.{calls-at}
 use denote.Triple.Clauses.{Ended, Clauses, ensured, lasts, closing}
 use denote.Triple.End.{Fins, all}
 use denote.Triple.Entry.{onEntry}
-use denote.Triple.Spec.{Meets, tripleOf}
+use denote.Triple.Spec.{tripleOf}
 use denote.Triple.Walked.{says, Stays, stay-dropped, fitsOf, hasOf, walkOf, AllGo, goes-dropped, ends-at, walked, walk-meets}
 use Rattle.kinds.proofs.State as state
 use Rattle.kinds.proofs.State.Laws as state′
@@ -100,11 +100,11 @@ pub record Call (F : Function) : Type 1 where
   pub args : Denots (typesAt (F .asked) (lft, tt))
 
 module _ (F : Function) where
-  abbrev pub ended : Ended
+  abbrev ended : Ended
   ended = record { signature = record { lifetimes = 1; outlives = []; params = F .asked; result = plain (F .answer) }; kept = all yes (F .asked) }
 
   module _ {M : Type 1} (𝓤 : URA M) where
-    abbrev pub clauses : Clauses 𝓤 ended
+    abbrev clauses : Clauses 𝓤 ended
     clauses κs a = record { ghost = Unit {0}; requires = λ g. emp 𝓤; ensures = λ g r e. fact 𝓤 (F .says κs a r) }
 
   module _ {M : Type 1} (𝓤 : URA M) (H : Heap 𝓤) (A : Atoms 𝓤) where
@@ -176,8 +176,7 @@ module _ (F : Function) where
     abbrev pub Walk : Calls 𝓤 H → Loops 𝓤 H → Type 1
     Walk C Λ = (c : Call F) → Are (rows c) (Ises (rows c)) (c .args) (spelled c) → ent 𝓤 (entry 𝓤 H A W c) (WpFn 𝓤 H C Λ code (passed c) (Ends 𝓤 H A W c))
 
-    pub meets : (𝓣 : Tables 𝓤 H) → Walk (𝓣 .C) (𝓣 .Λ)
-        → Meets 𝓤 H A (ended .signature) (WpFn 𝓤 H (𝓣 .C) (𝓣 .Λ) code) (closing 𝓤 H A ended (clauses 𝓤))
+    pub meets : (𝓣 : Tables 𝓤 H) → Walk (𝓣 .C) (𝓣 .Λ) → Triple 𝓤 (WpFn 𝓤 H (𝓣 .C) (𝓣 .Λ) code) (Told 𝓤 H A)
     meets 𝓣 walk =
         walk-meets 𝓤 H A ended (let-go (F .asked)) W (F .laws .goes 𝓤 H A W) (clauses 𝓤)
         (WpFn 𝓤 H (𝓣 .C) (𝓣 .Λ) code) (WpFn-mono 𝓤 H (W .laws) 𝓣 code)

@@ -21,8 +21,6 @@ use denote.Struct.Declared.{Declared}
 use denote.Struct.Laws as LL
 use denote.Struct.Rest.{all-own, own-open}
 use denote.Struct.Values.{Values}
-use denote.Triple.Clauses.{closing}
-use denote.Triple.Spec.{Meets}
 use denote.Triple.Statement.{Triple}
 use Rattle.views.specs.declared.PlanView.{PlanView}
 use Rattle.views.proofs.PlanView as T
@@ -87,6 +85,5 @@ module _ (R : Reader) {M : Type 1} (𝓤 : URA M) (H : Heap 𝓤) (A : Atoms �
       → Are (typesAt (R .asked) (c .lft, tt)) (Ises (typesAt (R .asked) (c .lft, tt))) (c .args .1) (answering.spelled (over-view R) c .1)
       → ent 𝓤 (answering.entry (over-view R) 𝓤 H A W c) (WpFn 𝓤 H C Λ code (answering.passed (over-view R) c) (answering.Ends (over-view R) 𝓤 H A W c))
 
-  pub meets : (𝓣 : Tables 𝓤 H) → Walk (𝓣 .C) (𝓣 .Λ) → Meets 𝓤 H A (answering.ended (over-view R) .signature) (WpFn 𝓤 H (𝓣 .C) (𝓣 .Λ) code)
-      (closing 𝓤 H A (answering.ended (over-view R)) (answering.clauses (over-view R) 𝓤))
+  pub meets : (𝓣 : Tables 𝓤 H) → Walk (𝓣 .C) (𝓣 .Λ) → Triple 𝓤 (WpFn 𝓤 H (𝓣 .C) (𝓣 .Λ) code) (Told (over-view R) 𝓤 H A)
   meets 𝓣 walk = answering.meets (over-view R) 𝓤 H A W code 𝓣 (λ c are. walk c (fits R c 𝓤 H A W (are .0)) (are .1))
