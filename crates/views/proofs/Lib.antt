@@ -1,2 +1,6 @@
+pub mod Answering
+pub mod Opening
+pub mod OpeningPairs
 pub mod Passing
 pub mod PassingPairs
+pub mod Readers

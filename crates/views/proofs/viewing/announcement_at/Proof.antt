@@ -7,8 +7,10 @@ use denote.Triple.Table.{entered, cited}
 use Rattle.readers.specs.PlanParts.{announcementOf}
 use Rattle.readers.proofs.Announcement as S
 use Rattle.readers.proofs.Announcement.Laws as S′
-use Rattle.views.proofs.Passing as P
-use Rattle.views.proofs.PassingPairs as pairs
+use Rattle.views.proofs.Answering as answering
+use Rattle.views.proofs.Answering.{Told}
+use Rattle.views.proofs.PassingPairs as passing
+use Rattle.views.proofs.Readers as readers
 use Rattle.views.proofs.viewing.view.Symbol as new-def
 use Rattle.views.proofs.viewing.view.Symbol.{name as #view}
 use Rattle.views.proofs.viewing.view.Met as new-thm
@@ -20,8 +22,8 @@ use Rattle.views.proofs.viewing.announcement_at as top
 use Rattle.views.proofs.viewing.announcement_at.Statement as stated
 use Rattle.views.proofs.viewing.announcement_at.Code as code
 
-abbrev reader : P.Reader
-reader = pairs.reader S.the-type S′.the-laws tt announcementOf
+abbrev reader : readers.Reader
+reader = readers.pair S.the-type S′.the-laws tt announcementOf
 
 pub announcement-at-spec : {M : Type 1} → stated.statement M
 unfolding code.routine tablesOf
@@ -30,9 +32,9 @@ announcement-at-spec 𝓤 H 𝓜 𝓖 𝓡 =
     let 𝓣 = tablesOf 𝓤 H 𝓜 (tables 𝓤 H 𝓜 𝓡 code.env) in
     entered 𝓤 H (tripleOf 𝓤 H (𝓖 .A) top.signature (top.spec 𝓤 H (𝓖 .A) (𝓜 .mem) (𝓡 .run)))
     (tables 𝓤 H 𝓜 𝓡 code.env .C) (tables 𝓤 H 𝓜 𝓡 code.env .Λ) #announcement-at code.function (code.unfolded 𝓤 H 𝓜 𝓡)
-    (P.meets reader 𝓤 H (𝓖 .A) W (𝓜 .mem) (𝓡 .run) code.function 𝓣
-    (pairs.walk S.the-type S′.the-laws tt announcementOf 𝓤 H (𝓖 .A) W (𝓜 .mem) (𝓡 .run) (𝓣 .C) (𝓣 .Λ) (fmOf 𝓤 H (W .laws) 𝓣)
-    (cited 𝓤 H (P.New reader 𝓤 H (𝓖 .A) (𝓜 .mem) (𝓡 .run)) 𝓜 𝓡 code.env #view new-def.routine code.calls-views·viewing·view (new-thm.met 𝓤 H 𝓜 𝓖 𝓡))
+    (answering.meets (readers.over-words reader) 𝓤 H (𝓖 .A) W code.function 𝓣
+    (passing.walk S.the-type S′.the-laws tt announcementOf 𝓤 H (𝓖 .A) W (𝓣 .C) (𝓣 .Λ) (fmOf 𝓤 H (W .laws) 𝓣)
+    (cited 𝓤 H (Told readers.making 𝓤 H (𝓖 .A)) 𝓜 𝓡 code.env #view new-def.routine code.calls-views·viewing·view (new-thm.met 𝓤 H 𝓜 𝓖 𝓡))
     #announcement-in
-    (cited 𝓤 H (P.Next reader 𝓤 H (𝓖 .A) (𝓜 .mem) (𝓡 .run)) 𝓜 𝓡 code.env #announcement-in next-def.routine code.calls-views·viewing·announcement-in
+    (cited 𝓤 H (Told (readers.over-view reader) 𝓤 H (𝓖 .A)) 𝓜 𝓡 code.env #announcement-in next-def.routine code.calls-views·viewing·announcement-in
     (next-thm.met 𝓤 H 𝓜 𝓖 𝓡))))
