@@ -1,20 +1,21 @@
 -- The checks that later calls repeat pass exactly where the tables lent are those of shapes, or of a score.
 --   shapes-good-shaped shaped-good         not 19
 --   GoodScore score-good-scored scored-good   not 31
-use mathlib.Core.Path.{_≡_, ap, sym, _∙_}
+--   opened-shapes-good opened-score-good   what opening writes passes: neither 19 nor 31 is given for it
+use mathlib.Core.Path.{_≡_, refl, ap, sym, _∙_}
 use mathlib.Core.Bool.{true}
 use mathlib.Core.List.{List}
 use Prim.Native.Nat.{ℕ, _+_}
 use native.Mathlib.Omega.{arith}
 use lib.ListN.{length}
+use Rattle.kinds.specs.Lists.{gather}
 use Rattle.term.specs.Terms.{Term, flatten, sizes}
 use Rattle.term.specs.Spans.{spansOf}
 use Rattle.term.proofs.Sizes.{spans-are}
 use Rattle.contents.specs.Tables.{ShapesRead, shapesOf, scoreOf}
 use Rattle.kinds.specs.Limits.{blankWord, noBlank}
 use Rattle.checks.specs.Again.{shapesGood, scoreGood}
-use Rattle.folio.specs.Folio as folio
-use Rattle.folio.specs.Folio.{Shaped, GoodScore}
+use Rattle.folio.specs.Folio.{Folio, startsAt, Shaped, GoodScore}
 use Rattle.term.specs.Admitted.{GoodSymbols, IsScore}
 use Rattle.folio.proofs.Symbols.{symbols-is, symbols-of}
 use Rattle.folio.proofs.ShapesFound.{found-shapes, shapes-found}
@@ -69,3 +70,14 @@ scored-good ar ws sp g s =
       whole = ap (scoreOf ar) (s .words) ∙ score-of ar (s .tree) (s .is);
       spans = s .spans ∙ sym (ap (spansOf ar) (s .words) ∙ sizes-are ar (s .tree) g (s .is));
     })
+
+-- ---- what opening writes for a folio
+module _ (ar : List ℕ) (ss : List Term) (t : Term) (f : Folio ar ss t) where
+  pub opened-shapes-good : shapesGood ar (gather flatten ss) (startsAt 0 ss) ≡ true
+  opened-shapes-good =
+      let l = f .limits in
+      shaped-good ar (gather flatten ss) (startsAt 0 ss) (l .symbols)
+      (record { trees = ss; each = l .are-shapes; some-shape = l .some-shape; few-shapes = l .few-shapes; words = refl; begins = refl })
+
+  pub opened-score-good : scoreGood ar (flatten t) (sizes t) ≡ true
+  opened-score-good = scored-good ar (flatten t) (sizes t) (f .limits .symbols) (record { tree = t; is = f .is-score; words = refl; spans = refl })
