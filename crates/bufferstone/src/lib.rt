@@ -65,6 +65,7 @@ pub use counting::marks::clashes;
 pub use counting::marks::matches;
 
 // The report's lines.
+pub use report::Totals;
 pub use report::Written;
 pub use report::lines::put_first;
 pub use report::lines::put_line;

@@ -63,6 +63,8 @@ fn show_answer(answer: Opened) {
             show_number(c.shapes);
             show_number(c.words);
             show_number(c.nodes);
+            show_number(c.depth);
+            show_number(c.deepest);
         }
     }
 }

@@ -29,6 +29,7 @@ use Rattle.sections.specs.declared.Verdict.{Verdict}
 use Rattle.sections.specs.declared.Verdict.the-variants.{Good, Bad}
 use Rattle.contents.specs.Tables.{shapesOf, scoreOf}
 use Rattle.kinds.specs.Limits.{blankWord}
+use Rattle.contents.specs.declared.ShapesMet.{ShapesMet}
 use Rattle.contents.specs.declared.Shapes.{Shapes}
 use Rattle.contents.specs.declared.Shapes.the-variants as shapes
 use Rattle.contents.specs.declared.Score.{Score}
@@ -55,14 +56,14 @@ module _ (ar ws st : List ℕ) where
   unfolding shapesGood
   again-refused e f = rw (symbols-good ar e, f)
 
-  pub again-found : (n : ℕ) (z f : List ℕ) → symbolsOf ar ≡ Good → shapesOf ar blankWord ws .answer ≡ shapes.Whole n → length z ≡ 16
+  pub again-found : (m : ShapesMet) (z f : List ℕ) → symbolsOf ar ≡ Good → shapesOf ar blankWord ws .answer ≡ shapes.Whole m → length z ≡ 16
       → f ≡ sets z 0 (shapesOf ar blankWord ws .starts)
-      → shapesGood ar ws st ≡ same st (take (n - 0) f)
+      → shapesGood ar ws st ≡ same st (take (m .number - 0) f)
   unfolding shapesGood
-  again-found n z f e g lz ef =
-      let c = found-count ar blankWord ws n g in
+  again-found m z f e g lz ef =
+      let c = found-count ar blankWord ws m g in
       let w : shapesGood ar ws st ≡ same st (shapesOf ar blankWord ws .starts) = rw (symbols-good ar e, g) in
-      w ∙ ap (same st) (sym (run-whole z f (shapesOf ar blankWord ws .starts) n (c .0) (omega (arith, c .0, c .1)) ef))
+      w ∙ ap (same st) (sym (run-whole z f (shapesOf ar blankWord ws .starts) (m .number) (c .0) (omega (arith, c .0, c .1)) ef))
 
 module _ (ar ws sp : List ℕ) where
   pub score-symbols : {r : Reason} {p : ℕ} → symbolsOf ar ≡ Bad r p → scoreGood ar ws sp ≡ false
@@ -73,7 +74,7 @@ module _ (ar ws sp : List ℕ) where
   unfolding scoreGood
   score-none e f = rw (symbols-good ar e, f)
 
-  pub score-again : symbolsOf ar ≡ Good → scoreOf ar ws ≡ score.Whole → scoreGood ar ws sp ≡ same sp (spansOf ar ws)
+  pub score-again : {m : Met} → symbolsOf ar ≡ Good → scoreOf ar ws ≡ score.Whole m → scoreGood ar ws sp ≡ same sp (spansOf ar ws)
   unfolding scoreGood
   score-again e f = rw (symbols-good ar e, f)
 
@@ -112,8 +113,8 @@ symbols-good-is ar e = go (symbolsOf ar) refl e
 -- shape words and starts such as opening writes for these symbols
 pub record ShapeTables (ar ws st : List ℕ) : Type 0 where
   pub symbols : symbolsOf ar ≡ Good
-  pub number : ℕ
-  pub found : shapesOf ar blankWord ws .answer ≡ shapes.Whole number
+  pub met : ShapesMet
+  pub found : shapesOf ar blankWord ws .answer ≡ shapes.Whole met
   pub starts : st ≡ shapesOf ar blankWord ws .starts
 
 pub shapes-good-is : (ar ws st : List ℕ) → shapesGood ar ws st ≡ true → ShapeTables ar ws st
@@ -121,9 +122,9 @@ unfolding shapesGood
 shapes-good-is ar ws st e = go (shapesOf ar blankWord ws .answer) refl (and-r (symbolsGood ar) e)
   where
     go : (a : Shapes) → shapesOf ar blankWord ws .answer ≡ a → (isFound a && same st (shapesOf ar blankWord ws .starts)) ≡ true → ShapeTables ar ws st
-    go (shapes.Whole n) q k = record {
+    go (shapes.Whole m) q k = record {
       symbols = symbols-good-is ar (and-l _ e);
-      number = n;
+      met = m;
       found = q;
       starts =
           same-is st (shapesOf ar blankWord ws .starts) k;
@@ -137,7 +138,8 @@ shapes-good-of ar ws st t = rw (symbols-good ar (t .symbols), t .found) (same-ye
 -- score words and spans such as opening writes for these symbols
 pub record ScoreTables (ar ws sp : List ℕ) : Type 0 where
   pub symbols : symbolsOf ar ≡ Good
-  pub whole : scoreOf ar ws ≡ score.Whole
+  pub met : Met
+  pub whole : scoreOf ar ws ≡ score.Whole met
   pub spans : sp ≡ spansOf ar ws
 
 pub score-good-is : (ar ws sp : List ℕ) → scoreGood ar ws sp ≡ true → ScoreTables ar ws sp
@@ -145,7 +147,7 @@ unfolding scoreGood
 score-good-is ar ws sp e = go (scoreOf ar ws) refl (and-r (symbolsGood ar) e)
   where
     go : (a : Score) → scoreOf ar ws ≡ a → (isWhole a && same sp (spansOf ar ws)) ≡ true → ScoreTables ar ws sp
-    go score.Whole q k = record { symbols = symbols-good-is ar (and-l _ e); whole = q; spans = same-is sp (spansOf ar ws) k }
+    go (score.Whole m) q k = record { symbols = symbols-good-is ar (and-l _ e); met = m; whole = q; spans = same-is sp (spansOf ar ws) k }
     go (score.Refused r i) q k = false-true k
 
 pub score-good-of : (ar ws sp : List ℕ) → ScoreTables ar ws sp → scoreGood ar ws sp ≡ true

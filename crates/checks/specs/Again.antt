@@ -34,11 +34,11 @@ unfoldable pub symbolsGood : List ℕ → Bool
 symbolsGood ar = passes (symbolsOf ar)
 
 abbrev pub isFound : Shapes → Bool
-isFound (shapes.Whole n) = true
+isFound (shapes.Whole m) = true
 isFound (shapes.Refused r i) = false
 
 abbrev pub isWhole : Score → Bool
-isWhole score.Whole = true
+isWhole (score.Whole m) = true
 isWhole (score.Refused r i) = false
 
 unfoldable pub shapesGood : List ℕ → List ℕ → List ℕ → Bool

@@ -25,7 +25,7 @@ pub fn shapes_good(symbols: &[u8], words: &[u16], starts: &[u16]) -> bool
         Shapes::Refused(why, at) => {
             return false;
         }
-        Shapes::Whole(n) => n,
+        Shapes::Whole(met) => met.number,
     };
     equal(starts, &firsts[0..n])
 }
@@ -44,7 +44,7 @@ pub fn score_good(symbols: &[u8], words: &[u16], spans: &[u16]) -> bool
         Score::Refused(why, at) => {
             return false;
         }
-        Score::Whole => {}
+        Score::Whole(met) => {}
     }
     spans_are(symbols, words, spans)
 }

@@ -1,14 +1,21 @@
 use kinds::Reason;
+use term::Met;
 
 pub mod reading; // a folio's shapes and its score: 7 to 17
 
-// How many shapes there are, or why not, and at which word.
+// What whole shapes were met with: how many they are, and the depth of the deepest.
+pub struct ShapesMet {
+    pub number: usize,
+    pub depth: usize,
+}
+
+// What the shapes were met with, or why not, and at which word.
 pub enum Shapes {
-    Whole(usize),
+    Whole(ShapesMet),
     Refused(Reason, usize),
 }
 
 pub enum Score {
-    Whole,
+    Whole(Met),
     Refused(Reason, usize),
 }

@@ -5,6 +5,7 @@ ghost use lib.Seq.{sets};
 ghost use Rattle.contents.specs.Tables.{shapeReason, scoreReason, shapesOf, scoreOf};
 use crate::Score;
 use crate::Shapes;
+use crate::ShapesMet;
 use kinds::Reason;
 use kinds::limits::MOST_SHAPES;
 use kinds::limits::NO_BLANK;
@@ -12,6 +13,7 @@ use kinds::limits::SCORE_LEVELS;
 use kinds::limits::SCORE_NODES;
 use kinds::limits::SHAPE_LEVELS;
 use kinds::limits::SHAPE_NODES;
+use kinds::numbers::greater;
 use term::Fault;
 use term::Limits;
 use term::Reading;
@@ -28,33 +30,27 @@ pub fn read_shapes(symbols: &[u8], blanks: usize, words: &[u16], starts: &mut [u
     }
     let mut at = 0;
     let mut n = 0;
+    let mut depth = 0;
     while at < words.len() {
         if n == MOST_SHAPES {
             return Shapes::Refused(Reason::Shapes, at);
         }
-        let e = match read_term(
-            symbols,
-            words,
-            Limits {
-                blanks: blanks,
-                stop: at + SHAPE_NODES,
-            },
-            at,
-            SHAPE_LEVELS,
-        ) {
+        let stop = at + SHAPE_NODES;
+        let m = match read_term(symbols, words, Limits { blanks, stop }, at, SHAPE_LEVELS) {
             Reading::Refused(f, p) => {
                 return Shapes::Refused(shape_reason(f), p);
             }
-            Reading::Whole(m) => m.end,
+            Reading::Whole(m) => m,
         };
         if blanks <= words[at] as usize {
             return Shapes::Refused(Reason::LoneBlank, at);
         }
         starts[n] = at as u16;
-        at = e;
+        at = m.end;
         n += 1;
+        depth = greater(depth, m.depth);
     }
-    Shapes::Whole(n)
+    Shapes::Whole(ShapesMet { number: n, depth })
 }
 
 fn shape_reason(fault: Fault) -> Reason
@@ -87,7 +83,7 @@ pub fn read_score(symbols: &[u8], words: &[u16]) -> Score
             if m.end < words.len() {
                 return Score::Refused(Reason::Surplus, m.end);
             }
-            Score::Whole
+            Score::Whole(m)
         }
     }
 }

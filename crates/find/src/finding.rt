@@ -4,9 +4,11 @@ use crate::holding::Shown;
 use crate::printing::show_refusal;
 use crate::printing::show_report;
 use bufferstone::Built;
+use bufferstone::Counts;
 use bufferstone::Opened;
 use bufferstone::Reason;
 use bufferstone::Record;
+use bufferstone::Size;
 use bufferstone::Walked;
 use bufferstone::build;
 use bufferstone::limits::FILE_BYTES;
@@ -32,6 +34,7 @@ pub fn find(file: &[u8], length: usize, out: &mut [u8], held: Held) -> Shown {
     match open(file, &mut words, &mut starts, &mut score, &mut spans) {
         Opened::Refused(reason, place) => show_refusal(reason, place, out, held),
         Opened::Folio(c) => find_opened(
+            c,
             first::bytes(file, c.symbols),
             first::words(&words, c.words),
             first::words(&starts, c.shapes),
@@ -44,6 +47,7 @@ pub fn find(file: &[u8], length: usize, out: &mut [u8], held: Held) -> Shown {
 }
 
 fn find_opened(
+    counts: Counts,
     symbols: &[u8],
     words: &[u16],
     starts: &[u16],
@@ -58,8 +62,9 @@ fn find_opened(
         Built::Refused(reason) => show_refusal(reason, 0, out, held),
         Built::Stopped(reason, state) => show_refusal(reason, state.0 as usize, out, held),
         Built::Plan(size) => find_by(
+            counts,
+            size,
             first::words(&plan, size.words),
-            size.states,
             symbols,
             score,
             spans,
@@ -70,8 +75,9 @@ fn find_opened(
 }
 
 fn find_by(
+    counts: Counts,
+    size: Size,
     plan: &[u16],
-    states: usize,
     symbols: &[u8],
     score: &[u16],
     spans: &[u16],
@@ -81,7 +87,7 @@ fn find_by(
     let mut marks = [0u16; SCORE_NODES];
     match walk_whole(plan, symbols, score, spans, &mut marks) {
         Walked::Refused(reason) => show_refusal(reason, 0, out, held),
-        Walked::On(end) => show_report(symbols, score, spans, &marks, states, out, held),
+        Walked::On(end) => show_report(counts, size, symbols, score, spans, &marks, out, held),
     }
 }
 

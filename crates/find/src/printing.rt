@@ -1,3 +1,4 @@
+ghost use mathlib.Core.Path.{_≡_};
 use crate::holding::Held;
 use crate::holding::Shown;
 use crate::holding::longer;
@@ -5,9 +6,12 @@ use crate::holding::put_text;
 use crate::holding::rest;
 use crate::holding::room;
 use bufferstone::Counted;
+use bufferstone::Counts;
 use bufferstone::Node;
 use bufferstone::Reason;
 use bufferstone::Shape;
+use bufferstone::Size;
+use bufferstone::Totals;
 use bufferstone::clashes;
 use bufferstone::matches;
 use bufferstone::put_first;
@@ -30,11 +34,12 @@ fn refusal_line(reason: Reason, place: usize, out: &mut [u8], held: Held) -> Hel
 }
 
 pub fn show_report(
+    counts: Counts,
+    size: Size,
     symbols: &[u8],
     score: &[u16],
     spans: &[u16],
     marks: &[u16],
-    states: usize,
     out: &mut [u8],
     held: Held,
 ) -> Shown {
@@ -43,24 +48,29 @@ pub fn show_report(
         Counted::Number(all) => match clashes(symbols, score, spans, marks) {
             Counted::Refused(reason) => show_refusal(reason, 0, out, held),
             Counted::Number(some) => {
-                let begun = first_line(score.len(), states, all, some, out, held);
+                let begun = first_line(totals_of(counts, size, all, some), out, held);
                 Shown::Report(show_matches(spans, marks, score.len(), out, begun))
             }
         },
     }
 }
 
-fn first_line(
-    nodes: usize,
-    states: usize,
-    matches: usize,
-    clashes: usize,
-    out: &mut [u8],
-    held: Held,
-) -> Held {
+fn totals_of(counts: Counts, size: Size, matches: usize, clashes: usize) -> Totals
+    ensures { λ r. ⌜ r ≡ record { nodes = counts .nodes; states = size .states; matches = matches; clashes = clashes; depth = counts .depth } ⌝ }
+{
+    Totals {
+        nodes: counts.nodes,
+        states: size.states,
+        matches,
+        clashes,
+        depth: counts.depth,
+    }
+}
+
+fn first_line(totals: Totals, out: &mut [u8], held: Held) -> Held {
     match room(out, held) {
         Held::Lost => Held::Lost,
-        Held::Bytes(n) => longer(n, put_first(nodes, states, matches, clashes, rest(out, n))),
+        Held::Bytes(n) => longer(n, put_first(totals, rest(out, n))),
     }
 }
 

@@ -5,20 +5,20 @@
 use mathlib.Core.Path.{_≡_, refl, ap, sym, _∙_}
 use mathlib.Core.Bool.{true}
 use mathlib.Core.List.{List}
-use Prim.Native.Nat.{ℕ, _+_}
+use Prim.Native.Nat.{ℕ}
 use native.Mathlib.Omega.{arith}
-use lib.ListN.{length}
 use Rattle.kinds.specs.Lists.{gather}
 use Rattle.term.specs.Terms.{Term, flatten, sizes}
 use Rattle.term.specs.Spans.{spansOf}
 use Rattle.term.proofs.Sizes.{spans-are}
+use Rattle.term.proofs.TermWhole.{metWith}
 use Rattle.contents.specs.Tables.{ShapesRead, shapesOf, scoreOf}
 use Rattle.kinds.specs.Limits.{blankWord, noBlank}
 use Rattle.checks.specs.Again.{shapesGood, scoreGood}
 use Rattle.folio.specs.Folio.{Folio, startsAt, Shaped, GoodScore}
 use Rattle.term.specs.Admitted.{GoodSymbols, IsScore}
 use Rattle.folio.proofs.Symbols.{symbols-is, symbols-of}
-use Rattle.folio.proofs.ShapesFound.{found-shapes, shapes-found}
+use Rattle.folio.proofs.ShapesFound.{metIn, found-shapes, shapes-found}
 use Rattle.folio.proofs.ScoreWhole.{score-is, score-of}
 use Rattle.kinds.specs.Members.{Below}
 use Rattle.checks.proofs.LawsAgain.{shapes-good-is, shapes-good-of, score-good-is, score-good-of}
@@ -27,7 +27,7 @@ use Rattle.checks.proofs.LawsAgain.{shapes-good-is, shapes-good-of, score-good-
 pub shapes-good-shaped : (ar ws st : List ℕ) → shapesGood ar ws st ≡ true → GoodSymbols ar × Shaped ar ws st
 shapes-good-shaped ar ws st e =
     let t = shapes-good-is ar ws st e in
-    let f = found-shapes ar ws (t .number) (t .found) in (
+    let f = found-shapes ar ws (t .met) (t .found) in (
       symbols-is ar (t .symbols),
       record {
         trees = f .trees;
@@ -46,7 +46,7 @@ shaped-good ar ws st g s =
     ap (shapesOf ar blankWord) (s .words) ∙ shapes-found ar (s .trees) (s .each) (s .some-shape) (s .few-shapes) in
     shapes-good-of ar ws st (record {
       symbols = symbols-of ar g;
-      number = 0 + length (s .trees);
+      met = metIn (s .trees);
       found =
           ap (λ (x : ShapesRead). x .answer) r;
       starts = s .begins ∙ sym (ap (λ (x : ShapesRead). x .starts) r);
@@ -60,13 +60,14 @@ pub score-good-scored : (ar ws sp : List ℕ) → Below 65536 ws → scoreGood a
 score-good-scored ar ws sp small e =
     let t = score-good-is ar ws sp e in
     let g = symbols-is ar (t .symbols) in
-    let s = score-is ar ws small (t .whole) in
+    let s = score-is ar ws (t .met) small (t .whole) in
     (g, record { tree = s .tree; is = s .is; words = s .words; spans = t .spans ∙ ap (spansOf ar) (s .words) ∙ sizes-are ar (s .tree) g (s .is) })
 
 pub scored-good : (ar ws sp : List ℕ) → GoodSymbols ar → GoodScore ar ws sp → scoreGood ar ws sp ≡ true
 scored-good ar ws sp g s =
     score-good-of ar ws sp (record {
       symbols = symbols-of ar g;
+      met = metWith 0 (s .tree);
       whole = ap (scoreOf ar) (s .words) ∙ score-of ar (s .tree) (s .is);
       spans = s .spans ∙ sym (ap (spansOf ar) (s .words) ∙ sizes-are ar (s .tree) g (s .is));
     })

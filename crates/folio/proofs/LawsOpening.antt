@@ -23,60 +23,63 @@ use Rattle.sections.specs.declared.Sections.{Sections}
 use Rattle.sections.specs.declared.Sections.the-variants as sections
 use Rattle.contents.specs.Tables.{shapesOf, scoreOf}
 use Rattle.kinds.specs.Limits.{blankWord}
+use Rattle.term.specs.declared.Met.{Met}
+use Rattle.contents.specs.declared.ShapesMet.{ShapesMet}
 use Rattle.contents.specs.declared.Shapes.the-variants as shapes
 use Rattle.contents.specs.declared.Score.the-variants as score
 use Rattle.folio.specs.declared.Opened.the-variants.{Folio}
-use Rattle.folio.specs.Opening.{Lent, lent, out, refuseOpening, counts, stored, held, onSections, opened}
+use Rattle.folio.specs.declared.Counts.{Counts}
+use Rattle.folio.specs.Opening.{Lent, lent, out, refuseOpening, countsOf, stored, held, onSections, opened}
 use Rattle.sections.proofs.LawsBytes.{length-words, words-take, words-drop}
 use Rattle.sections.proofs.LawsSections.{Placed}
 use Rattle.contents.proofs.LawsTables.{found-count}
 
-module _ (ar ws st sc : List ℕ) (l : Lent) where
-  pub stored-words : length (l .words) < length ws → stored ar ws st sc l ≡ refuseOpening reason.Tables 0 l
+module _ (ar ws st sc : List ℕ) (k : Counts) (l : Lent) where
+  pub stored-words : length (l .words) < length ws → stored ar ws st sc k l ≡ refuseOpening reason.Tables 0 l
   unfolding stored
   stored-words a = rw (lt-leb _ _ a)
 
-  pub stored-starts : length ws ≤ length (l .words) → length (l .starts) < length st → stored ar ws st sc l ≡ refuseOpening reason.Tables 0 l
+  pub stored-starts : length ws ≤ length (l .words) → length (l .starts) < length st → stored ar ws st sc k l ≡ refuseOpening reason.Tables 0 l
   unfolding stored
   stored-starts a b = rw (le-leb _ _ a, lt-leb _ _ b)
 
   pub stored-score : length ws ≤ length (l .words) → length st ≤ length (l .starts) → length (l .score) < length sc
-      → stored ar ws st sc l ≡ refuseOpening reason.Tables 0 l
+      → stored ar ws st sc k l ≡ refuseOpening reason.Tables 0 l
   unfolding stored
   stored-score a b c = rw (le-leb _ _ a, le-leb _ _ b, lt-leb _ _ c)
 
   pub stored-spans : length ws ≤ length (l .words) → length st ≤ length (l .starts) → length sc ≤ length (l .score) → length (l .spans) < length sc
-      → stored ar ws st sc l ≡ refuseOpening reason.Tables 0 l
+      → stored ar ws st sc k l ≡ refuseOpening reason.Tables 0 l
   unfolding stored
   stored-spans a b c d = rw (le-leb _ _ a, le-leb _ _ b, le-leb _ _ c, lt-leb _ _ d)
 
   pub stored-all : length ws ≤ length (l .words) → length st ≤ length (l .starts) → length sc ≤ length (l .score) → length sc ≤ length (l .spans)
-      → stored ar ws st sc l ≡ out (Folio (counts (length ar) (length st) (length ws) (length sc)))
+      → stored ar ws st sc k l ≡ out (Folio k)
       (lent (sets (l .words) 0 ws) (sets (l .starts) 0 st) (sets (l .score) 0 sc) (sets (l .spans) 0 (spansOf ar sc)))
   unfolding stored
   stored-all a b c d = rw (le-leb _ _ a, le-leb _ _ b, le-leb _ _ c, le-leb _ _ d)
 
 -- the tables as they are written one by one
-pub stored-written : (ar ws st sc : List ℕ) (l : Lent) {w t s p : List ℕ} → length ws ≤ length (l .words) → length st ≤ length (l .starts)
+pub stored-written : (ar ws st sc : List ℕ) (k : Counts) (l : Lent) {w t s p : List ℕ} → length ws ≤ length (l .words) → length st ≤ length (l .starts)
     → length sc ≤ length (l .score) → length sc ≤ length (l .spans)
     → w ≡ sets (l .words) 0 ws → t ≡ sets (l .starts) 0 st → s ≡ sets (l .score) 0 sc → p ≡ sets (l .spans) 0 (spansOf ar sc)
-    → out (Folio (counts (length ar) (length st) (length ws) (length sc))) (lent w t s p) ≡ stored ar ws st sc l
-stored-written ar ws st sc l a b c d ew et es ep =
-    (λ i. out (Folio (counts (length ar) (length st) (length ws) (length sc))) (lent (ew i) (et i) (es i) (ep i)))
-    ∙ sym (stored-all ar ws st sc l a b c d)
+    → out (Folio k) (lent w t s p) ≡ stored ar ws st sc k l
+stored-written ar ws st sc k l a b c d ew et es ep =
+    (λ i. out (Folio k) (lent (ew i) (et i) (es i) (ep i)))
+    ∙ sym (stored-all ar ws st sc k l a b c d)
 
 module _ (ar ws sc : List ℕ) (at : ℕ) (l : Lent) where
   pub held-shapes : {r : Reason} {i : ℕ} → shapesOf ar blankWord ws .answer ≡ shapes.Refused r i → held ar ws sc at l ≡ refuseOpening r (at + 2 * i) l
   unfolding held
   held-shapes e = rw e
 
-  pub held-score : {n : ℕ} {r : Reason} {i : ℕ} → shapesOf ar blankWord ws .answer ≡ shapes.Whole n → scoreOf ar sc ≡ score.Refused r i
+  pub held-score : {k : ShapesMet} {r : Reason} {i : ℕ} → shapesOf ar blankWord ws .answer ≡ shapes.Whole k → scoreOf ar sc ≡ score.Refused r i
       → held ar ws sc at l ≡ refuseOpening r (at + 2 * length ws + 2 * i) l
   unfolding held
   held-score e f = rw (e, f)
 
-  pub held-on : {n : ℕ} → shapesOf ar blankWord ws .answer ≡ shapes.Whole n → scoreOf ar sc ≡ score.Whole
-      → held ar ws sc at l ≡ stored ar ws (shapesOf ar blankWord ws .starts) sc l
+  pub held-on : {k : ShapesMet} {m : Met} → shapesOf ar blankWord ws .answer ≡ shapes.Whole k → scoreOf ar sc ≡ score.Whole m
+      → held ar ws sc at l ≡ stored ar ws (shapesOf ar blankWord ws .starts) sc (countsOf ar ws k sc m) l
   unfolding held
   held-on e f = rw (e, f)
 
@@ -114,22 +117,24 @@ module _ (ar both : List ℕ) (m : ℕ) (fits : m ≤ length both) where
       → held ar (take m both) (drop m both) at l ≡ refuseOpening r (at + 2 * i) l
   parts-shapes at l e = held-parts at l ∙ held-shapes _ _ _ at l e
 
-  pub parts-score : (at : ℕ) (l : Lent) {n : ℕ} {r : Reason} {i : ℕ} → shapesOf ar blankWord (take (m - 0) both) .answer ≡ shapes.Whole n
+  pub parts-score : (at : ℕ) (l : Lent) {k : ShapesMet} {r : Reason} {i : ℕ} → shapesOf ar blankWord (take (m - 0) both) .answer ≡ shapes.Whole k
       → scoreOf ar (take (length both - m) (drop m both)) ≡ score.Refused r i
       → held ar (take m both) (drop m both) at l ≡ refuseOpening r (at + 2 * m + 2 * i) l
   parts-score at l {r = r} {i = i} e f = held-parts at l ∙ held-score ar (take (m - 0) both) _ at l e f
       ∙ ap (λ (n : ℕ). refuseOpening r (at + 2 * n + 2 * i) l) ws-length
 
-  pub parts-on : (at : ℕ) (l : Lent) (n : ℕ) (z f : List ℕ) → shapesOf ar blankWord (take (m - 0) both) .answer ≡ shapes.Whole n
-      → scoreOf ar (take (length both - m) (drop m both)) ≡ score.Whole → length z ≡ 16
+  pub parts-on : (at : ℕ) (l : Lent) (k : ShapesMet) (z f : List ℕ) {t : Met} {counts : Counts}
+      → shapesOf ar blankWord (take (m - 0) both) .answer ≡ shapes.Whole k
+      → scoreOf ar (take (length both - m) (drop m both)) ≡ score.Whole t → length z ≡ 16
       → f ≡ sets z 0 (shapesOf ar blankWord (take (m - 0) both) .starts)
-      → held ar (take m both) (drop m both) at l ≡ stored ar (take (m - 0) both) (take (n - 0) f) (take (length both - m) (drop m both)) l
-  parts-on at l n z f e s lz ef =
-      let c = found-count ar blankWord (take (m - 0) both) n e in
+      → counts ≡ countsOf ar (take (m - 0) both) k (take (length both - m) (drop m both)) t
+      → held ar (take m both) (drop m both) at l ≡ stored ar (take (m - 0) both) (take (k .number - 0) f) (take (length both - m) (drop m both)) counts l
+  parts-on at l k z f {counts = counts} e s lz ef ec =
+      let c = found-count ar blankWord (take (m - 0) both) k e in
       held-parts at l
       ∙ held-on ar (take (m - 0) both) (take (length both - m) (drop m both)) at l e s
-      ∙ ap (λ (x : List ℕ). stored ar (take (m - 0) both) x (take (length both - m) (drop m both)) l)
-      (sym (run-whole z f (shapesOf ar blankWord (take (m - 0) both) .starts) n (c .0) (omega (arith, c .0, c .1)) ef))
+      ∙ ap₂ (λ (x : List ℕ) (y : Counts). stored ar (take (m - 0) both) x (take (length both - m) (drop m both)) y l)
+      (sym (run-whole z f (shapesOf ar blankWord (take (m - 0) both) .starts) (k .number) (c .0) (omega (arith, c .0, c .1)) ef)) (sym ec)
 
 pub bytes-length : (file : List ℕ) (p : Places) → Placed file p → length (take (p .end - p .shapes) (drop (p .shapes) file)) ≡ p .end - p .shapes
 bytes-length file p d = length-take-le (p .end - p .shapes) (drop (p .shapes) file)

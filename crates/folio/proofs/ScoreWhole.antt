@@ -2,33 +2,26 @@
 --   words-below             numbers below 256, or 65,536
 --   whole-of                what has no word from 65,536 on has no blank
 --   Scored score-is         the words are those of a score
---   score-of                and the way back
+--   score-of                and the way back: it is met with its words and its depth
 use mathlib.Core.Path.{_≡_, refl, ap, sym, _∙_}
 use mathlib.Core.List.{List, [], _∷_, _++_, append-nil}
-use mathlib.Core.Bool.{Bool, true, false, cond}
 use Prim.Native.Nat.{ℕ, _+_, _≤_}
 use native.Mathlib.Omega.{arith}
-use borrow.Author.Tests.{ltb-false}
-use lib.Dec.{ltb}
 use lib.ListN.{length, drop, drop-of-length-le, length-drop}
-use Rattle.kinds.specs.declared.Reason.the-variants as reason
 use Rattle.kinds.proofs.Members.{∈-left, ∈-right, in-none}
 use Rattle.kinds.specs.Members.{here, there, Below}
 use Rattle.term.specs.Terms.{Term, blank, node, Terms, tnil, tcons, span, flatten, flattens, Fits, Fitss, Whole, Wholes}
-use Rattle.term.specs.Reading.{reading}
 use Rattle.term.specs.declared.Met.{Met}
-use Rattle.term.specs.declared.Reading.{Reading}
-use Rattle.term.specs.declared.Reading.the-variants as read
 use Rattle.term.proofs.LawsReading.{whole-in}
 use Rattle.term.proofs.WholeTerm.{whole-term}
-use Rattle.term.proofs.TermWhole.{read-back}
+use Rattle.term.proofs.TermWhole.{metWith, read-back}
 use Rattle.sections.specs.Bytes.{wordsOf}
 use Rattle.contents.specs.declared.Score.the-variants as score
-use Rattle.contents.specs.Tables.{scoreLimits, wholeScore, scoreOf}
+use Rattle.contents.specs.Tables.{scoreLimits, scoreOf}
 use Rattle.kinds.specs.Limits.{noBlank, scoreLevels}
 use Rattle.folio.specs.Folio.{Scored}
 use Rattle.term.specs.Admitted.{IsScore}
-use Rattle.contents.proofs.LawsTables.{score-whole}
+use Rattle.contents.proofs.LawsTables.{score-whole, score-read}
 
 pub words-below : (b : List ℕ) → Below 256 b → Below 65536 (wordsOf b)
 unfolding wordsOf
@@ -47,37 +40,26 @@ mutual
   wholes-of ar (tcons t ts) f h =
       (whole-of ar t (f .0) (λ w m. h w (∈-left (flattens ts) m)), wholes-of ar ts (f .1) (λ w m. h w (∈-right (flatten t) m)))
 
-pub score-is : (ar ws : List ℕ) → Below 65536 ws → scoreOf ar ws ≡ score.Whole → Scored ar ws
-unfolding scoreOf
-score-is ar ws small e = go (reading ar ws (scoreLimits 0) scoreLevels 0) refl e
-  where
-    built : (m : Met) → reading ar ws (scoreLimits 0) scoreLevels 0 ≡ read.Whole m → length ws ≤ m .end → Scored ar ws
-    built m er h =
-        let a = whole-term ar ws (scoreLimits 0) scoreLevels 0 m er in
-        let w = whole-in ar ws (scoreLimits 0) scoreLevels 0 m er in
-        let q : ws ≡ flatten (a .tree) = a .words ∙ ap (λ (l : List ℕ). flatten (a .tree) ++ l) (drop-of-length-le ws h)
-        ∙ append-nil (flatten (a .tree)) in
-        record {
-          tree = a .tree;
-          is = record {
-            fits = a .fits;
-            whole = whole-of ar (a .tree) (a .fits) (λ v i. small v (rw q i));
-            flat = omega (arith, a .flat);
-            small =
-                omega (arith, w .few, a .size);
-          };
-          words = q;
-        }
+pub score-is : (ar ws : List ℕ) (m : Met) → Below 65536 ws → scoreOf ar ws ≡ score.Whole m → Scored ar ws
+score-is ar ws m small e =
+    let r = score-read ar ws m e in
+    let a = whole-term ar ws (scoreLimits 0) scoreLevels 0 m (r .0) in
+    let w = whole-in ar ws (scoreLimits 0) scoreLevels 0 m (r .0) in
+    let h : length ws ≤ m .end = omega (arith, r .1) in
+    let q : ws ≡ flatten (a .tree) = a .words ∙ ap (λ (l : List ℕ). flatten (a .tree) ++ l) (drop-of-length-le ws h)
+    ∙ append-nil (flatten (a .tree)) in
+    record {
+      tree = a .tree;
+      is = record {
+        fits = a .fits;
+        whole = whole-of ar (a .tree) (a .fits) (λ v i. small v (rw q i));
+        flat = omega (arith, a .flat);
+        small = omega (arith, w .few, a .size);
+      };
+      words = q;
+    }
 
-    go : (r : Reading) → reading ar ws (scoreLimits 0) scoreLevels 0 ≡ r → wholeScore r (length ws) ≡ score.Whole → Scored ar ws
-    go (read.Refused f p) er e = let z : _≡_ {A = ℕ} 0 1 = cc in absurd (omega arith)
-    go (read.Whole m) er e = inner (ltb (m .end) (length ws)) refl e
-      where
-        inner : (b : Bool) → ltb (m .end) (length ws) ≡ b → cond b (score.Refused reason.Surplus (m .end)) score.Whole ≡ score.Whole → Scored ar ws
-        inner true eb e = let z : _≡_ {A = ℕ} 0 1 = cc in absurd (omega arith)
-        inner false eb e = built m er (ltb-false (m .end) (length ws) eb)
-
-pub score-of : (ar : List ℕ) (t : Term) → IsScore ar t → scoreOf ar (flatten t) ≡ score.Whole
+pub score-of : (ar : List ℕ) (t : Term) → IsScore ar t → scoreOf ar (flatten t) ≡ score.Whole (metWith 0 t)
 score-of ar t s =
     let d = s .flat in
     let n = s .small in

@@ -13,6 +13,7 @@ use Rattle.kinds.specs.declared.Node.{Node}
 use Rattle.term.specs.Terms.{Term, span, depth, flatten, Fits}
 use Rattle.term.specs.Reading.{reading}
 use Rattle.term.specs.declared.Limits.{Limits}
+use Rattle.term.specs.declared.Met.{Met}
 use Rattle.term.specs.declared.Reading.{Reading}
 use Rattle.term.specs.declared.Reading.the-variants as read
 use Rattle.term.proofs.LawsReading.{whole-in}
@@ -39,9 +40,9 @@ module _ (ar ws : List ℕ) (l : Limits) (levels at : ℕ) where
 
   -- the way back: a term stands there within the limits and the words are its words, or there are none
   pub record Piece : Type 0 where
-    pub end : ℕ
-    pub term : TermAt ar ws (l .blanks) levels at end
-    pub inside : end ≤ l .stop
+    pub met : Met
+    pub term : TermAt ar ws (l .blanks) levels at met
+    pub inside : met .end ≤ l .stop
     pub is : pieceAt ar ws l levels at ≡ flatten (term .tree)
 
   pub piece-or-none : Piece ⊎ (pieceAt ar ws l levels at ≡ [])
@@ -53,7 +54,7 @@ module _ (ar ws : List ℕ) (l : Limits) (levels at : ℕ) where
           let t = whole-term ar ws l levels at m e in
           let few = whole-in ar ws l levels at m e .few in
           inl (record {
-            end = m .end;
+            met = m;
             term = t;
             inside = few;
             is =

@@ -3,19 +3,21 @@
 --   Folio        "1 to 32 symbols, each 0 to 4 children; 1 to 16 shapes; a score"
 --   Meaning      what the sections of a file mean
 --   Shaped GoodScore   tables such as opening writes; startsAt: where shapes begin
+--   countsIn     how many symbols, shapes, shape words and nodes a folio has, its score's depth and the greatest of its shapes' depths
 --   answered     what opening answers and writes for a folio
 --   shapeTerms   the shapes that shape words hold; scoreTerm the score that score words hold, a blank where they hold none
 use mathlib.Core.Path.{_≡_}
-use mathlib.Core.List.{List, [], _∷_}
+use mathlib.Core.List.{List, [], _∷_, map}
 use mathlib.Core.Option.{none, some}
 use Prim.Native.Nat.{ℕ, _+_, _≤_}
 use lib.ListN.{length}
 use lib.Seq.{sets}
 use Rattle.kinds.specs.Limits.{mostShapes, blankWord, noBlank, shapeLevels, scoreLevels}
-use Rattle.kinds.specs.Lists.{gather}
-use Rattle.term.specs.Terms.{Term, blank, span, flatten, sizes, Read, parse, parseAll}
+use Rattle.kinds.specs.Lists.{gather, greatest}
+use Rattle.term.specs.Terms.{Term, blank, span, depth, flatten, sizes, Read, parse, parseAll}
 use Rattle.term.specs.Admitted.{AreShapes, Limits, IsScore}
-use Rattle.folio.specs.Opening.{Lent, OpenOutcome, lent, out, counts}
+use Rattle.folio.specs.Opening.{Lent, OpenOutcome, lent, out}
+use Rattle.folio.specs.declared.Counts.{Counts}
 use Rattle.folio.specs.declared.Opened.the-variants as opening
 use Rattle.sections.specs.Sections.{symbolsAt, shapesAt, scoreAt}
 use Rattle.sections.specs.declared.Places.{Places}
@@ -69,8 +71,18 @@ pub record GoodScore (ar ws sp : List ℕ) : Type 0 where
   pub words : ws ≡ flatten tree
   pub spans : sp ≡ sizes tree
 
+abbrev pub countsIn : List ℕ → List Term → Term → Counts
+countsIn ar ss t = record {
+  symbols = length ar;
+  shapes = length ss;
+  words = length (gather flatten ss);
+  nodes = span t;
+  depth = depth t;
+  deepest = greatest (map depth ss);
+}
+
 -- what opening answers and writes for a folio
 abbrev pub answered : List ℕ → List Term → Term → Lent → OpenOutcome
 answered ar ss t l =
-    out (opening.Folio (counts (length ar) (length ss) (length (gather flatten ss)) (span t)))
+    out (opening.Folio (countsIn ar ss t))
     (lent (sets (l .words) 0 (gather flatten ss)) (sets (l .starts) 0 (startsAt 0 ss)) (sets (l .score) 0 (flatten t)) (sets (l .spans) 0 (sizes t)))

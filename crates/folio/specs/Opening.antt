@@ -1,7 +1,9 @@
 -- Opening a folio: "Order: 1 to 6, then shapes, then score, then 18." "A refusal writes nothing. Words past those an answer writes keep their values."
+-- "It answers the counts of symbols, shapes, shape words and nodes" and "hands on the score's depth and the deepest shape's".
 --   Lent OpenOutcome      the four tables lent; an answer and the tables as they are then
 --   Room          each table holds what it must
 --   refuseOpening        a refusal writes nothing
+--   countsOf      what is answered, from what shapes and score were met with
 --   stored        18; then each table begins with what it must hold and keeps the words past it
 --   held          7 to 18: the shapes' first word is at byte `at`, the score's behind their last
 --   opened        1 to 18
@@ -19,8 +21,10 @@ use Rattle.term.specs.Spans.{spansOf}
 use Rattle.sections.specs.Sections.{sectionsOf, symbolsAt, shapesAt, scoreAt}
 use Rattle.sections.specs.declared.Sections.{Sections}
 use Rattle.sections.specs.declared.Sections.the-variants as sections
+use Rattle.term.specs.declared.Met.{Met}
 use Rattle.contents.specs.Tables.{shapesOf, scoreOf}
 use Rattle.kinds.specs.Limits.{blankWord}
+use Rattle.contents.specs.declared.ShapesMet.{ShapesMet}
 use Rattle.contents.specs.declared.Shapes.{Shapes}
 use Rattle.contents.specs.declared.Shapes.the-variants as shapes
 use Rattle.contents.specs.declared.Score.{Score}
@@ -55,31 +59,32 @@ out a l = record { answer = a; tables = l }
 abbrev pub refuseOpening : Reason → ℕ → Lent → OpenOutcome
 refuseOpening r p l = out (Refused r p) l
 
-abbrev pub counts : ℕ → ℕ → ℕ → ℕ → Counts
-counts k s w n = record { symbols = k; shapes = s; words = w; nodes = n }
+abbrev pub countsOf : List ℕ → List ℕ → ShapesMet → List ℕ → Met → Counts
+countsOf ar ws k sc m =
+    record { symbols = length ar; shapes = k .number; words = length ws; nodes = length sc; depth = m .depth; deepest = k .depth }
 
-unfoldable pub stored : List ℕ → List ℕ → List ℕ → List ℕ → Lent → OpenOutcome
-stored ar ws st sc l =
+unfoldable pub stored : List ℕ → List ℕ → List ℕ → List ℕ → Counts → Lent → OpenOutcome
+stored ar ws st sc counts l =
     unless (leb (length ws) (length (l .words))) (refuseOpening reason.Tables 0 l)
     (unless (leb (length st) (length (l .starts))) (refuseOpening reason.Tables 0 l)
     (unless (leb (length sc) (length (l .score))) (refuseOpening reason.Tables 0 l)
     (unless (leb (length sc) (length (l .spans))) (refuseOpening reason.Tables 0 l)
-    (out (Folio (counts (length ar) (length st) (length ws) (length sc)))
+    (out (Folio counts)
     (lent (sets (l .words) 0 ws) (sets (l .starts) 0 st) (sets (l .score) 0 sc) (sets (l .spans) 0 (spansOf ar sc)))))))
 
-abbrev pub onScore : Score → ℕ → Lent → OpenOutcome → OpenOutcome
+abbrev pub onScore : Score → ℕ → Lent → (Met → OpenOutcome) → OpenOutcome
 onScore (score.Refused r i) at l on = refuseOpening r (at + 2 * i) l
-onScore score.Whole at l on = on
+onScore (score.Whole m) at l on = on m
 
-abbrev pub onShapes : Shapes → ℕ → Lent → OpenOutcome → OpenOutcome
+abbrev pub onShapes : Shapes → ℕ → Lent → (ShapesMet → OpenOutcome) → OpenOutcome
 onShapes (shapes.Refused r i) at l on = refuseOpening r (at + 2 * i) l
-onShapes (shapes.Whole n) at l on = on
+onShapes (shapes.Whole k) at l on = on k
 
 unfoldable pub held : List ℕ → List ℕ → List ℕ → ℕ → Lent → OpenOutcome
 held ar ws sc at l =
-    onShapes (shapesOf ar blankWord ws .answer) at l
-    (onScore (scoreOf ar sc) (at + 2 * length ws) l
-    (stored ar ws (shapesOf ar blankWord ws .starts) sc l))
+    onShapes (shapesOf ar blankWord ws .answer) at l (λ k.
+    onScore (scoreOf ar sc) (at + 2 * length ws) l (λ m.
+    stored ar ws (shapesOf ar blankWord ws .starts) sc (countsOf ar ws k sc m) l))
 
 abbrev pub onSections : Sections → List ℕ → Lent → OpenOutcome
 onSections (sections.Refused r p) file l = refuseOpening r p l
@@ -90,5 +95,5 @@ unfoldable pub opened : List ℕ → Lent → OpenOutcome
 opened file l = onSections (sectionsOf file) file l
 
 abbrev pub openedSays : Opened → Says
-openedSays (Folio c) = gives (c .symbols ∷ c .shapes ∷ c .words ∷ c .nodes ∷ [])
+openedSays (Folio c) = gives (c .symbols ∷ c .shapes ∷ c .words ∷ c .nodes ∷ c .depth ∷ c .deepest ∷ [])
 openedSays (Refused r p) = refuses r p

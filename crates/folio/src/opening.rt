@@ -2,7 +2,7 @@ ghost use mathlib.Core.Path.{_≡_};
 ghost use Prim.Native.Nat.{_≤_};
 ghost use lib.ListN.{length, take, drop};
 ghost use Rattle.folio.specs.Holding.{Sectioned};
-ghost use Rattle.folio.specs.Opening.{lent, out, stored, held, opened};
+ghost use Rattle.folio.specs.Opening.{lent, out, countsOf, stored, held, opened};
 use crate::Counts;
 use crate::Opened;
 use crate::SECTION_WORDS;
@@ -10,6 +10,7 @@ use crate::storing::put;
 use crate::storing::put_spans;
 use contents::Score;
 use contents::Shapes;
+use contents::ShapesMet;
 use contents::reading::read_score;
 use contents::reading::read_shapes;
 use kinds::Reason;
@@ -17,6 +18,7 @@ use kinds::limits::BLANK;
 use sections::Sections;
 use sections::finding::fill;
 use sections::finding::find_sections;
+use term::Met;
 
 // Opens a folio: writes its shape words, their starts, its score and the score's spans, or refuses it and writes nothing.
 pub fn open(
@@ -62,19 +64,36 @@ fn hold(
     let ws = &both[0..m];
     let sc = &both[m..k];
     let mut firsts = [0u16; 16];
-    let n = match read_shapes(symbols, BLANK, ws, &mut firsts) {
+    let found = match read_shapes(symbols, BLANK, ws, &mut firsts) {
         Shapes::Refused(reason, i) => {
             return Opened::Refused(reason, at + 2 * i);
         }
-        Shapes::Whole(n) => n,
+        Shapes::Whole(met) => met,
     };
-    match read_score(symbols, sc) {
+    let tree = match read_score(symbols, sc) {
         Score::Refused(reason, i) => {
             return Opened::Refused(reason, at + 2 * m + 2 * i);
         }
-        Score::Whole => {}
+        Score::Whole(met) => met,
+    };
+    let n = found.number;
+    let st = &firsts[0..n];
+    let counts = counts_of(symbols, ws, found, sc, tree);
+    store(symbols, ws, st, sc, counts, words, starts, score, spans)
+}
+
+// What there is to answer of shapes and a score that are whole.
+fn counts_of(symbols: &[u8], ws: &[u16], found: ShapesMet, sc: &[u16], tree: Met) -> Counts
+    ensures { λ r. ⌜ r ≡ countsOf (now (symbols .entry)) (now (ws .entry)) found (now (sc .entry)) tree ⌝ }
+{
+    Counts {
+        symbols: symbols.len(),
+        shapes: found.number,
+        words: ws.len(),
+        nodes: sc.len(),
+        depth: tree.depth,
+        deepest: found.depth,
     }
-    store(symbols, ws, &firsts[0..n], sc, words, starts, score, spans)
 }
 
 // 18, and then the writing of the four tables.
@@ -83,13 +102,14 @@ fn store(
     ws: &[u16],
     st: &[u16],
     sc: &[u16],
+    counts: Counts,
     words: &mut [u16],
     starts: &mut [u16],
     score: &mut [u16],
     spans: &mut [u16],
 ) -> Opened
     requires { ⌜ length (now sc) ≤ 65535 ⌝ }
-    ensures { λ r. ⌜ out r (lent (now (words .exit)) (now (starts .exit)) (now (score .exit)) (now (spans .exit))) ≡ stored (now (symbols .entry)) (now (ws .entry)) (now (st .entry)) (now (sc .entry)) (lent (now (words .entry)) (now (starts .entry)) (now (score .entry)) (now (spans .entry))) ⌝ }
+    ensures { λ r. ⌜ out r (lent (now (words .exit)) (now (starts .exit)) (now (score .exit)) (now (spans .exit))) ≡ stored (now (symbols .entry)) (now (ws .entry)) (now (st .entry)) (now (sc .entry)) counts (lent (now (words .entry)) (now (starts .entry)) (now (score .entry)) (now (spans .entry))) ⌝ }
 {
     if words.len() < ws.len() {
         return Opened::Refused(Reason::Tables, 0);
@@ -107,10 +127,5 @@ fn store(
     put(starts, st);
     put(score, sc);
     put_spans(symbols, sc, spans);
-    Opened::Folio(Counts {
-        symbols: symbols.len(),
-        shapes: st.len(),
-        words: ws.len(),
-        nodes: sc.len(),
-    })
+    Opened::Folio(counts)
 }

@@ -5,14 +5,15 @@
 --   insert sort      by an order
 --   find             the place of the first that passes, counted from a number
 --   gather concat    lists put one after the other
---   mapAt range sum  each with its place; numbers in a row; their sum
+--   mapAt range      each with its place; numbers in a row
+--   sum greatest     of numbers; of none 0
 --   bind need        go on with what there is; go on only if the test holds
 --   orElse           a number that there is, or another
 --   onto             words in front, the others as they were
 use mathlib.Core.List.{List, [], _∷_, _++_}
 use mathlib.Core.Bool.{Bool, true, false, cond, _&&_, _||_}
 use mathlib.Core.Option.{Option, none, some}
-use Prim.Native.Nat.{ℕ, zero, suc, _+_}
+use Prim.Native.Nat.{ℕ, zero, suc, _+_, max}
 use lib.Dec.{eqb}
 use lib.ListN.{length, drop}
 
@@ -90,6 +91,10 @@ range i (suc n) = i ∷ range (suc i) n
 abbrev pub sum : List ℕ → ℕ
 sum [] = 0
 sum (x ∷ xs) = x + sum xs
+
+abbrev pub greatest : List ℕ → ℕ
+greatest [] = 0
+greatest (x ∷ xs) = max x (greatest xs)
 
 abbrev pub onto : List ℕ → List ℕ → List ℕ
 onto new ws = new ++ drop (length new) ws

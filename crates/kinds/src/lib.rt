@@ -4,6 +4,7 @@ ghost use Rattle.kinds.specs.Kinds.{root, childOf, isGood, lengthOf, com
 ghost use Rattle.kinds.specs.Reasons.{numberOf};
 
 pub mod limits; // the numbers of document 01
+pub mod numbers; // the greater of two
 pub mod slices; // comparing words
 
 // The number of a plan's state.

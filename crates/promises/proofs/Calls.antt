@@ -202,10 +202,8 @@ follow-call κs a r e h = subst (FoundRow (Reaches (now (a .0)) (a .1 .0) (a .1 
 
 -- ---- the lines
 pub put-first-call : (κs : _) (a : _) (r : _) (e : _) → put-first.Learnt κs a r e
-    → LineRow (firstLine (a .0) (a .1 .0) (a .1 .1 .0) (a .1 .1 .1 .0)) (now (a .1 .1 .1 .1 .0)) (told (writtenSays r) (now (e .1 .1 .1 .1 .0)))
-put-first-call κs a r e h =
-    subst (LineRow (firstLine (a .0) (a .1 .0) (a .1 .1 .0) (a .1 .1 .1 .0)) (now (a .1 .1 .1 .1 .0))) (ap lineTold (sym h))
-    (demand-1 .first-line _ _ _ _ _ .0)
+    → LineRow (firstLine (a .0)) (now (a .1 .0)) (told (writtenSays r) (now (e .1 .0)))
+put-first-call κs a r e h = subst (LineRow (firstLine (a .0)) (now (a .1 .0))) (ap lineTold (sym h)) (demand-1 .first-line _ _ .0)
 
 pub put-line-call : (κs : _) (a : _) (r : _) (e : _) → put-line.Learnt κs a r e
     → MatchRow (now (a .0)) (a .1 .0 .0) (a .1 .1 .0 .0) (now (a .1 .1 .1 .0)) (told (writtenSays r) (now (e .1 .1 .1 .0)))

@@ -1,7 +1,7 @@
 -- Demand 2 holds of every file that opens and whose build is accepted.
 --   marks-long     there is a mark for each node
 --   right          the marks of a finished walk are set exactly where a test that says the paper's match says yes
-use mathlib.Core.Path.{_≡_, ap, sym, _∙_, subst}
+use mathlib.Core.Path.{_≡_, ap, ap₂, sym, _∙_, subst}
 use mathlib.Core.Bool.{Bool}
 use mathlib.Core.List.{List}
 use mathlib.Core.Logic.{_↔_}
@@ -27,7 +27,7 @@ use Rattle.walking.proofs.AnyWalk.{same-walk, marks-right, marks-shapes}
 use Rattle.promises.specs.OneFile.{OneFile, symbolsIn, spansIn, shapesIn, scoreIn, after, reported}
 use Rattle.promises.specs.Reported.{reportIn}
 use Rattle.promises.specs.Demand2.{Demand2, Says}
-use Rattle.promises.proofs.Setting.{is-folio, shape-words, score-words, score-spans, plan-is, told}
+use Rattle.promises.proofs.Setting.{is-folio, shape-words, score-words, score-spans, score-depth, shapes-depth, plan-is, told}
 use Rattle.promises.proofs.Construction.{paper-says}
 use Rattle.promises.proofs.ScorePaths.{score-path}
 use Rattle.promises.proofs.Reported.{Right, report-right}
@@ -79,7 +79,7 @@ module _ {file : List ℕ} (S : OneFile file) where
 
         text : reported S choices ≡ reportIn test (shapesIn S) (scoreIn S) (S .size .states)
         text =
-            ap (λ sp. report sp (S .size .states) (after S choices .marks)) (score-spans S)
+            ap₂ (λ sp d. report sp d (S .size .states) (after S choices .marks)) (score-spans S) (score-depth S)
             ∙ report-right test (shapesIn S) (scoreIn S) (after S choices .marks) right (is-folio S .limits .few-shapes)
             (λ p n e. rw (score-spans S) at (path p n e)) (S .size .states)
 
@@ -89,6 +89,8 @@ demand-2 S = record {
   shape-words = shape-words S;
   score-words = score-words S;
   score-spans = score-spans S;
+  score-depth = score-depth S;
+  shapes-depth = shapes-depth S;
   plan = plan-is S;
   construction = paper-says (is-folio S .limits);
   exactly = exactly S;

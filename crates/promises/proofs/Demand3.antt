@@ -1,6 +1,6 @@
 -- Demand 3 holds of every file that opens and whose build is accepted.
 --   bits-alike     the marks of two finished walks, node by node
-use mathlib.Core.Path.{_≡_, ap, ap₂, sym, _∙_, subst}
+use mathlib.Core.Path.{_≡_, ap, sym, _∙_, subst}
 use mathlib.Core.List.{List, [], _∷_, _++_}
 use mathlib.Core.Logic.{_↔_}
 use Prim.Native.Nat.{ℕ, suc, _+_, _<_, _≤_}
@@ -18,9 +18,7 @@ use Rattle.term.specs.Terms.{span}
 use Rattle.term.specs.Places.{Matches, number}
 use Rattle.term.proofs.Numbers.{node-at}
 use Rattle.term.proofs.Sizes.{length-sizes}
-use Rattle.counting.specs.Counting.{total}
-use Rattle.counting.specs.Clashes.{clash, clashNumber}
-use Rattle.report.specs.Text.{firstLine, lines, report}
+use Rattle.report.specs.Text.{firstLine, totalsOf, lines, report}
 use Rattle.walk.specs.Starting.{Walk, WalkOutcome, refuseWalk, walkedSays}
 use Rattle.kinds.specs.Reasons.{Says, gives, refusal}
 use Rattle.promises.specs.Told.{Told, told as telling}
@@ -30,7 +28,7 @@ use Rattle.walking.specs.OneFolio.{walkIn}
 use Rattle.walking.proofs.AnyWalk as any-walk
 use Rattle.promises.specs.OneFile.{OneFile, scoreIn, spansIn, bufferIn, after, stepAfter, acceptedIn, reported}
 use Rattle.promises.specs.Demand3.{Demand3}
-use Rattle.promises.proofs.Setting.{score-spans, told, same-shapes, same-score, same-spans, same-states}
+use Rattle.promises.proofs.Setting.{score-spans, told, same-shapes, same-score, same-spans, same-depth, same-states}
 use Rattle.promises.proofs.Demand2.{demand-2, marks-long}
 
 -- the first n entries, as a list and by place
@@ -151,8 +149,8 @@ module _ {file : List ℕ} (S T : OneFile file) (c d : List ℕ) (c-done : after
   same-text =
       let k : length (spansIn S) ≡ span (scoreIn S) = ap length (score-spans S) ∙ length-sizes (scoreIn S) in
       let m : take (length (spansIn S)) (after S c .marks) ≡ take (length (spansIn S)) (after T d .marks) = rw k same-marks in
-      ap (λ ms. firstLine (length (spansIn S)) (S .size .states) (total ms) (clashNumber (clash (spansIn S)) ms) ++ lines (spansIn S) ms) m
-      ∙ ap₂ (λ sp st. report sp st (after T d .marks)) (same-spans S T) (same-states S T)
+      ap (λ ms. firstLine (totalsOf (spansIn S) (S .counts .depth) (S .size .states) ms) ++ lines (spansIn S) ms) m
+      ∙ (λ i. report (same-spans S T i) (same-depth S T i) (same-states S T i) (after T d .marks))
 
 pub demand-3 : {file : List ℕ} (S : OneFile file) → Demand3 S
 demand-3 S = record {

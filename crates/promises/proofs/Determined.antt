@@ -163,7 +163,7 @@ pub put-refusal-determined : (κs : _) (a : _) (r r′ : _) (e e′ : _) → put
 put-refusal-determined κs a r r′ e e′ h h′ = same-line _ _ (h ∙ sym h′)
 
 pub put-first-determined : (κs : _) (a : _) (r r′ : _) (e e′ : _) → put-first.Learnt κs a r e → put-first.Learnt κs a r′ e′ → (r ≡ r′)
-    × (now (e .1 .1 .1 .1 .0) ≡ now (e′ .1 .1 .1 .1 .0))
+    × (now (e .1 .0) ≡ now (e′ .1 .0))
 put-first-determined κs a r r′ e e′ h h′ = same-line _ _ (h ∙ sym h′)
 
 -- ---- the view's calls

@@ -16,6 +16,7 @@ use Rattle.counting.specs.Counting.{matchAt}
 use Rattle.kinds.specs.Positions.{Pos}
 use Rattle.kinds.proofs.Options.{none-not}
 use Rattle.report.specs.Paths.{pathOf, Leads}
+use Rattle.report.specs.declared.Totals.{Totals}
 use Rattle.report.specs.Text.{digits, pathText, matchLine, firstLine, refusalText}
 use Rattle.report.specs.Lines.{written, writtenIf, lineOut, firstOut, refusalOut}
 use Rattle.report.proofs.FollowPath.{path-leads, leads-path}
@@ -42,10 +43,16 @@ module _ (text buffer : List ℕ) (small : length text ≤ 1400) where
       only _ (writes h) = whole h
 
 -- ---- how long the lines are at most
-pub by-first-line : (n s m c : ℕ) (buffer : List ℕ) → By (LineRow (firstLine n s m c) buffer) (lineTold (firstOut n s m c buffer))
-by-first-line n s m c buffer = by-line (firstLine n s m c) buffer
-    (rw (length-append (digits n) _, length-append (digits s) _, length-append (digits m) _, length-append (digits c) _)
-    (omega (arith, digits-short n, digits-short s, digits-short m, digits-short c)))
+pub by-first-line : (t : Totals) (buffer : List ℕ) → By (LineRow (firstLine t) buffer) (lineTold (firstOut t buffer))
+by-first-line t buffer = by-line (firstLine t) buffer
+    (rw (
+      length-append (digits (t .nodes)) _,
+      length-append (digits (t .states)) _,
+      length-append (digits (t .matches)) _,
+      length-append (digits (t .clashes)) _,
+      length-append (digits (t .depth)) _,
+    )
+    (omega (arith, digits-short (t .nodes), digits-short (t .states), digits-short (t .matches), digits-short (t .clashes), digits-short (t .depth))))
 
 pub by-refusal-line : (r : Reason) (p : ℕ) (buffer : List ℕ) → By (LineRow (refusalText r p) buffer) (lineTold (refusalOut r p buffer))
 by-refusal-line r p buffer = by-line (refusalText r p) buffer

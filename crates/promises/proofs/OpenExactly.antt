@@ -13,10 +13,11 @@ use Rattle.kinds.specs.declared.Reason.the-variants as reason
 use Rattle.kinds.proofs.Members.{in-take, in-drop}
 use Rattle.term.specs.Terms.{span}
 use Rattle.term.proofs.Sizes.{length-flatten}
+use Rattle.term.proofs.TermWhole.{metWith}
 use Rattle.sections.specs.Sections.{trailerOf, symbolsOf, symbolsAt, shapesAt, scoreAt}
 use Rattle.contents.specs.Tables.{ShapesRead, shapesOf, scoreOf}
 use Rattle.kinds.specs.Limits.{blankWord}
-use Rattle.folio.specs.Opening.{Lent, Room, OpenOutcome, refuseOpening, stored, held, opened}
+use Rattle.folio.specs.Opening.{Lent, Room, OpenOutcome, refuseOpening, countsOf, stored, held, opened}
 use Rattle.folio.specs.Folio.{Shaped, Scored}
 use Rattle.term.specs.Admitted.{GoodSymbols}
 use Rattle.sections.specs.declared.Places.{Places}
@@ -24,6 +25,7 @@ use Rattle.sections.specs.declared.Sections.{Sections}
 use Rattle.sections.specs.declared.Sections.the-variants as sections
 use Rattle.sections.specs.declared.Verdict.{Verdict}
 use Rattle.sections.specs.declared.Verdict.the-variants as verdict
+use Rattle.contents.specs.declared.ShapesMet.{ShapesMet}
 use Rattle.contents.specs.declared.Shapes.{Shapes}
 use Rattle.contents.specs.declared.Shapes.the-variants as shapes
 use Rattle.contents.specs.declared.Score.{Score}
@@ -37,7 +39,7 @@ use Rattle.folio.proofs.LawsOpening.{stored-words, stored-starts, stored-score,
 use Rattle.folio.proofs.Symbols.{symbols-is, symbols-of}
 use Rattle.folio.proofs.ScoreWhole.{words-below, score-is, score-of}
 use Rattle.kinds.specs.Members.{Below}
-use Rattle.folio.proofs.ShapesFound.{length-starts, found-shapes}
+use Rattle.folio.proofs.ShapesFound.{length-starts, metIn, found-shapes}
 use Rattle.kinds.specs.Reasons.{numberOf}
 use Rattle.promises.proofs.ByNumber.{RefusedAs, by-reason}
 use Rattle.promises.specs.Refusals.{Framed, Given, in-trailer, in-symbols, in-shapes, in-score, row-18}
@@ -86,9 +88,9 @@ module _ (file : List ℕ) (l : Lent) where
       whole : opened file l ≡ held ar ws sc (q .shapes) l
       whole = opened-at file l q (sections-good file q eq good)
 
-      no-room : (st : List ℕ) (s : Shaped ar ws st) (t : Scored ar sc) → stored ar ws st sc l .answer ≡ opening.Refused r p
+      no-room : (st : List ℕ) (s : Shaped ar ws st) (t : Scored ar sc) (k : Counts) → stored ar ws st sc k l .answer ≡ opening.Refused r p
           → Given file l (numberOf r) p
-      no-room st s t d = go (decLt (length (l .words)) (length ws)) (decLt (length (l .starts)) (length st)) (decLt (length (l .score)) (length sc))
+      no-room st s t k d = go (decLt (length (l .words)) (length ws)) (decLt (length (l .starts)) (length st)) (decLt (length (l .score)) (length sc))
           (decLt (length (l .spans)) (length sc))
         where
           st-is : length st ≡ length (s .trees)
@@ -97,35 +99,35 @@ module _ (file : List ℕ) (l : Lent) where
           n-is : length sc ≡ span (t .tree)
           n-is = ap length (t .words) ∙ length-flatten (t .tree)
 
-          given : (Room l (length ws) (length (s .trees)) (span (t .tree)) → ⊥) → stored ar ws st sc l ≡ refuseOpening reason.Tables 0 l
+          given : (Room l (length ws) (length (s .trees)) (span (t .tree)) → ⊥) → stored ar ws st sc k l ≡ refuseOpening reason.Tables 0 l
               → Given file l (numberOf r) p
           given n x = same-refusal (sym (ap (λ (o : OpenOutcome). o .answer) x) ∙ d) λ a b. rw (← a, ← b)
               (row-18 q (trailer-framed file q eq) (symbols-is ar good) st s t n)
 
           go : Dec (length (l .words) < length ws) → Dec (length (l .starts) < length st) → Dec (length (l .score) < length sc)
               → Dec (length (l .spans) < length sc) → Given file l (numberOf r) p
-          go (yes a) b c d = given (λ x. let y = x .words in omega arith) (stored-words ar ws st sc l a)
-          go (no a) (yes b) c d = given (λ x. let y = x .starts in omega (arith, b, st-is)) (stored-starts ar ws st sc l (omega arith) b)
+          go (yes a) b c d = given (λ x. let y = x .words in omega arith) (stored-words ar ws st sc k l a)
+          go (no a) (yes b) c d = given (λ x. let y = x .starts in omega (arith, b, st-is)) (stored-starts ar ws st sc k l (omega arith) b)
           go (no a) (no b) (yes c) d = given (λ x. let y = x .score in omega (arith, c, n-is))
-              (stored-score ar ws st sc l (omega arith) (omega arith) c)
+              (stored-score ar ws st sc k l (omega arith) (omega arith) c)
           go (no a) (no b) (no c) (yes d) =
-              given (λ x. let y = x .spans in omega (arith, d, n-is)) (stored-spans ar ws st sc l (omega arith) (omega arith) (omega arith) d)
+              given (λ x. let y = x .spans in omega (arith, d, n-is)) (stored-spans ar ws st sc k l (omega arith) (omega arith) (omega arith) d)
           go (no a) (no b) (no c) (no x) =
-              no-refusal (sym (ap (λ (o : OpenOutcome). o .answer) (stored-all ar ws st sc l (omega arith) (omega arith) (omega arith) (omega arith)))
+              no-refusal (sym (ap (λ (o : OpenOutcome). o .answer) (stored-all ar ws st sc k l (omega arith) (omega arith) (omega arith) (omega arith)))
               ∙ d)
 
-      on-score : (n : ℕ) → shapesOf ar blankWord ws .answer ≡ shapes.Whole n → (x : Score) → scoreOf ar sc ≡ x → Given file l (numberOf r) p
+      on-score : (n : ShapesMet) → shapesOf ar blankWord ws .answer ≡ shapes.Whole n → (x : Score) → scoreOf ar sc ≡ x → Given file l (numberOf r) p
       on-score n es (score.Refused s i) ex =
           same-refusal (told _ (whole ∙ held-score ar ws sc (q .shapes) l es ex)) λ a b.
           let placed = trailer-in file q eq in
           let place : q .score + 2 * i ≡ p = sym (ap (λ y. y + 2 * i) (score-begins q placed)) ∙ b in
           rw (← place) (in-score q (trailer-framed file q eq) (symbols-is ar good) (shapesOf ar blankWord ws .starts) (found-shapes ar ws n es)
           (score-row ar sc (q .score) (q .end) (score-ends q placed) r i (ex ∙ ap (λ y. score.Refused y i) a)))
-      on-score n es score.Whole ex =
+      on-score n es (score.Whole m) ex =
           let s = found-shapes ar ws n es in
-          let t = score-is ar sc (words-below _ (λ w m. small w (in-drop (q .score) file (in-take (q .end - q .score) (drop (q .score) file) m))))
+          let t = score-is ar sc m (words-below _ (λ w i. small w (in-drop (q .score) file (in-take (q .end - q .score) (drop (q .score) file) i))))
           ex in
-          no-room (shapesOf ar blankWord ws .starts) s t (rw-told (held-on ar ws sc (q .shapes) l es ex))
+          no-room (shapesOf ar blankWord ws .starts) s t (countsOf ar ws n sc m) (rw-told (held-on ar ws sc (q .shapes) l es ex))
         where
           rw-told : {o : OpenOutcome} → held ar ws sc (q .shapes) l ≡ o → o .answer ≡ opening.Refused r p
           rw-told d = told _ (whole ∙ d)
@@ -193,7 +195,7 @@ module _ (file : List ℕ) (l : Lent) where
       (framed-at q f g
       ∙ held-on ar ws sc (q .shapes) l (ap (λ (y : ShapesRead). y .answer) (pass-shapes ar ws st s))
       (ap (scoreOf ar) (t .words) ∙ score-of ar (t .tree) (t .is))
-      ∙ ap (λ (y : ShapesRead). stored ar ws (y .starts) sc l) (pass-shapes ar ws st s)
+      ∙ ap (λ (y : ShapesRead). stored ar ws (y .starts) sc k l) (pass-shapes ar ws st s)
       ∙ go (decLt (length (l .words)) (length ws)) (decLt (length (l .starts)) (length st)) (decLt (length (l .score)) (length sc))
       (decLt (length (l .spans)) (length sc)))
     where
@@ -206,6 +208,9 @@ module _ (file : List ℕ) (l : Lent) where
       sc : List ℕ
       sc = scoreAt file q
 
+      k : Counts
+      k = countsOf ar ws (metIn (s .trees)) sc (metWith 0 (t .tree))
+
       st-is : length st ≡ length (s .trees)
       st-is = ap length (s .begins) ∙ length-starts 0 (s .trees)
 
@@ -213,11 +218,11 @@ module _ (file : List ℕ) (l : Lent) where
       n-is = ap length (t .words) ∙ length-flatten (t .tree)
 
       go : Dec (length (l .words) < length ws) → Dec (length (l .starts) < length st) → Dec (length (l .score) < length sc)
-          → Dec (length (l .spans) < length sc) → stored ar ws st sc l ≡ refuseOpening reason.Tables 0 l
-      go (yes a) b c d = stored-words ar ws st sc l a
-      go (no a) (yes b) c d = stored-starts ar ws st sc l (omega arith) b
-      go (no a) (no b) (yes c) d = stored-score ar ws st sc l (omega arith) (omega arith) c
-      go (no a) (no b) (no c) (yes d) = stored-spans ar ws st sc l (omega arith) (omega arith) (omega arith) d
+          → Dec (length (l .spans) < length sc) → stored ar ws st sc k l ≡ refuseOpening reason.Tables 0 l
+      go (yes a) b c d = stored-words ar ws st sc k l a
+      go (no a) (yes b) c d = stored-starts ar ws st sc k l (omega arith) b
+      go (no a) (no b) (yes c) d = stored-score ar ws st sc k l (omega arith) (omega arith) c
+      go (no a) (no b) (no c) (yes d) = stored-spans ar ws st sc k l (omega arith) (omega arith) (omega arith) d
       go (no a) (no b) (no c) (no d) =
           absurd (n (record {
             words = omega arith;

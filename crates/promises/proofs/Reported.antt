@@ -23,7 +23,7 @@ use Rattle.kinds.proofs.Members.{∈-append, in-one, in-none, in-range}
 use Rattle.kinds.proofs.Options.{on-map}
 use Rattle.kinds.proofs.Places.{on-mapAt}
 use Rattle.kinds.proofs.Prefixes.{prefix-is, is-prefix}
-use Rattle.term.specs.Terms.{Term, span, sizes}
+use Rattle.term.specs.Terms.{Term, span, depth, sizes}
 use Rattle.term.specs.Places.{sub, dom, number, place}
 use Rattle.term.proofs.Numbers.{number-place, number-below, node-at, number-append, sub-number, dom-number}
 use Rattle.term.proofs.Sizes.{length-sizes, span-pos}
@@ -33,9 +33,9 @@ use Rattle.counting.specs.Counting.{Match, matchAt, found, total}
 use Rattle.counting.specs.Clashes.{isOver, clash, other, clashing, clashNumber}
 use Rattle.counting.proofs.FoundLaws.{one, foundOne, foundAt, foundIn, some-found, many-found, total-found}
 use Rattle.report.specs.Paths.{pathOf}
-use Rattle.report.specs.Text.{matchLine, line, textOf, firstLine, lines, report}
+use Rattle.report.specs.Text.{matchLine, line, textOf, firstLine, totalsOf, lines, report}
 use Rattle.report.proofs.LinesLaws.{lines-found}
-use Rattle.promises.specs.Reported.{MatchIn, matchOne, matchesAt, matchesIn, clashIn, clashNumberIn, reportIn}
+use Rattle.promises.specs.Reported.{MatchIn, matchOne, matchesAt, matchesIn, clashIn, clashNumberIn, totalsIn, reportIn}
 
 -- ---- a node over another
 is-over : (sp : List ℕ) (x y : ℕ) → isOver sp x y ≡ true → 0 < getD sp x 0 → (x ≤ y) × (y < x + getD sp x 0)
@@ -173,6 +173,9 @@ module _ (test : Term → Pos → Bool) (shapes : List Term) (t : Term) (ms : Li
       length-of : (l : List MatchIn) → length (map numbers l) ≡ length l
       length-of l = simp length-map
 
+  totals-are : (states : ℕ) → totalsOf (sizes t) (depth t) states ms ≡ totalsIn all t states
+  totals-are states = λ i. record { nodes = length-sizes t i; states = states; matches = total-is i; clashes = clashes-are i; depth = depth t }
+
   module _ (paths : (p : Pos) (n : ℕ) → number t p ≡ some n → pathOf (sizes t) n ≡ some p) where
     lines-are : lines (sizes t) ms ≡ gather (λ m. matchLine (m .match) (m .place)) all
     lines-are =
@@ -183,16 +186,15 @@ module _ (test : Term → Pos → Bool) (shapes : List Term) (t : Term) (ms : Li
         (λ m i. ap (λ q. textOf (Option·map (matchLine (m .match)) q)) (paths (m .place) (m .match .node) (matches-numbered m i)))
 
     pub right-report : (states : ℕ)
-        → firstLine (span t) states (total ms) (clashNumber (clash (sizes t)) ms) ++ lines (sizes t) ms ≡ reportIn test shapes t states
-    right-report states = ap₂ _++_ (ap₂ (λ a b. firstLine (span t) states a b) total-is clashes-are) lines-are
+        → firstLine (totalsOf (sizes t) (depth t) states ms) ++ lines (sizes t) ms ≡ reportIn test shapes t states
+    right-report states = λ i. firstLine (totals-are states i) ++ lines-are i
 
 -- the report of marks, the first n of which are right
 pub report-right : (test : Term → Pos → Bool) (shapes : List Term) (t : Term) (marks : List ℕ) → Right test shapes t (take (span t) marks)
     → length shapes ≤ 16
     → ((p : Pos) (n : ℕ) → number t p ≡ some n → pathOf (sizes t) n ≡ some p) → (states : ℕ)
-    → report (sizes t) states marks ≡ reportIn test shapes t states
+    → report (sizes t) (depth t) states marks ≡ reportIn test shapes t states
 unfolding report
 report-right test shapes t marks right few paths states =
-    ap (λ n. firstLine n states (total (take n marks)) (clashNumber (clash (sizes t)) (take n marks)) ++ lines (sizes t) (take n marks))
-    (length-sizes t)
+    ap (λ n. firstLine (totalsOf (sizes t) (depth t) states (take n marks)) ++ lines (sizes t) (take n marks)) (length-sizes t)
     ∙ right-report test shapes t (take (span t) marks) right few paths states

@@ -16,7 +16,7 @@ use Rattle.kinds.proofs.Members.{all-at}
 use Rattle.term.specs.Terms.{Term, blank, node, tnil, tcons, span}
 use Rattle.term.specs.Places.{Matches, number}
 use Rattle.folio.specs.Folio.{shapeTerms, scoreTerm}
-use Rattle.folio.specs.Opening.{Lent, lent, counts, opened}
+use Rattle.folio.specs.Opening.{Lent, lent, opened}
 use Rattle.folio.specs.declared.Counts.{Counts}
 use Rattle.folio.specs.declared.Opened.the-variants as opening
 use Rattle.plan.specs.Building.{size, buildOf}
@@ -40,7 +40,7 @@ abbrev pub tables : Lent
 tables = lent (nines 9) (nines 2) (nines 10) (nines 10)
 
 abbrev pub known : Counts
-known = counts 3 2 9 10
+known = record { symbols = 3; shapes = 2; words = 9; nodes = 10; depth = 4; deepest = 2 }
 
 abbrev pub walk : Walk
 walk = walkOf (nines 20) (nines 10) (nines 10) (counting 7 7)
@@ -157,9 +157,9 @@ no-shape-1-at-1 h =
 pub always-ten : (choices : List ℕ) → after one-file choices .count .waiting ≡ 0 → acceptedIn one-file choices ≡ 10
 always-ten choices e = demand-3 one-file .steps choices .2 .0 e ∙ ap span tree-is
 
-text-is : report spans 3 marks ≡ text
+text-is : report spans 4 3 marks ≡ text
 unfolding computing
 text-is = refl
 
 pub always-reported : (T : OneFile file) (choices : List ℕ) → after T choices .count .waiting ≡ 0 → reported T choices ≡ text
-always-reported T choices e = demand-3 T .same-text one-file choices zeros e ended ∙ ap₂ (λ s m. report s 3 m) spans-are marks-are ∙ text-is
+always-reported T choices e = demand-3 T .same-text one-file choices zeros e ended ∙ ap₂ (λ s m. report s 4 3 m) spans-are marks-are ∙ text-is

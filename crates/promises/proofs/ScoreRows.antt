@@ -10,7 +10,7 @@ use lib.Dec.{ltb}
 use lib.ListN.{length, drop}
 use Rattle.kinds.specs.declared.Reason.{Reason}
 use Rattle.kinds.specs.declared.Reason.the-variants as reason
-use Rattle.term.specs.Terms.{span}
+use Rattle.term.specs.Terms.{span, depth}
 use Rattle.term.specs.Reading.{met, reading}
 use Rattle.term.specs.declared.Fault.{Fault}
 use Rattle.term.specs.declared.Fault.the-variants.{Ends, NoSymbol, Many, Deep}
@@ -54,7 +54,7 @@ module _ (ar sc : List ℕ) (first end : ℕ) (whole : first + 2 * length sc ≡
   score-row r i e = go (reading ar sc (scoreLimits 0) scoreLevels 0) refl e
     where
       past : (m : Met) → reading ar sc (scoreLimits 0) scoreLevels 0 ≡ read.Whole m → (b : Bool) → ltb (m .end) (length sc) ≡ b
-          → cond b (score.Refused reason.Surplus (m .end)) score.Whole ≡ score.Refused r i → Row r i
+          → cond b (score.Refused reason.Surplus (m .end)) (score.Whole m) ≡ score.Refused r i → Row r i
       past m em false eb d = let z : _≡_ {A = ℕ} 0 1 = cc in absurd (omega arith)
       past m em true eb d =
           let x : reason.Surplus ≡ r = cc in
@@ -94,6 +94,6 @@ module _ (ar sc : List ℕ) (first end : ℕ) (whole : first + 2 * length sc ≡
   row-score (row-16 t fits flat small words h) =
       let b = read-back ar sc (scoreLimits 0) t scoreLevels 0 (drop (span t) sc) fits (omega arith) (omega arith) words in
       at-word reason.Surplus (span t)
-      (ap (λ y. wholeScore y (length sc)) (b .0) ∙ ap (λ x. wholeScore (read.Whole (met x)) (length sc)) (zero-add (span t))
+      (ap (λ y. wholeScore y (length sc)) (b .0) ∙ ap (λ x. wholeScore (read.Whole (met x (depth t))) (length sc)) (zero-add (span t))
       ∙ rw (lt-ltb (span t) (length sc) h) refl)
   row-score (row-17 x) = at-word reason.ScoreNodes 4096 (fault-row Many 4096 x)

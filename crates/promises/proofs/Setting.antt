@@ -2,23 +2,23 @@
 --   symbols-are …     what opening wrote is what the file means
 --   is-folio          the terms that opening read, within the limits
 --   Told told         the walk over the file's words is one over a folio, for which `AnyWalk` speaks
---   same-…            two settings of one file have the same symbols, shapes, score, spans and number of states
+--   same-…            two settings of one file have the same symbols, shapes, score, spans, depth and number of states
 use mathlib.Core.Path.{_≡_, ap, ap₂, sym, _∙_, subst}
 use mathlib.Core.Bool.{true}
-use mathlib.Core.List.{List}
+use mathlib.Core.List.{List, map}
 use Prim.Native.Nat.{ℕ, _-_}
 use lib.ListN.{length, take, drop}
-use Rattle.kinds.specs.Lists.{gather}
+use Rattle.kinds.specs.Lists.{gather, greatest}
 use Rattle.kinds.proofs.ListLaws.{stored-back, take-again}
-use Rattle.term.specs.Terms.{Term, span, flatten, sizes}
+use Rattle.term.specs.Terms.{Term, depth, flatten, sizes}
 use Rattle.term.proofs.Sizes.{length-flatten, length-sizes}
 use Rattle.sections.specs.Bytes as file-words
 use Rattle.folio.specs.declared.Counts.{Counts}
 use Rattle.sections.specs.declared.Sections.the-variants as sections
 use Rattle.folio.specs.declared.Opened.the-variants as opening
 use Rattle.sections.specs.declared.Places.{Places}
-use Rattle.folio.specs.Opening.{counts, OpenOutcome}
-use Rattle.folio.specs.Folio.{Folio, startsAt, answered, shapeTerms, scoreTerm}
+use Rattle.folio.specs.Opening.{OpenOutcome}
+use Rattle.folio.specs.Folio.{Folio, startsAt, countsIn, answered, shapeTerms, scoreTerm}
 use Rattle.folio.proofs.ShapesFound.{length-starts}
 use Rattle.folio.proofs.Accepted.{Accepted, accepted, shape-terms, score-term}
 use Rattle.automaton.specs.Paper.{paper}
@@ -51,9 +51,9 @@ module _ {file : List ℕ} (S : OneFile file) where
   abbrev p : Places
   p = acc .places
 
-  counted : S .counts ≡ counts (length (take (p .shapes) file)) (length ss) (length (gather flatten ss)) (span t)
+  counted : S .counts ≡ countsIn (take (p .shapes) file) ss t
   counted =
-      let z : opening.Folio (S .counts) ≡ opening.Folio (counts (length (take (p .shapes) file)) (length ss) (length (gather flatten ss)) (span t)) =
+      let z : opening.Folio (S .counts) ≡ opening.Folio (countsIn (take (p .shapes) file) ss t) =
       sym (S .opens) ∙ ap (λ (o : OpenOutcome). o .answer) (acc .is) in
       cc
 
@@ -104,6 +104,12 @@ module _ {file : List ℕ} (S : OneFile file) where
 
   pub score-spans : spansIn S ≡ sizes (scoreIn S)
   score-spans = spans-are ∙ ap sizes (sym score-is)
+
+  pub score-depth : S .counts .depth ≡ depth (scoreIn S)
+  score-depth = ap (λ (c : Counts). c .depth) counted ∙ ap depth (sym score-is)
+
+  pub shapes-depth : S .counts .deepest ≡ greatest (map depth (shapesIn S))
+  shapes-depth = ap (λ (c : Counts). c .deepest) counted ∙ ap (λ xs. greatest (map depth xs)) (sym shapes-are)
 
   -- ---- the plan
   as-built : BuiltAs (symbolsIn S) (wordsIn S) (startsIn S) (S .plan) (S .scratch) (S .size)
@@ -162,6 +168,9 @@ module _ {file : List ℕ} (S T : OneFile file) where
 
   pub same-spans : spansIn S ≡ spansIn T
   same-spans = score-spans S ∙ ap sizes same-score ∙ sym (score-spans T)
+
+  pub same-depth : S .counts .depth ≡ T .counts .depth
+  same-depth = score-depth S ∙ ap depth same-score ∙ sym (score-depth T)
 
   pub same-states : S .size .states ≡ T .size .states
   same-states = same-planned (construction (paper (shapesIn T))) (symbolsIn T) (length (shapesIn T)) (length (S .plan)) (length (T .plan))

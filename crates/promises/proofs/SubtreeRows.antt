@@ -53,7 +53,7 @@ module _ (ar shapes score : List ℕ) (small : Below 65536 score) where
         go (inl p) =
             let t = p .term in
             let limits : InShape ar (t .tree) = record { fits = t .fits; flat = omega (arith, t .flat); small = omega (arith, p .inside, t .size) } in
-            inl (t .tree, in-shapes at (t .tree) g limits (drop (p .end) shapes, t .words))
+            inl (t .tree, in-shapes at (t .tree) g limits (drop (p .met .end) shapes, t .words))
 
     score-either : (x : Node) → ((t : Term) × Standing ar shapes score (asked.Score x) t) ⊎ (subtreeAt (asked.Score x) ar shapes score ≡ [])
     score-either x = go (piece-or-none ar score (scoreLimits (x .0)) scoreLevels (x .0))
@@ -63,10 +63,10 @@ module _ (ar shapes score : List ℕ) (small : Below 65536 score) where
         go (inr e) = inr (subtree-score ar shapes score g x ∙ e)
         go (inl p) =
             let t = p .term in
-            let whole = whole-of ar (t .tree) (t .fits) (words-small (x .0) (p .end) (t .tree) (t .words)) in
+            let whole = whole-of ar (t .tree) (t .fits) (words-small (x .0) (p .met .end) (t .tree) (t .words)) in
             let is : IsScore ar (t .tree) =
             record { fits = t .fits; whole = whole; flat = omega (arith, t .flat); small = omega (arith, p .inside, t .size) } in
-            inl (t .tree, in-score x (t .tree) g is (drop (p .end) score, t .words))
+            inl (t .tree, in-score x (t .tree) g is (drop (p .met .end) score, t .words))
 
   subtree-bad : (w : Asked) → symbolsGood ar ≡ false → subtreeAt w ar shapes score ≡ []
   unfolding subtreeAt

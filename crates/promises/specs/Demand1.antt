@@ -11,17 +11,17 @@
 --   MatchRow    30; 34 for a node to which no path leads by the spans lent; or the line with the path that does
 --   FoundRow    34; or what is found: in `Found`, for subtree, the plan readers and a position's child
 --   openTold buildTold walkTold   what opening, building, starting and stepping say and leave; building leaves the plan's buffer and scratch
-use mathlib.Core.List.{List, [], _∷_, _++_}
+use mathlib.Core.List.{List, [], _∷_, _++_, map}
 use Prim.Native.Nat.{ℕ, _*_, _<_, _≤_}
 use lib.ListN.{length, getD, take, drop}
 use lib.Seq.{sets}
-use Rattle.kinds.specs.Lists.{gather}
+use Rattle.kinds.specs.Lists.{gather, greatest}
 use Rattle.kinds.specs.Reasons.{Says, gives, refusal}
 use Rattle.kinds.specs.Kinds.{childOf, childSays}
 use Rattle.kinds.specs.Positions.{Pos}
 use Rattle.kinds.specs.declared.Position.{Position}
 use Rattle.kinds.specs.declared.Reason.{Reason}
-use Rattle.term.specs.Terms.{span, flatten}
+use Rattle.term.specs.Terms.{span, depth, flatten}
 use Rattle.folio.specs.Opening.{Lent, Room, OpenOutcome, opened, openedSays}
 use Rattle.folio.specs.Folio.{Meaning, Shaped, GoodScore, shapeTerms, answered}
 use Rattle.term.specs.Admitted.{GoodSymbols}
@@ -40,6 +40,7 @@ use Rattle.counting.specs.Clashes.{clashNumber, clash, clashesOf}
 use Rattle.readers.specs.BlockWords.{middle}
 use Rattle.readers.specs.PlanParts.{labelOf, labelSays, lengthsOf, blockSays, announcementOf, announcementSays, successorOf, successorSays}
 use Rattle.following.specs.Following.{target, reached, reachedSays}
+use Rattle.report.specs.declared.Totals.{Totals}
 use Rattle.report.specs.Paths.{Leads}
 use Rattle.report.specs.Text.{matchLine, firstLine, refusalText}
 use Rattle.report.specs.Lines.{LineOutcome, lineOut, firstOut, refusalOut, writtenSays}
@@ -60,11 +61,13 @@ abbrev pub walkTold : WalkOutcome → Told Walk
 walkTold o = told (walkedSays (o .answer)) (o .walk)
 
 -- ---- opening
--- it answers the counts of symbols, shapes, shape words and nodes
+-- it answers the counts of symbols, shapes, shape words and nodes, "the score's depth and the deepest shape's"
 pub data OpenRow (file : List ℕ) (l : Lent) : Told Lent → Type 0 where
   refused : (n p : ℕ) → Given file l n p → OpenRow file l (told (refusal n p) l)
   opens : (at : Places) → Framed file at → (m : Meaning file at) → Room l (length (gather flatten (m .shapes))) (length (m .shapes)) (span (m .score))
-      → OpenRow file l (told (gives (length (symbolsAt file at) ∷ length (m .shapes) ∷ length (gather flatten (m .shapes)) ∷ span (m .score) ∷ []))
+      → OpenRow file l (told
+      (gives (length (symbolsAt file at) ∷ length (m .shapes) ∷ length (gather flatten (m .shapes)) ∷ span (m .score)
+      ∷ depth (m .score) ∷ greatest (map depth (m .shapes)) ∷ []))
       (answered (symbolsAt file at) (m .shapes) (m .score) l .tables))
 
 -- ---- building
@@ -155,7 +158,7 @@ pub record Demand1 : Type 0 where
       → By (FoundRow (AnnouncementFound plan m k s f i) pairValues) (announcementSays (announcementOf plan m k s f i))
   pub successor : (plan : List ℕ) (m k s f i : ℕ)
       → By (FoundRow (SuccessorFound plan m k s f i) pairValues) (successorSays (successorOf plan m k s f i))
-  pub first-line : (n s m c : ℕ) (buffer : List ℕ) → By (LineRow (firstLine n s m c) buffer) (lineTold (firstOut n s m c buffer))
+  pub first-line : (t : Totals) (buffer : List ℕ) → By (LineRow (firstLine t) buffer) (lineTold (firstOut t buffer))
   pub match-line : (spans : List ℕ) (x j : ℕ) (buffer : List ℕ) → By (MatchRow spans x j buffer) (lineTold (lineOut spans x j buffer))
   pub refusal-line : (r : Reason) (p : ℕ) (buffer : List ℕ) → By (LineRow (refusalText r p) buffer) (lineTold (refusalOut r p buffer))
   pub child-of : (p : Position) (i : ℕ) → By (FoundRow (ChildFound p i) (λ c. c ∷ [])) (childSays (childOf p i))

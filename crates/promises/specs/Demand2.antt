@@ -1,6 +1,7 @@
 -- Demand 2: "the plan is the one that the paper's construction gives, and after a finished walk a shape is reported at a place exactly if it matches there".
 --   is-folio        what opening read is a folio: the limits of document 01 hold of its symbols, shapes and score
 --   shape-words …   the tables that opening wrote are the preorder words, the shapes' starts and the nodes' spans
+--   score-depth …   the depths that opening answered are the score's and the greatest of the shapes'
 --   plan            the words that building wrote are the plan of the paper's construction with document 01's choices
 --   construction    what computes that plan is what the paper says
 --   exactly         a bit is set exactly if the shape matches at the node, by the paper's definition
@@ -12,15 +13,15 @@
 --   tested          such a test is there
 use mathlib.Core.Path.{_≡_}
 use mathlib.Core.Bool.{Bool, true}
-use mathlib.Core.List.{List}
+use mathlib.Core.List.{List, map}
 use mathlib.Core.Option.{some}
 use mathlib.Core.Logic.{_↔_}
 use Prim.Native.Nat.{ℕ, _<_}
 use lib.ListN.{length, getD, getElem?}
 use Rattle.kinds.specs.Bits.{bit}
-use Rattle.kinds.specs.Lists.{gather}
+use Rattle.kinds.specs.Lists.{gather, greatest}
 use Rattle.kinds.specs.Positions.{Pos}
-use Rattle.term.specs.Terms.{Term, span, flatten, sizes}
+use Rattle.term.specs.Terms.{Term, span, depth, flatten, sizes}
 use Rattle.term.specs.Places.{Matches, dom, number}
 use Rattle.folio.specs.Folio.{Folio}
 use Rattle.automaton.specs.PlanWords.{plan-of}
@@ -40,6 +41,8 @@ pub record Demand2 {file : List ℕ} (S : OneFile file) : Type 0 where
   pub shape-words : wordsIn S ≡ gather flatten (shapesIn S)
   pub score-words : nodesIn S ≡ flatten (scoreIn S)
   pub score-spans : spansIn S ≡ sizes (scoreIn S)
+  pub score-depth : S .counts .depth ≡ depth (scoreIn S)
+  pub shapes-depth : S .counts .deepest ≡ greatest (map depth (shapesIn S))
   pub plan : planOf (symbolsIn S) (shapesIn S) (length (S .plan)) ≡ plan-of (S .size .states) (planIn S)
   pub construction : PaperSays (symbolsIn S) (shapesIn S)
   pub exactly : (choices : List ℕ) → after S choices .count .waiting ≡ 0 → (j : ℕ) (ℓ : Term) → getElem? (shapesIn S) j ≡ some ℓ → (n : ℕ) (p : Pos)

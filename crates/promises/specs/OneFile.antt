@@ -104,4 +104,4 @@ module _ {file : List ℕ} (S : OneFile file) where
   acceptedIn choices = accepted lentIn nodesIn spansIn choices begunIn
 
   abbrev pub reported : List ℕ → List ℕ
-  reported choices = report spansIn (S .size .states) (after choices .marks)
+  reported choices = report spansIn (S .counts .depth) (S .size .states) (after choices .marks)

@@ -6,17 +6,19 @@
 --   matchesIn       those of every position, in document order
 --   clashIn         "Two matches clash if one's node is the other's or lies under it"
 --   clashNumberIn   "the clash number counts matches that clash with at least one other"
---   reportIn        the text: "First line: nodes, states, matches …, clashes", then the lines
+--   totalsIn        the numbers of the first line: "nodes, states, matches …, clashes", "a last field, `depth D`, the score's"
+--   reportIn        the text: the first line, then the lines
 use mathlib.Core.List.{List, [], _∷_, _++_}
 use mathlib.Core.Bool.{Bool, cond, _&&_, _||_}
 use Prim.Native.Nat.{ℕ}
 use lib.ListN.{length}
 use Rattle.kinds.specs.Lists.{any, filter, gather, concat, mapAt}
 use Rattle.kinds.specs.Positions.{Pos, prefix}
-use Rattle.term.specs.Terms.{Term, span}
+use Rattle.term.specs.Terms.{Term, span, depth}
 use Rattle.term.specs.Places.{dom}
 use Rattle.counting.specs.Counting.{Match, matchAt}
 use Rattle.counting.specs.Clashes.{other}
+use Rattle.report.specs.declared.Totals.{Totals}
 use Rattle.report.specs.Text.{matchLine, firstLine}
 
 pub record MatchIn : Type 0 where
@@ -40,7 +42,10 @@ clashIn m o = prefix (m .place) (o .place) || prefix (o .place) (m .place)
 abbrev pub clashNumberIn : List MatchIn → ℕ
 clashNumberIn ms = length (filter (λ m. any (λ o. other (m .match) (o .match) && clashIn m o) ms) ms)
 
+abbrev pub totalsIn : List MatchIn → Term → ℕ → Totals
+totalsIn ms t states = record { nodes = span t; states = states; matches = length ms; clashes = clashNumberIn ms; depth = depth t }
+
 abbrev pub reportIn : (Term → Pos → Bool) → List Term → Term → ℕ → List ℕ
 reportIn test shapes t states =
     let ms = matchesIn test shapes t in
-    firstLine (span t) states (length ms) (clashNumberIn ms) ++ gather (λ m. matchLine (m .match) (m .place)) ms
+    firstLine (totalsIn ms t states) ++ gather (λ m. matchLine (m .match) (m .place)) ms

@@ -61,7 +61,7 @@ marks = 3 ∷ 1 ∷ 0 ∷ 0 ∷ 0 ∷ 0 ∷ 1 ∷ 0 ∷ 0 ∷ 0 ∷ []
 
 -- what find prints
 abbrev pub text : List ℕ
-text = bytes "nodes 10 states 3 matches 4 clashes 4\n0 0 -\n0 1 -\n1 0 1\n6 0 2.1\n"
+text = bytes "nodes 10 states 3 matches 4 clashes 4 depth 4\n0 0 -\n0 1 -\n1 0 1\n6 0 2.1\n"
 
 abbrev pub nines : ℕ → List ℕ
 nines n = replicate n 9
@@ -106,7 +106,7 @@ table =
     ∷ row (childSays (childOf (position 2) 1)) ∷ row (reachedSays (reached (target 10 spans 0 11))) ∷ row
     (writtenSays (lineOut spans 6 0 (nines 1399) .answer))
     ∷ row (writtenSays (lineOut spans 10 0 (nines 1400) .answer))
-    ∷ report spans 3 (firsts .marks) ∷ []
+    ∷ report spans 4 3 (firsts .marks) ∷ []
 
 abbrev pub claimed : List (List ℕ)
 claimed =
@@ -116,7 +116,7 @@ claimed =
     ∷ (0 ∷ 1 ∷ [])
     ∷ (1 ∷ 0 ∷ [])
     ∷ (32 ∷ 0 ∷ [])
-    ∷ (0 ∷ 3 ∷ 2 ∷ 9 ∷ 10 ∷ []) ∷ shapeWords ∷ starts ∷ score ∷ spans
+    ∷ (0 ∷ 3 ∷ 2 ∷ 9 ∷ 10 ∷ 4 ∷ 2 ∷ []) ∷ shapeWords ∷ starts ∷ score ∷ spans
     ∷ (0 ∷ 3 ∷ 56 ∷ []) ∷ (plan ++ (9 ∷ []))
     ∷ (0 ∷ 4 ∷ []) ∷ (0 ∷ 4 ∷ [])
     ∷ (0 ∷ 1 ∷ []) ∷ (0 ∷ 1 ∷ 2 ∷ []) ∷ (0 ∷ 1 ∷ 0 ∷ []) ∷ (0 ∷ 0 ∷ 11 ∷ []) ∷ (34 ∷ 0 ∷ [])

@@ -28,6 +28,7 @@ use Rattle.report.specs.Text.{digits, digitsTo, dotted, field, pathText,
 use Rattle.kinds.specs.Reasons.{numberOf}
 use Rattle.kinds.specs.declared.Reason.{Reason}
 use Rattle.report.specs.Quoted.{bytes}
+use Rattle.report.specs.declared.Totals.{Totals}
 use Rattle.report.specs.Lines.{outOf, written, writtenIf, firstOut, refusalOut, lineOut}
 use Rattle.report.specs.declared.Written.the-variants.{Bytes, Refused}
 use Rattle.report.specs.declared.Depth.{Depth}
@@ -167,16 +168,17 @@ pub field-is : {o′ o″ : List ℕ} {b c : ℕ} (o : List ℕ) (a : ℕ) (ws :
 unfolding digits
 field-is o a ws n h d = let p = put-then (text ws h) (piece 20 (digitsTo 20 n) d) in (p .end, (p .text, omega (arith, h .0, d .1 .1)))
 
-pub first-is : (n s m c : ℕ) (o : List ℕ) {o₁ o₂ o₃ o₄ o₅ : List ℕ} {a₁ a₂ a₃ a₄ a₅ : ℕ} → 1400 ≤ length o
-    → Wrote 26 o 0 (field (bytes "nodes ") n) o₁ a₁ → Wrote 28 o₁ a₁ (field (bytes " states ") s) o₂ a₂
-    → Wrote 29 o₂ a₂ (field (bytes " matches ") m) o₃ a₃
-    → Wrote 29 o₃ a₃ (field (bytes " clashes ") c) o₄ a₄ → (a₅ ≡ a₄ + 1) × (o₅ ≡ sets o₄ a₄ (bytes "\n")) → outOf (Bytes a₅) o₅ ≡ firstOut n s m c o
-first-is n s m c o room p₁ p₂ p₃ p₄ p₅ =
+pub first-is : (t : Totals) (o : List ℕ) {o₁ o₂ o₃ o₄ o₅ o₆ : List ℕ} {a₁ a₂ a₃ a₄ a₅ a₆ : ℕ} → 1400 ≤ length o
+    → Wrote 26 o 0 (field (bytes "nodes ") (t .nodes)) o₁ a₁ → Wrote 28 o₁ a₁ (field (bytes " states ") (t .states)) o₂ a₂
+    → Wrote 29 o₂ a₂ (field (bytes " matches ") (t .matches)) o₃ a₃ → Wrote 29 o₃ a₃ (field (bytes " clashes ") (t .clashes)) o₄ a₄
+    → Wrote 27 o₄ a₄ (field (bytes " depth ") (t .depth)) o₅ a₅ → (a₆ ≡ a₅ + 1) × (o₆ ≡ sets o₅ a₅ (bytes "\n")) → outOf (Bytes a₆) o₆ ≡ firstOut t o
+first-is t o room p₁ p₂ p₃ p₄ p₅ p₆ =
     line-is room
-    (put-then (piece 26 (field (bytes "nodes ") n) p₁)
-    (put-then (piece 28 (field (bytes " states ") s) p₂)
-    (put-then (piece 29 (field (bytes " matches ") m) p₃)
-    (put-then (piece 29 (field (bytes " clashes ") c) p₄) (text (bytes "\n") p₅)))))
+    (put-then (piece 26 (field (bytes "nodes ") (t .nodes)) p₁)
+    (put-then (piece 28 (field (bytes " states ") (t .states)) p₂)
+    (put-then (piece 29 (field (bytes " matches ") (t .matches)) p₃)
+    (put-then (piece 29 (field (bytes " clashes ") (t .clashes)) p₄)
+    (put-then (piece 27 (field (bytes " depth ") (t .depth)) p₅) (text (bytes "\n") p₆))))))
 
 pub refusal-is : (r : Reason) (p : ℕ) {k : ℕ} (o : List ℕ) {o₁ o₂ o₃ : List ℕ} {a₁ a₂ a₃ : ℕ} → 1400 ≤ length o → k ≡ numberOf r
     → Wrote 28 o 0 (field (bytes "refused ") k) o₁ a₁ → Wrote 24 o₁ a₁ (field (bytes " at ") p) o₂ a₂ → (a₃ ≡ a₂ + 1) × (o₃ ≡ sets o₂ a₂ (bytes "\n"))

@@ -17,6 +17,7 @@ use Rattle.kinds.specs.declared.Reason.{Reason}
 use Rattle.kinds.specs.declared.Reason.the-variants.{ShortBuffers, OutOfRange}
 use Rattle.counting.specs.Counting.{matchAt}
 use Rattle.report.specs.Text.{line, firstLine, refusalText}
+use Rattle.report.specs.declared.Totals.{Totals}
 use Rattle.report.specs.declared.Written.{Written}
 use Rattle.report.specs.declared.Written.the-variants.{Bytes, Refused}
 
@@ -37,8 +38,8 @@ writtenIf none o = unless (leb lineRoom (length o)) (outOf (Refused ShortBuffers
 abbrev pub lineOut : List ℕ → ℕ → ℕ → List ℕ → LineOutcome
 lineOut spans x j o = writtenIf (line spans (matchAt x j)) o
 
-abbrev pub firstOut : ℕ → ℕ → ℕ → ℕ → List ℕ → LineOutcome
-firstOut n s m c o = written (firstLine n s m c) o
+abbrev pub firstOut : Totals → List ℕ → LineOutcome
+firstOut t o = written (firstLine t) o
 
 abbrev pub refusalOut : Reason → ℕ → List ℕ → LineOutcome
 refusalOut r p o = written (refusalText r p) o

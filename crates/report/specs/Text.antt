@@ -1,15 +1,17 @@
 -- "First line: nodes, states, matches (ones in all marks), clashes. Then one line a match, by node, then shape: node, shape, path in dotted child
--- numbers, the root as `-`. A refusal prints only `refused N at P`." Every line ends with a line feed; a text is its bytes.
+-- numbers, the root as `-`. A refusal prints only `refused N at P`." "find prints a last field, `depth D`, the score's, on the first line". Every line ends
+-- with a line feed; a text is its bytes.
 --   digitsTo      a number in decimal, of at most d digits; digits: of any length that is met
 --   dotted        child numbers, each behind a dot
 --   pathText      a position, the root as `-`
 --   field         a text and a number behind it
 --   matchLine     one match, its node's position given
 --   line          the same by the spans; none where they do not have the node
---   firstLine     the four numbers
+--   firstLine     its numbers, each behind its name
 --   texts textOf  texts in a row; a text that there is
 --   lines         by node, then shape; a match whose node the spans do not have has no line
---   report        over the spans of the n nodes, the state count and the marks
+--   totalsOf      the numbers of the first line
+--   report        over the spans of the n nodes, the score's depth, the state count and the marks
 --   refusalText   what a refusal prints
 --   stepOf pathIn numbersIn   what the parts of the code answer: a child, a path at a buffer's start, how many numbers it has
 use Prim.Native.Nat.{ℕ, zero, suc, _+_, _/_, _%_}
@@ -27,6 +29,7 @@ use Rattle.counting.specs.Counting.{Match, matchAt, found, total}
 use Rattle.counting.specs.Clashes.{clashNumber, clash}
 use Rattle.report.specs.Quoted.{bytes}
 use Rattle.report.specs.Paths.{pathOf}
+use Rattle.report.specs.declared.Totals.{Totals}
 use Rattle.report.specs.declared.Step.{Step}
 use Rattle.report.specs.declared.Step.the-variants.{At, Nowhere}
 use Rattle.report.specs.declared.Depth.{Depth}
@@ -57,12 +60,13 @@ matchLine m p = digits (m .node) ++ (field (bytes " ") (m .shape) ++ (bytes " " 
 abbrev pub line : List ℕ → Match → Option (List ℕ)
 line spans m = Option·map (matchLine m) (pathOf spans (m .node))
 
-abbrev pub firstLine : ℕ → ℕ → ℕ → ℕ → List ℕ
-firstLine n s m c =
-    field (bytes "nodes ") n
-    ++ (field (bytes " states ") s
-    ++ (field (bytes " matches ") m
-    ++ (field (bytes " clashes ") c ++ bytes "\n")))
+abbrev pub firstLine : Totals → List ℕ
+firstLine t =
+    field (bytes "nodes ") (t .nodes)
+    ++ (field (bytes " states ") (t .states)
+    ++ (field (bytes " matches ") (t .matches)
+    ++ (field (bytes " clashes ") (t .clashes)
+    ++ (field (bytes " depth ") (t .depth) ++ bytes "\n"))))
 
 -- t 0, t 1, …, t (k - 1), one after the other
 unfoldable pub texts : ℕ → (ℕ → List ℕ) → List ℕ
@@ -77,10 +81,14 @@ textOf (some text) = text
 unfoldable pub lines : List ℕ → List ℕ → List ℕ
 lines spans ms = texts (length ms) (λ x. texts 16 (λ j. cond (found ms (matchAt x j)) (textOf (line spans (matchAt x j))) []))
 
-unfoldable pub report : List ℕ → ℕ → List ℕ → List ℕ
-report spans states marks =
+-- ms are the marks of the nodes, d the score's depth
+abbrev pub totalsOf : List ℕ → ℕ → ℕ → List ℕ → Totals
+totalsOf spans d states ms = record { nodes = length spans; states = states; matches = total ms; clashes = clashNumber (clash spans) ms; depth = d }
+
+unfoldable pub report : List ℕ → ℕ → ℕ → List ℕ → List ℕ
+report spans d states marks =
     let ms = take (length spans) marks in
-    firstLine (length spans) states (total ms) (clashNumber (clash spans) ms) ++ lines spans ms
+    firstLine (totalsOf spans d states ms) ++ lines spans ms
 
 abbrev pub refusalText : Reason → ℕ → List ℕ
 refusalText r p = field (bytes "refused ") (numberOf r) ++ (field (bytes " at ") p ++ bytes "\n")

@@ -3,6 +3,15 @@ use kinds::Reason;
 pub mod lines; // the lines of the report
 mod text; // their pieces
 
+// The numbers of the first line.
+pub struct Totals {
+    pub nodes: usize,
+    pub states: usize,
+    pub matches: usize,
+    pub clashes: usize,
+    pub depth: usize,
+}
+
 // A child's number and its node.
 pub enum Step {
     At(u16, usize),

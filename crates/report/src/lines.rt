@@ -5,6 +5,7 @@ ghost use Rattle.counting.specs.Counting.{matchAt};
 ghost use Rattle.report.specs.Lines.{outOf, written, lineOut, firstOut, refusalOut};
 ghost use Rattle.report.specs.Text.{matchLine};
 use crate::Depth;
+use crate::Totals;
 use crate::Written;
 use crate::text::put_digits;
 use crate::text::put_dotted;
@@ -59,23 +60,18 @@ pub fn put_refusal(reason: Reason, place: usize, out: &mut [u8]) -> Written
     Written::Bytes(end)
 }
 
-// The first line: nodes, states, matches, clashes.
-pub fn put_first(
-    nodes: usize,
-    states: usize,
-    matches: usize,
-    clashes: usize,
-    out: &mut [u8],
-) -> Written
-    ensures { λ r. ⌜ outOf r (now (out .exit)) ≡ firstOut nodes states matches clashes (now (out .entry)) ⌝ }
+// The first line.
+pub fn put_first(totals: Totals, out: &mut [u8]) -> Written
+    ensures { λ r. ⌜ outOf r (now (out .exit)) ≡ firstOut totals (now (out .entry)) ⌝ }
 {
     if out.len() < LINE_BYTES {
         return Written::Refused(Reason::ShortBuffers);
     }
-    let a = put_field(b"nodes ", nodes, out, 0);
-    let b = put_field(b" states ", states, out, a);
-    let c = put_field(b" matches ", matches, out, b);
-    let d = put_field(b" clashes ", clashes, out, c);
-    let end = put_text(b"\n", out, d);
+    let a = put_field(b"nodes ", totals.nodes, out, 0);
+    let b = put_field(b" states ", totals.states, out, a);
+    let c = put_field(b" matches ", totals.matches, out, b);
+    let d = put_field(b" clashes ", totals.clashes, out, c);
+    let e = put_field(b" depth ", totals.depth, out, d);
+    let end = put_text(b"\n", out, e);
     Written::Bytes(end)
 }

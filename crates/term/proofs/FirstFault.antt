@@ -6,7 +6,7 @@ use mathlib.Core.Logic.{inl, inr, _↔_}
 use mathlib.Core.List.{List, _++_, append-assoc}
 use mathlib.Core.Bool.{Bool, true, false, cond}
 use mathlib.Core.Option.{some}
-use Prim.Native.Nat.{ℕ, zero, suc, _+_, _-_, _<_, _≤_}
+use Prim.Native.Nat.{ℕ, zero, suc, _+_, _-_, max, _<_, _≤_}
 use native.Mathlib.Omega.{arith}
 use native.Mathlib.Nat.{add-zero, zero-add}
 use native.Mathlib.Decide.{decLt}
@@ -14,8 +14,8 @@ use borrow.Author.Tests.{ltb-true, ltb-false, leb-true, leb-false}
 use lib.Dec.{ltb, leb}
 use lib.ListN.{length, getD, getElem?, drop}
 use Rattle.kinds.proofs.Places.{at-below, at-getD, getD-at}
-use Rattle.term.specs.Terms.{Terms, tnil, tcons, count, span, spans, depths, flatten, flattens, Fitss}
-use Rattle.term.specs.Reading.{childrenOf, below, headOf, met, after, enter, kidsOf, reading}
+use Rattle.term.specs.Terms.{Terms, tnil, tcons, count, span, spans, depth, depths, flatten, flattens, Fitss}
+use Rattle.term.specs.Reading.{childrenOf, below, headOf, met, alone, after, enter, kidsOf, reading}
 use Rattle.term.specs.Reading.{next as and-on}
 use Rattle.term.specs.declared.Limits.{Limits}
 use Rattle.term.specs.declared.Met.{Met}
@@ -125,27 +125,30 @@ module _ (ar ws : List ℕ) (l : Limits) where
           → (s : Stopped d n (at + 1) f p) → FaultIn ar ws l d (s .to) f p → FaultIn ar ws l (suc d) at f p
       inner n h s b g x i = under d at n (x .before) (x .to) f p h s b g (x .fewer) (x .fits) (x .flat) (x .words) (x .size) (x .room) i
 
-      go : (c : Count) → Node at c → enter c at (λ n. kidsOf (reading ar ws l d) n (met (at + 1))) ≡ Refused f p
+      go : (c : Count) → Node at c → enter c at (λ n. kidsOf (reading ar ws l d) n (alone at)) ≡ Refused f p
           → ((to : ℕ) → reading ar ws l d to ≡ Refused f p → FaultIn ar ws l d to f p) → FaultIn ar ws l (suc d) at f p
       go c (no-word h) e ih = let z : Ends ≡ f = cc in let y : at ≡ p = cc in rw (← z, ← y) (ends (suc d) at h)
       go c (unknown h a b) e ih = let z : NoSymbol ≡ f = cc in let y : at ≡ p = cc in rw (← z, ← y) (no-symbol (suc d) at h a b)
       go c (beyond h k s) e ih = let z : Many ≡ f = cc in let y : at ≡ p = cc in rw (← z, ← y) (many (suc d) at h k s)
       go c (a-blank h s b) e ih = never-whole (sym e)
-      go c (a-symbol n h s b g) e ih = let x = kids-stopped d n (met (at + 1)) f p (omega arith) e in inner n h s b g x (ih (x .to) (x .stops))
+      go c (a-symbol n h s b g) e ih = let x = kids-stopped d n (alone at) f p (omega arith) e in inner n h s b g x (ih (x .to) (x .stops))
 
   -- ---- to the reader
-  kids-past : (d : ℕ) (ts : Terms) (k c : ℕ) (r : List ℕ) → Fitss ar (l .blanks) ts → depths ts ≤ d → c + spans ts ≤ l .stop
+  kids-past : (d : ℕ) (ts : Terms) (k c most : ℕ) (r : List ℕ) → Fitss ar (l .blanks) ts → depths ts ≤ d → c + spans ts ≤ l .stop
       → drop c ws ≡ flattens ts ++ r
-      → kidsOf (reading ar ws l d) (count ts + k) (met c) ≡ kidsOf (reading ar ws l d) k (met (c + spans ts))
-  kids-past d tnil k c r fs fl room e = ap₂ (λ x y. kidsOf (reading ar ws l d) x (met y)) (zero-add k) (sym (add-zero c))
-  kids-past d (tcons t ts) k c r fs fl room e =
+      → kidsOf (reading ar ws l d) (count ts + k) (met c most) ≡ kidsOf (reading ar ws l d) k (met (c + spans ts) (max most (depths ts)))
+  kids-past d tnil k c most r fs fl room e =
+      let z : most ≡ max most 0 = omega arith in
+      ap₂ (λ x y. kidsOf (reading ar ws l d) x (met y most)) (zero-add k) (sym (add-zero c)) ∙ ap (λ y. kidsOf (reading ar ws l d) k (met (c + 0) y)) z
+  kids-past d (tcons t ts) k c most r fs fl room e =
       let b = read-back ar ws l t d c (flattens ts ++ r) (fs .0) (omega arith) (omega arith) (e ∙ append-assoc (flatten t) (flattens ts) r) in
       let more : suc (count ts) + k ≡ suc (count ts + k) = omega arith in
-      let ih = kids-past d ts k (c + span t) r (fs .1) (omega arith) (omega arith) (b .1) in
+      let ih = kids-past d ts k (c + span t) (max most (depth t + 1)) r (fs .1) (omega arith) (omega arith) (b .1) in
       let z : c + span t + spans ts ≡ c + (span t + spans ts) = omega arith in
-      ap (λ x. kidsOf (reading ar ws l d) x (met c)) more
-      ∙ ap (λ x. and-on x (λ m. kidsOf (reading ar ws l d) (count ts + k) (after (met c) m))) (b .0) ∙ ih
-      ∙ ap (λ x. kidsOf (reading ar ws l d) k (met x)) z
+      let y : max (max most (depth t + 1)) (depths ts) ≡ max most (max (suc (depth t)) (depths ts)) = omega arith in
+      ap (λ x. kidsOf (reading ar ws l d) x (met c most)) more
+      ∙ ap (λ x. and-on x (λ m. kidsOf (reading ar ws l d) (count ts + k) (after (met c most) m))) (b .0) ∙ ih
+      ∙ ap₂ (λ u v. kidsOf (reading ar ws l d) k (met u v)) z y
 
   known-children : (w : ℕ) → Known ar l w → (n : ℕ) × (childrenOf ar (l .blanks) w ≡ Kids n)
   known-children w k = go k (decLt w (l .blanks))
@@ -168,11 +171,11 @@ module _ (ar ws : List ℕ) (l : Limits) where
       let head : headOf ar ws l at ≡ Kids n =
       head-kids ar ws l at h (children-symbol ar (l .blanks) (getD ws at 0) b (at-below ar (getD ws at 0) g)
       ∙ ap Kids (getD-at ar (getD ws at 0) 0 g)) s in
-      ap (λ c. enter c at (λ m. kidsOf (reading ar ws l d) m (met (at + 1)))) head
-      ∙ ap (λ m. kidsOf (reading ar ws l d) m (met (at + 1))) many
-      ∙ kids-past d before (suc k) (at + 1) (drop next ws) fits flat (rw (← size) room) words
-      ∙ ap (λ m. kidsOf (reading ar ws l d) (suc k) (met m)) (sym size)
-      ∙ ap (λ r. and-on r (λ m. kidsOf (reading ar ws l d) k (after (met next) m))) ih
+      ap (λ c. enter c at (λ m. kidsOf (reading ar ws l d) m (alone at))) head
+      ∙ ap (λ m. kidsOf (reading ar ws l d) m (alone at)) many
+      ∙ kids-past d before (suc k) (at + 1) 0 (drop next ws) fits flat (rw (← size) room) words
+      ∙ ap (λ m. kidsOf (reading ar ws l d) (suc k) (met m (max 0 (depths before)))) (sym size)
+      ∙ ap (λ r. and-on r (λ m. kidsOf (reading ar ws l d) k (after (met next (max 0 (depths before))) m))) ih
 
   pub fault-is : (d at : ℕ) (f : Fault) (p : ℕ) → (reading ar ws l d at ≡ Refused f p) ↔ FaultIn ar ws l d at f p
   fault-is d at f p = (fault-of d at f p, of-fault)

@@ -7,7 +7,7 @@
 --   Within whole-in                                a whole term ends behind its start, within the words and the limit
 --   refused-in                                     a fault is at a word, or right behind the last
 use Prim.Native.Nat.{ℕ, zero, suc, _+_, _-_, _<_, _≤_}
-use mathlib.Core.Path.{_≡_, refl, sym, _∙_}
+use mathlib.Core.Path.{_≡_, refl, ap, sym, _∙_}
 use mathlib.Core.List.{List}
 use mathlib.Core.Bool.{Bool, true, false, cond}
 use native.Mathlib.Omega.{arith}
@@ -15,7 +15,7 @@ use native.Mathlib.Numerals.{sub-one}
 use borrow.Author.Tests.{lt-ltb, le-ltb, le-leb, lt-leb, ltb-true}
 use lib.Dec.{ltb}
 use lib.ListN.{length, getD}
-use Rattle.term.specs.Reading.{childrenOf, below, headOf, met, after, enter, next, kidsOf, reading}
+use Rattle.term.specs.Reading.{childrenOf, below, headOf, met, alone, after, enter, next, kidsOf, reading}
 use Rattle.term.specs.declared.Limits.{Limits}
 use Rattle.term.specs.declared.Met.{Met}
 use Rattle.term.specs.declared.Fault.{Fault}
@@ -66,7 +66,7 @@ module _ (ar ws : List ℕ) (l : Limits) (at : ℕ) where
   reading-deep (suc d) e z = absurd (omega arith)
 
   pub reading-into : (d : ℕ) {n : ℕ} → headOf ar ws l at ≡ Kids n → (d ≡ 0 → ⊥)
-      → reading ar ws l d at ≡ kidsOf (reading ar ws l (d - 1)) n (met (at + 1))
+      → reading ar ws l d at ≡ kidsOf (reading ar ws l (d - 1)) n (alone at)
   unfolding reading
   reading-into zero e z = absurd (z refl)
   reading-into (suc d) e z = rw (e, sub-one)
@@ -79,8 +79,9 @@ module _ (f : ℕ → Reading) (n k : ℕ) (c : Met) where
   pub kids-stop : {a : Fault} {p : ℕ} → k < n → f (c .end) ≡ Refused a p → kidsOf f (n - k) c ≡ Refused a p
   kids-stop h e = kids-more h ∙ rw e
 
-  pub kids-next : {m : Met} → k < n → f (c .end) ≡ Whole m → kidsOf f (n - k) c ≡ kidsOf f (n - (k + 1)) (after c m)
-  kids-next h e = kids-more h ∙ rw e
+  pub kids-next : {m : Met} {most : ℕ} → k < n → f (c .end) ≡ Whole m → most ≡ after c m .depth
+      → kidsOf f (n - k) c ≡ kidsOf f (n - (k + 1)) (met (m .end) most)
+  kids-next {m} h e q = kids-more h ∙ rw e (ap (λ d. kidsOf f (n - (k + 1)) (met (m .end) d)) (sym q))
 
   pub kids-done : n ≤ k → kidsOf f (n - k) c ≡ Whole c
   kids-done h = let e : n - k ≡ 0 = omega arith in rw e
@@ -137,7 +138,7 @@ whole-in ar ws l zero at m e = on-enter (headOf ar ws l at) at _ m e λ n h k. n
 whole-in ar ws l (suc d) at m e =
     on-enter (headOf ar ws l at) at _ m e λ n h k.
     let i = head-in ar ws l at n h in
-    let r = kids-in (reading ar ws l d) ws l (whole-in ar ws l d) n (met (at + 1)) m (omega arith) (omega arith) k in
+    let r = kids-in (reading ar ws l d) ws l (whole-in ar ws l d) n (alone at) m (omega arith) (omega arith) k in
     record { some = omega arith; inside = omega arith; few = omega arith }
 
 -- ---- where a fault is
@@ -165,9 +166,9 @@ refused-in ar ws l zero at f p h e = go (headOf ar ws l at) e
     go (Kids n) e = let s : at ≡ p = cc in omega arith
 refused-in ar ws l (suc d) at f p h e = go (headOf ar ws l at) refl e (λ a g q. refused-in ar ws l d a g q)
   where
-    go : (c : Count) → headOf ar ws l at ≡ c → enter c at (λ n. kidsOf (reading ar ws l d) n (met (at + 1))) ≡ Refused f p
+    go : (c : Count) → headOf ar ws l at ≡ c → enter c at (λ n. kidsOf (reading ar ws l d) n (alone at)) ≡ Refused f p
         → ((a : ℕ) (g : Fault) (q : ℕ) → a ≤ length ws → reading ar ws l d a ≡ Refused g q → q ≤ length ws) → p ≤ length ws
     go (Bad g) i e each = let s : at ≡ p = cc in omega arith
     go (Kids n) i e each =
         let b = head-in ar ws l at n i in
-        kids-refused-in (reading ar ws l d) ws l (whole-in ar ws l d) each n (met (at + 1)) f p (omega arith) e
+        kids-refused-in (reading ar ws l d) ws l (whole-in ar ws l d) each n (alone at) f p (omega arith) e

@@ -1,12 +1,13 @@
 -- Every term within the limits is read whole: the way back of WholeTerm. And `parse` reads it.
 --   first                     the first word of a list that stands at an index
+--   metWith                   what a term is met with
 --   read-back reads-back      words that are a term's, and others behind them
 --   term-whole                a term that stands there
 --   parse-flatten many-flatten parse-all   parsed
-use mathlib.Core.Path.{_≡_, refl, ap, sym, _∙_}
+use mathlib.Core.Path.{_≡_, refl, ap, ap₂, sym, _∙_}
 use mathlib.Core.List.{List, [], _∷_, _++_, append-assoc}
 use mathlib.Core.Option.{some}
-use Prim.Native.Nat.{ℕ, zero, suc, _+_, _<_, _≤_}
+use Prim.Native.Nat.{ℕ, zero, suc, _+_, max, _<_, _≤_}
 use native.Mathlib.Omega.{arith}
 use native.Mathlib.Nat.{add-zero}
 use borrow.Author.Tests.{le-leb, lt-leb}
@@ -16,8 +17,9 @@ use Rattle.kinds.specs.Members.{_∈_, here, there}
 use Rattle.kinds.proofs.ListLaws.{from}
 use Rattle.kinds.proofs.Places.{at-below, getD-at}
 use Rattle.term.specs.Terms.{Term, blank, node, Terms, tnil, tcons, count, depth, depths, span, spans, flatten, flattens, Fits, Fitss, Read, many, parse, andMore, parseAll}
-use Rattle.term.specs.Reading.{childrenOf, met, after, enter, next, kidsOf, reading}
+use Rattle.term.specs.Reading.{childrenOf, met, alone, after, enter, next, kidsOf, reading}
 use Rattle.term.specs.declared.Limits.{Limits}
+use Rattle.term.specs.declared.Met.{Met}
 use Rattle.term.specs.declared.Reading.{Reading}
 use Rattle.term.specs.declared.Reading.the-variants.{Whole}
 use Rattle.term.proofs.LawsReading.{children-blank, children-symbol, head-kids}
@@ -33,46 +35,56 @@ first ws at w r e =
     let b : drop (at + 1) ws ≡ r = cc in
     (h, a, b)
 
+-- what a term that begins at an index is met with
+abbrev pub metWith : ℕ → Term → Met
+metWith at t = met (at + span t) (depth t)
+
 mutual
   unfolding reading
 
   pub read-back : (ar ws : List ℕ) (l : Limits) (t : Term) (d at : ℕ) (r : List ℕ) → Fits ar (l .blanks) t → depth t < d → at + span t ≤ l .stop
       → drop at ws ≡ flatten t ++ r
-      → (reading ar ws l d at ≡ Whole (met (at + span t))) × (drop (at + span t) ws ≡ r)
+      → (reading ar ws l d at ≡ Whole (metWith at t)) × (drop (at + span t) ws ≡ r)
   read-back ar ws l (blank w) zero at r p h g e = absurd (omega arith)
   read-back ar ws l (blank w) (suc d) at r p h g e =
       let f = first ws at w r e in
       let k = head-kids ar ws l at (f .0) (ap (childrenOf ar (l .blanks)) (f .1) ∙ children-blank ar (l .blanks) w p) (omega arith) in
-      (ap (λ c. enter c at (λ n. kidsOf (reading ar ws l d) n (met (at + 1)))) k, f .2)
+      (ap (λ c. enter c at (λ n. kidsOf (reading ar ws l d) n (alone at))) k, f .2)
   read-back ar ws l (node s ts) zero at r p h g e = absurd (omega arith)
   read-back ar ws l (node s ts) (suc d) at r p h g e =
       let f = first ws at s (flattens ts ++ r) e in
       let k = head-kids ar ws l at (f .0) (ap (childrenOf ar (l .blanks)) (f .1) ∙ children-symbol ar (l .blanks) s (p .0) (at-below ar s (p .1)))
       (omega arith) in
-      let b = reads-back ar ws l ts d (at + 1) r (p .2) (omega arith) (omega arith) (f .2) in
-      let q : at + 1 + spans ts ≡ at + suc (spans ts) = omega arith in (
-        ap (λ c. enter c at (λ n. kidsOf (reading ar ws l d) n (met (at + 1)))) k
-            ∙ ap (λ (n : ℕ). kidsOf (reading ar ws l d) n (met (at + 1))) (getD-at ar s 0 (p .1)) ∙ b .0 ∙ ap (λ (n : ℕ). Whole (met n)) q,
+      let b = reads-back ar ws l ts d (at + 1) 0 r (p .2) (omega arith) (omega arith) (f .2) in
+      let q : at + 1 + spans ts ≡ at + suc (spans ts) = omega arith in
+      let z : max 0 (depths ts) ≡ depths ts = omega arith in (
+        ap (λ c. enter c at (λ n. kidsOf (reading ar ws l d) n (alone at))) k
+            ∙ ap (λ (n : ℕ). kidsOf (reading ar ws l d) n (alone at)) (getD-at ar s 0 (p .1)) ∙ b .0 ∙ ap₂ (λ (n k : ℕ). Whole (met n k)) q z,
         ap (λ (n : ℕ). drop n ws) (sym q) ∙ b .1,
       )
 
-  pub reads-back : (ar ws : List ℕ) (l : Limits) (ts : Terms) (d at : ℕ) (r : List ℕ) → Fitss ar (l .blanks) ts → depths ts ≤ d
+  pub reads-back : (ar ws : List ℕ) (l : Limits) (ts : Terms) (d at most : ℕ) (r : List ℕ) → Fitss ar (l .blanks) ts → depths ts ≤ d
       → at + spans ts ≤ l .stop → drop at ws ≡ flattens ts ++ r
-      → (kidsOf (reading ar ws l d) (count ts) (met at) ≡ Whole (met (at + spans ts))) × (drop (at + spans ts) ws ≡ r)
-  reads-back ar ws l tnil d at r p h g e = (ap (λ (n : ℕ). Whole (met n)) (sym (add-zero at)), ap (λ (n : ℕ). drop n ws) (add-zero at) ∙ e)
-  reads-back ar ws l (tcons t ts) d at r p h g e =
+      → (kidsOf (reading ar ws l d) (count ts) (met at most) ≡ Whole (met (at + spans ts) (max most (depths ts)))) × (drop (at + spans ts) ws ≡ r)
+  reads-back ar ws l tnil d at most r p h g e =
+      let z : most ≡ max most 0 = omega arith in
+      (ap₂ (λ (n k : ℕ). Whole (met n k)) (sym (add-zero at)) z, ap (λ (n : ℕ). drop n ws) (add-zero at) ∙ e)
+  reads-back ar ws l (tcons t ts) d at most r p h g e =
       let a = read-back ar ws l t d at (flattens ts ++ r) (p .0) (omega arith) (omega arith) (e ∙ append-assoc (flatten t) (flattens ts) r) in
-      let b = reads-back ar ws l ts d (at + span t) r (p .1) (omega arith) (omega arith) (a .1) in
-      let q : at + span t + spans ts ≡ at + (span t + spans ts) = omega arith in (
-        ap (λ (x : Reading). next x (λ c. kidsOf (reading ar ws l d) (count ts) (after (met at) c))) (a .0) ∙ b .0 ∙ ap (λ (n : ℕ). Whole (met n)) q,
+      let b = reads-back ar ws l ts d (at + span t) (max most (depth t + 1)) r (p .1) (omega arith) (omega arith) (a .1) in
+      let q : at + span t + spans ts ≡ at + (span t + spans ts) = omega arith in
+      let z : max (max most (depth t + 1)) (depths ts) ≡ max most (max (suc (depth t)) (depths ts)) = omega arith in (
+        ap (λ (x : Reading). next x (λ c. kidsOf (reading ar ws l d) (count ts) (after (met at most) c))) (a .0) ∙ b .0
+            ∙ ap₂ (λ (n k : ℕ). Whole (met n k)) q z,
         ap (λ (n : ℕ). drop n ws) (sym q) ∙ b .1,
       )
 
 -- a term that stands at `at` and ends within the limit
-pub term-whole : (ar ws : List ℕ) (l : Limits) (d at e : ℕ) → TermAt ar ws (l .blanks) d at e → e ≤ l .stop → reading ar ws l d at ≡ Whole (met e)
-term-whole ar ws l d at e r h =
+pub term-whole : (ar ws : List ℕ) (l : Limits) (d at : ℕ) (m : Met) → TermAt ar ws (l .blanks) d at m → m .end ≤ l .stop → reading ar ws l d at ≡ Whole m
+term-whole ar ws l d at m r h =
     let s = r .size in
-    read-back ar ws l (r .tree) d at (drop e ws) (r .fits) (r .flat) (omega arith) (r .words) .0 ∙ ap (λ (n : ℕ). Whole (met n)) (sym s)
+    read-back ar ws l (r .tree) d at (drop (m .end) ws) (r .fits) (r .flat) (omega arith) (r .words) .0
+    ∙ ap₂ (λ (n k : ℕ). Whole (met n k)) (sym s) (sym (r .deep))
 
 mutual
   pub parse-flatten : (ar : List ℕ) (bl : ℕ) (t : Term) (d : ℕ) (r : List ℕ) → Fits ar bl t → depth t < d

@@ -7,9 +7,10 @@ pub struct Limits {
     pub stop: usize,
 }
 
-// What a whole term was met with: the index after its last word.
+// What a whole term was met with: the index after its last word, and the greatest depth, its root at 0.
 pub struct Met {
     pub end: usize,
+    pub depth: usize,
 }
 
 // Why the words at an index are no term within the limits.

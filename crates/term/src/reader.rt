@@ -5,6 +5,7 @@ use crate::Fault;
 use crate::Limits;
 use crate::Met;
 use crate::Reading;
+use kinds::numbers::greater;
 
 // The term that starts at `at`, at most `left` levels deep: what it was met with, or its first fault in preorder.
 pub fn read_term(symbols: &[u8], words: &[u16], limits: Limits, at: usize, left: usize) -> Reading
@@ -19,11 +20,13 @@ pub fn read_term(symbols: &[u8], words: &[u16], limits: Limits, at: usize, left:
                 return Reading::Refused(Fault::Deep, at);
             }
             let mut here = at + 1;
+            let mut depth = 0;
             let mut k = 0;
             while k < n {
                 match read_term(symbols, words, limits, here, left - 1) {
                     Reading::Whole(m) => {
                         here = m.end;
+                        depth = greater(depth, m.depth + 1);
                     }
                     Reading::Refused(f, p) => {
                         return Reading::Refused(f, p);
@@ -31,7 +34,7 @@ pub fn read_term(symbols: &[u8], words: &[u16], limits: Limits, at: usize, left:
                 }
                 k += 1;
             }
-            Reading::Whole(Met { end: here })
+            Reading::Whole(Met { end: here, depth })
         }
     }
 }

@@ -28,17 +28,17 @@ returns-2 c =
     sym (score-none _ _ _ (sym (at-test-symbols .ensures) ∙ c .before .before .before .before .enum-told .given .1)
     (sym (c .before .before .before .read-score .ensures) ∙ c .before .why2 .given .1))
 
-enum-told-2 : tie.Need-enum-told-2
-enum-told-2 c = search needs
+enum-known-met : tie.Need-enum-known-met
+enum-known-met c = search needs
 
 spans-are-requires : tie.Need-spans-are-requires
 spans-are-requires c κs = search needs
 
 returns-3 : tie.Need-returns-3
 returns-3 c =
-    let at-test-symbols = c .before .before .before .before .before .before .test-symbols in
-    c .spans-are .ensures ∙ sym (score-again _ _ _ (sym (at-test-symbols .ensures) ∙ c .before .before .before .before .enum-told .given .1)
-    (sym (c .before .before .before .read-score .ensures) ∙ c .before .enum-told2 .given .1))
+    let at-test-symbols = c .before .before .before .before .before .before .before .test-symbols in
+    c .spans-are .ensures ∙ sym (score-again _ _ _ (sym (at-test-symbols .ensures) ∙ c .before .before .before .before .before .enum-told .given .1)
+    (sym (c .before .before .before .before .read-score .ensures) ∙ c .before .before .met .given .1))
 
 pub score-good-spec : {M : Type 1} → statement M
 score-good-spec =
@@ -51,6 +51,6 @@ score-good-spec =
     read-score-requires
     enum-known-why-2
     returns-2
-    enum-told-2
+    enum-known-met
     spans-are-requires
     returns-3)

@@ -37,8 +37,8 @@ returns-2 c =
     sym (again-refused _ _ _ (sym (at-test-symbols .ensures) ∙ at-enum-told .given .1)
     (sym (c .before .before .before .before .read-shapes .ensures .0) ∙ c .before .why2 .given .1))
 
-enum-known-n : tie.Need-enum-known-n
-enum-known-n c = search needs
+enum-known-met : tie.Need-enum-known-met
+enum-known-met c = search needs
 
 sub-equal : tie.Need-sub-equal
 sub-equal c = search needs
@@ -52,7 +52,7 @@ part-equal-end c =
     omega (
       arith,
       found-count (entry .args .symbols .now) blankWord (entry .args .words .now) _
-          (sym (c .before .before .before .before .before .read-shapes .ensures .0) ∙ c .before .before .n .given .1),
+          (sym (c .before .before .before .before .before .read-shapes .ensures .0) ∙ c .before .before .met .given .1),
     )
 
 equal-requires : tie.Need-equal-requires
@@ -65,7 +65,7 @@ returns-3 c =
     let at-enum-told = c .before .before .before .before .before .before .before .before .before .enum-told in
     let at-read-shapes = c .before .before .before .before .before .before .before .read-shapes in
     c .equal .ensures ∙ sym (again-found (entry .args .symbols .now) (entry .args .words .now) (entry .args .starts .now) _ (replicate {A = ℕ} 16 0) _
-    (sym (at-test-symbols .ensures) ∙ at-enum-told .given .1) (sym (at-read-shapes .ensures .0) ∙ c .before .before .before .before .n .given .1)
+    (sym (at-test-symbols .ensures) ∙ at-enum-told .given .1) (sym (at-read-shapes .ensures .0) ∙ c .before .before .before .before .met .given .1)
     (length-replicate {A = ℕ} 16 0) (at-read-shapes .ensures .1))
 
 pub shapes-good-spec : {M : Type 1} → statement M
@@ -80,7 +80,7 @@ shapes-good-spec =
     read-shapes-requires
     enum-known-why-2
     returns-2
-    enum-known-n
+    enum-known-met
     sub-equal
     part-equal-start
     part-equal-end

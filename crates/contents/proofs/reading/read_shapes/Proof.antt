@@ -4,7 +4,7 @@ use Prim.Native.Nat.{_≤_, _-_, _*_}
 use mathlib.Core.Path.{ap, sym, _∙_}
 use lib.Seq.{sets}
 use Rattle.kinds.specs.declared.Reason.{Reason}
-use Rattle.contents.specs.Tables.{ShapesRead, shapesOf, shapesFrom}
+use Rattle.contents.specs.Tables.{shapesMet, ShapesRead, shapesOf, shapesFrom}
 use Rattle.term.proofs.LawsReading.{whole-in}
 use Rattle.contents.proofs.LawsTables.{shapes-full, shapes-refused, shapes-lone, shapes-next, shapes-done, shapes-none, shapes-some, Left, left-first, left-end, left-next}
 use borrow.Author.Needs.{needs}
@@ -12,11 +12,11 @@ use Rattle.contents.proofs.reading.read_shapes.Statement.{statement}
 use Rattle.contents.proofs.reading.read_shapes.Tie as tie
 
 abbrev Inv-loop : tie.InvT-loop
-Inv-loop symbols blanks words starts₀ at₀ n₀ starts at n =
-    (n ≤ 16) × (at ≤ 16 * n) × Left (shapesOf symbols blanks words) (shapesFrom symbols blanks words (16 - n) n at) starts₀ starts n
+Inv-loop symbols blanks words starts₀ at₀ n₀ depth₀ starts at n depth =
+    (n ≤ 16) × (at ≤ 16 * n) × Left (shapesOf symbols blanks words) (shapesFrom symbols blanks words (16 - n) (shapesMet n depth) at) starts₀ starts n
 
 abbrev μ-loop : tie.MeasureT-loop
-μ-loop symbols blanks words starts₀ at₀ n₀ starts at n = 16 - n
+μ-loop symbols blanks words starts₀ at₀ n₀ depth₀ starts at n depth = 16 - n
 
 returns : tie.Need-returns Inv-loop μ-loop
 returns c =
@@ -31,10 +31,10 @@ same-length : tie.Need-same-length Inv-loop μ-loop
 same-length c = c .before .before .loop .inv .2 .long
 
 returns-2 : tie.Need-returns-2 Inv-loop μ-loop
-returns-2 c = left-end (c .before .before .loop .inv .2) (shapes-full _ _ _ _ _ (c .before .loop-test .taken) (c .if2 .taken))
+returns-2 c = left-end (c .before .before .loop .inv .2) (shapes-full _ _ _ _ _ _ (c .before .loop-test .taken) (c .if2 .taken))
 
-add-if3 : tie.Need-add-if3 Inv-loop μ-loop
-add-if3 c = search needs
+add-stop : tie.Need-add-stop Inv-loop μ-loop
+add-stop c = search needs
 
 read-term-requires : tie.Need-read-term-requires Inv-loop μ-loop
 read-term-requires c κs = search needs
@@ -55,7 +55,7 @@ returns-3 c =
     let at-loop = c .before .before .before .before .before .before .before .loop in
     let at-loop-test = c .before .before .before .before .before .before .loop-test in
     let at-f = c .before .before .f in
-    let w = left-end (at-loop .inv .2) (shapes-refused _ _ _ _ _ (at-loop-test .taken) (at-loop .inv .0)
+    let w = left-end (at-loop .inv .2) (shapes-refused _ _ _ _ _ _ (at-loop-test .taken) (at-loop .inv .0)
     (c .before .before .before .before .before .if2 .left) (sym (c .before .before .before .before .read-term .ensures) ∙ at-f .given .1)) in
     (ap (λ (r : Reason). shapes.Refused r (at-f .given .0 .1 .0)) (c .shape-reason .ensures) ∙ w .0, w .1)
 
@@ -83,7 +83,7 @@ returns-4 c =
     let at-loop = c .before .before .before .before .before .before .before .before .loop in
     let at-loop-test = c .before .before .before .before .before .before .before .loop-test in
     let at-if2 = c .before .before .before .before .before .before .if2 in
-    left-end (at-loop .inv .2) (shapes-lone _ _ _ _ _ (at-loop-test .taken) (at-loop .inv .0) (at-if2 .left)
+    left-end (at-loop .inv .2) (shapes-lone _ _ _ _ _ _ (at-loop-test .taken) (at-loop .inv .0) (at-if2 .left)
     (sym (c .before .before .before .before .before .read-term .ensures) ∙ c .before .before .before .m .given .1) (c .if3 .taken))
 
 cast-starts : tie.Need-cast-starts Inv-loop μ-loop
@@ -102,27 +102,31 @@ slice-write-starts c =
 add-n : tie.Need-add-n Inv-loop μ-loop
 add-n c = omega arith
 
+greater-requires : tie.Need-greater-requires Inv-loop μ-loop
+greater-requires c κs = search needs
+
 loop-less : tie.Need-loop-less Inv-loop μ-loop
 loop-less c = omega arith
 
 loop-again : tie.Need-loop-again Inv-loop μ-loop
 loop-again c =
-    let at-loop = c .before .before .before .before .before .before .before .before .loop in
-    let at-loop-test = c .before .before .before .before .before .before .before .loop-test in
-    let at-if2 = c .before .before .before .before .before .before .if2 in
-    let e = sym (c .before .before .before .before .before .read-term .ensures) ∙ c .before .before .before .m .given .1 in
+    let at-loop = c .before .before .before .before .before .before .before .before .before .loop in
+    let at-loop-test = c .before .before .before .before .before .before .before .before .loop-test in
+    let at-if2 = c .before .before .before .before .before .before .before .if2 in
+    let at-read-term = c .before .before .before .before .before .before .read-term in
+    let e = sym (at-read-term .ensures) ∙ c .before .before .before .before .m .given .1 in
     let w = whole-in _ _ _ _ _ _ e in (
       omega arith,
       omega (arith, w .few),
       left-next (at-loop .inv .2)
-          (shapes-next _ _ _ _ _ (at-loop-test .taken) (at-loop .inv .0) (at-if2 .left) e (c .if3 .left)),
+          (shapes-next _ _ _ _ _ _ (at-loop-test .taken) (at-loop .inv .0) (at-if2 .left) e (c .before .if3 .left) (c .greater .ensures)),
     )
 
 same-length-4 : tie.Need-same-length-4 Inv-loop μ-loop
 same-length-4 c = c .before .loop .inv .2 .long
 
 returns-5 : tie.Need-returns-5 Inv-loop μ-loop
-returns-5 c = left-end (c .before .loop .inv .2) (shapes-done _ _ _ _ _ _ (c .loop-test .left))
+returns-5 c = left-end (c .before .loop .inv .2) (shapes-done _ _ _ _ _ _ _ (c .loop-test .left))
 
 pub read-shapes-spec : {M : Type 1} → statement M
 read-shapes-spec =
@@ -134,7 +138,7 @@ read-shapes-spec =
     loop-holds
     same-length
     returns-2
-    add-if3
+    add-stop
     read-term-requires
     enum-known-f
     shape-reason-requires
@@ -150,6 +154,7 @@ read-shapes-spec =
     mul-starts
     slice-write-starts
     add-n
+    greater-requires
     loop-less
     loop-again
     same-length-4

@@ -2,75 +2,60 @@ use Rattle.report.proofs.TextLaws.{line-short, first-is}
 use borrow.Author.Needs.{needs}
 use Rattle.report.proofs.lines.put_first.Statement.{statement}
 use Rattle.report.proofs.lines.put_first.Tie as tie
-use Rattle.report.proofs.lines.put_first.Reads as reads
-use Rattle.report.proofs.lines.put_first.Lts as lts
-use Rattle.report.proofs.text.put_field.Reads as put-field-reads
-use Rattle.report.proofs.text.put_text.Reads as put-text-reads
 
--- src/lines.rt:55:9
 returns : tie.Need-returns
 returns c = line-short _ _ (c .if1 .taken)
 
--- src/lines.rt:57:23
 slice-aggregate-put-field : tie.Need-slice-aggregate-put-field
 slice-aggregate-put-field c = search needs
 
--- src/lines.rt:57:9
 put-field-requires : tie.Need-put-field-requires
 put-field-requires c κs = search needs
 
--- src/lines.rt:58:23
 slice-aggregate-put-field-2 : tie.Need-slice-aggregate-put-field-2
 slice-aggregate-put-field-2 c = search needs
 
--- src/lines.rt:58:9
 put-field-requires-2 : tie.Need-put-field-requires-2
 put-field-requires-2 c κs = search needs
 
--- src/lines.rt:59:23
 slice-aggregate-put-field-3 : tie.Need-slice-aggregate-put-field-3
 slice-aggregate-put-field-3 c = search needs
 
--- src/lines.rt:59:9
 put-field-requires-3 : tie.Need-put-field-requires-3
 put-field-requires-3 c κs = search needs
 
--- src/lines.rt:60:23
 slice-aggregate-put-field-4 : tie.Need-slice-aggregate-put-field-4
 slice-aggregate-put-field-4 c = search needs
 
--- src/lines.rt:60:9
 put-field-requires-4 : tie.Need-put-field-requires-4
 put-field-requires-4 c κs = search needs
 
--- src/lines.rt:61:24
+slice-aggregate-put-field-5 : tie.Need-slice-aggregate-put-field-5
+slice-aggregate-put-field-5 c = search needs
+
+put-field-requires-5 : tie.Need-put-field-requires-5
+put-field-requires-5 c κs = search needs
+
 slice-aggregate-put-text : tie.Need-slice-aggregate-put-text
 slice-aggregate-put-text c = search needs
 
--- src/lines.rt:61:9
 put-text-requires : tie.Need-put-text-requires
 put-text-requires c κs = search needs
 
--- src/lines.rt:45:1
 same-length : tie.Need-same-length
 same-length c = search needs
 
--- src/lines.rt:45:1
 returns-2 : tie.Need-returns-2
 returns-2 c =
-    let entry =
-    c .before .before .before .before .before .before .before .before .before .before .before .before .before .before .before .before .before .before .before .before .before .before .before .before .before .before .before in
-    let at-if1 =
-    c .before .before .before .before .before .before .before .before .before .before .before .before .before .before .before .before .before .before .before .before .before .before .before .before .before .if1 in
-    let at-put-field =
-    c .before .before .before .before .before .before .before .before .before .before .before .before .before .before .before .before .before .before .before .before .before .before .put-field in
-    let at-put-field2 =
-    c .before .before .before .before .before .before .before .before .before .before .before .before .before .before .before .before .before .put-field2 in
-    let at-put-field3 = c .before .before .before .before .before .before .before .before .before .before .before .before .put-field3 in
-    let at-put-field4 = c .before .before .before .before .before .before .before .put-field4 in
-    let a = entry .args in
-    first-is (a .nodes) (a .states) (a .matches) (a .clashes) (a .out .now) (at-if1 .left) (at-put-field .ensures) (at-put-field2 .ensures)
-    (at-put-field3 .ensures) (at-put-field4 .ensures) (c .before .before .put-text .ensures)
+    let entry = c .before .before .before .before .before .before .before .before .before .before .before .before .before .before .before .before .before .before .before .before .before .before .before .before .before .before .before .before .before .before .before .before in
+    let at-if1 = c .before .before .before .before .before .before .before .before .before .before .before .before .before .before .before .before .before .before .before .before .before .before .before .before .before .before .before .before .before .before .if1 in
+    let at-put-field = c .before .before .before .before .before .before .before .before .before .before .before .before .before .before .before .before .before .before .before .before .before .before .before .before .before .before .before .put-field in
+    let at-put-field2 = c .before .before .before .before .before .before .before .before .before .before .before .before .before .before .before .before .before .before .before .before .before .before .put-field2 in
+    let at-put-field3 = c .before .before .before .before .before .before .before .before .before .before .before .before .before .before .before .before .before .put-field3 in
+    let at-put-field4 = c .before .before .before .before .before .before .before .before .before .before .before .before .put-field4 in
+    let at-put-field5 = c .before .before .before .before .before .before .before .put-field5 in
+    first-is (entry .args .totals) (entry .args .out .now) (at-if1 .left) (at-put-field .ensures) (at-put-field2 .ensures)
+    (at-put-field3 .ensures) (at-put-field4 .ensures) (at-put-field5 .ensures) (c .before .before .put-text .ensures)
 
 pub put-first-spec : {M : Type 1} → statement M
 put-first-spec =
@@ -85,6 +70,8 @@ put-first-spec =
     put-field-requires-3
     slice-aggregate-put-field-4
     put-field-requires-4
+    slice-aggregate-put-field-5
+    put-field-requires-5
     slice-aggregate-put-text
     put-text-requires
     same-length
