@@ -11,6 +11,7 @@ use mathlib.Core.Path.{_≡_, refl, ap, sym, _∙_}
 use mathlib.Core.List.{List}
 use mathlib.Core.Bool.{Bool, true, false, cond}
 use native.Mathlib.Omega.{arith}
+use native.Mathlib.Nat.{sub-zero}
 use native.Mathlib.Numerals.{sub-one}
 use borrow.Author.Tests.{lt-ltb, le-ltb, le-leb, lt-leb, ltb-true}
 use lib.Dec.{ltb}
@@ -66,10 +67,10 @@ module _ (ar ws : List ℕ) (l : Limits) (at : ℕ) where
   reading-deep (suc d) e z = absurd (omega arith)
 
   pub reading-into : (d : ℕ) {n : ℕ} → headOf ar ws l at ≡ Kids n → (d ≡ 0 → ⊥)
-      → reading ar ws l d at ≡ kidsOf (reading ar ws l (d - 1)) n (alone at)
+      → reading ar ws l d at ≡ kidsOf (reading ar ws l (d - 1)) (n - 0) (alone at)
   unfolding reading
   reading-into zero e z = absurd (z refl)
-  reading-into (suc d) e z = rw (e, sub-one)
+  reading-into (suc d) {n} e z = rw (e, sub-one) (ap (λ k. kidsOf (reading ar ws l d) k (alone at)) (sym (sub-zero n)))
 
 -- what is left after k of n children
 module _ (f : ℕ → Reading) (n k : ℕ) (c : Met) where

@@ -119,7 +119,7 @@ loop-again c =
       omega arith,
       omega (arith, w .few),
       left-next (at-loop .inv .2)
-          (shapes-next _ _ _ _ _ _ (at-loop-test .taken) (at-loop .inv .0) (at-if2 .left) e (c .before .if3 .left) (c .greater .ensures)),
+          (shapes-next _ _ _ _ (at-loop .depth) _ (at-loop-test .taken) (at-loop .inv .0) (at-if2 .left) e (c .before .if3 .left) (c .greater .ensures)),
     )
 
 same-length-4 : tie.Need-same-length-4 Inv-loop μ-loop

@@ -1,5 +1,4 @@
 use native.Mathlib.Omega.{arith}
-use native.Mathlib.Nat.{sub-zero}
 use Prim.Native.Nat.{_≤_, _-_, ℕ, _<_}
 use mathlib.Core.Path.{_≡_, sym, _∙_}
 use Rattle.term.specs.Reading.{reading, kidsOf, met}
@@ -104,8 +103,7 @@ read-term-loop-holds : (t : ℕ) → read-term-lts.Need-loop-holds (
 ) (read-term-at t) read-term.Post read-term-Inv-loop read-term-μ-loop
 read-term-loop-holds t c = (
   omega arith,
-  reading-into _ _ _ _ _
-      (sym (c .before .before .before .before .head .ensures) ∙ c .before .before .n .given .1) (c .if1 .left) ∙ simp sub-zero,
+  reading-into _ _ _ _ _ (sym (c .before .before .before .before .head .ensures) ∙ c .before .before .n .given .1) (c .if1 .left),
 )
 
 read-term-sub-read-term : (t : ℕ) → read-term-lts.Need-sub-read-term (
