@@ -89,7 +89,8 @@ on-room {κ} : {C : Type κ} (b : Bool) (l : Lent) (o : OpenOutcome) (k : Counts
 on-room true l o k e c = c refl e
 on-room false l o k e c = never-folio e
 
-stored-room : (ar ws st sc : List ℕ) (counts : Counts) (l : Lent) (k : Counts) → stored ar ws st sc counts l .answer ≡ Folio k → Room l (length ws) (length st) (length sc)
+stored-room : (ar ws st sc : List ℕ) (counts : Counts) (l : Lent) (k : Counts) → stored ar ws st sc counts l .answer ≡ Folio k
+    → Room l (length ws) (length st) (length sc)
 unfolding stored
 stored-room ar ws st sc counts l k e =
     on-room (leb (length ws) (length (l .words))) l _ k e λ a e₁.

@@ -87,7 +87,8 @@ add-t39 c = search needs
 
 mul-t40 : tie.Need-mul-t40
 mul-t40 c =
-    let entry = c .before .before .before .before .before .before .before .before .before .before .before .before .before .before .before .before .before .before in
+    let entry =
+    c .before .before .before .before .before .before .before .before .before .before .before .before .before .before .before .before .before .before in
     let a = entry .args in
     omega (
       arith,
@@ -98,7 +99,8 @@ mul-t40 c =
 
 add-t41 : tie.Need-add-t41
 add-t41 c =
-    let entry = c .before .before .before .before .before .before .before .before .before .before .before .before .before .before .before .before .before .before in
+    let entry =
+    c .before .before .before .before .before .before .before .before .before .before .before .before .before .before .before .before .before .before in
     let a = entry .args in
     omega (
       arith,
@@ -109,7 +111,8 @@ add-t41 c =
 
 returns-2 : tie.Need-returns-2
 returns-2 c =
-    let entry = c .before .before .before .before .before .before .before .before .before .before .before .before .before .before .before .before .before .before in
+    let entry =
+    c .before .before .before .before .before .before .before .before .before .before .before .before .before .before .before .before .before .before in
     let at-read-shapes = c .before .before .before .before .before .before .before .before .read-shapes in
     let a = entry .args in
     sym (parts-score (a .symbols .now) (a .both .now) (a .m) (entry .pre .parted) (a .at)
@@ -128,7 +131,8 @@ part-st-start c = search needs
 
 part-st-end : tie.Need-part-st-end
 part-st-end c =
-    let entry = c .before .before .before .before .before .before .before .before .before .before .before .before .before .before .before .before .before .before .before in
+    let entry =
+    c .before .before .before .before .before .before .before .before .before .before .before .before .before .before .before .before .before .before .before in
     let at-read-shapes = c .before .before .before .before .before .before .before .before .before .read-shapes in
     let at-met = c .before .before .before .before .before .before .met in
     let a = entry .args in
@@ -142,7 +146,8 @@ counts-of-requires c κs = search needs
 
 store-requires : tie.Need-store-requires
 store-requires c κs =
-    let entry = c .before .before .before .before .before .before .before .before .before .before .before .before .before .before .before .before .before .before .before .before .before .before .before .before .before in
+    let entry =
+    c .before .before .before .before .before .before .before .before .before .before .before .before .before .before .before .before .before .before .before .before .before .before .before .before .before in
     let a = entry .args in
     omega (arith, sc-length (a .symbols .now) (a .both .now) (a .m) (entry .pre .parted), entry .pre .short)
 
@@ -160,11 +165,16 @@ same-length-4 c = search needs
 
 returns-3 : tie.Need-returns-3
 returns-3 c =
-    let entry = c .before .before .before .before .before .before .before .before .before .before .before .before .before .before .before .before .before .before .before .before .before .before .before .before .before .before .before .before .before .before .before .before .before .before in
-    let at-read-shapes = c .before .before .before .before .before .before .before .before .before .before .before .before .before .before .before .before .before .before .before .before .before .before .before .before .read-shapes in
-    let at-met = c .before .before .before .before .before .before .before .before .before .before .before .before .before .before .before .before .before .before .before .before .before .met in
-    let at-read-score = c .before .before .before .before .before .before .before .before .before .before .before .before .before .before .before .before .before .before .before .read-score in
-    let at-met2 = c .before .before .before .before .before .before .before .before .before .before .before .before .before .before .before .before .before .met2 in
+    let entry =
+    c .before .before .before .before .before .before .before .before .before .before .before .before .before .before .before .before .before .before .before .before .before .before .before .before .before .before .before .before .before .before .before .before .before .before in
+    let at-read-shapes =
+    c .before .before .before .before .before .before .before .before .before .before .before .before .before .before .before .before .before .before .before .before .before .before .before .before .read-shapes in
+    let at-met =
+    c .before .before .before .before .before .before .before .before .before .before .before .before .before .before .before .before .before .before .before .before .before .met in
+    let at-read-score =
+    c .before .before .before .before .before .before .before .before .before .before .before .before .before .before .before .before .before .before .before .read-score in
+    let at-met2 =
+    c .before .before .before .before .before .before .before .before .before .before .before .before .before .before .before .before .before .met2 in
     let at-counts-of = c .before .before .before .before .before .before .before .before .before .before .before .before .before .counts-of in
     let at-store = c .before .before .before .before .before .before .before .before .store in
     let a = entry .args in

@@ -56,10 +56,14 @@ same-length-4 c = search needs
 
 returns-5 : tie.Need-returns-5
 returns-5 c =
-    let entry = c .before .before .before .before .before .before .before .before .before .before .before .before .before .before .before .before .before .before .before .before .before .before .before .before .before .before .before .before in
-    let at-if1 = c .before .before .before .before .before .before .before .before .before .before .before .before .before .before .before .before .before .before .before .if1 in
-    let at-if2 = c .before .before .before .before .before .before .before .before .before .before .before .before .before .before .before .before .before .before .if2 in
-    let at-if3 = c .before .before .before .before .before .before .before .before .before .before .before .before .before .before .before .before .before .if3 in
+    let entry =
+    c .before .before .before .before .before .before .before .before .before .before .before .before .before .before .before .before .before .before .before .before .before .before .before .before .before .before .before .before in
+    let at-if1 =
+    c .before .before .before .before .before .before .before .before .before .before .before .before .before .before .before .before .before .before .before .if1 in
+    let at-if2 =
+    c .before .before .before .before .before .before .before .before .before .before .before .before .before .before .before .before .before .before .if2 in
+    let at-if3 =
+    c .before .before .before .before .before .before .before .before .before .before .before .before .before .before .before .before .before .if3 in
     let at-if4 = c .before .before .before .before .before .before .before .before .before .before .before .before .before .before .before .before .if4 in
     let at-put = c .before .before .before .before .before .before .before .before .before .before .before .before .before .before .put in
     let at-put2 = c .before .before .before .before .before .before .before .before .before .before .put2 in

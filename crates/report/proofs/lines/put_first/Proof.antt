@@ -47,11 +47,16 @@ same-length c = search needs
 
 returns-2 : tie.Need-returns-2
 returns-2 c =
-    let entry = c .before .before .before .before .before .before .before .before .before .before .before .before .before .before .before .before .before .before .before .before .before .before .before .before .before .before .before .before .before .before .before .before in
-    let at-if1 = c .before .before .before .before .before .before .before .before .before .before .before .before .before .before .before .before .before .before .before .before .before .before .before .before .before .before .before .before .before .before .if1 in
-    let at-put-field = c .before .before .before .before .before .before .before .before .before .before .before .before .before .before .before .before .before .before .before .before .before .before .before .before .before .before .before .put-field in
-    let at-put-field2 = c .before .before .before .before .before .before .before .before .before .before .before .before .before .before .before .before .before .before .before .before .before .before .put-field2 in
-    let at-put-field3 = c .before .before .before .before .before .before .before .before .before .before .before .before .before .before .before .before .before .put-field3 in
+    let entry =
+    c .before .before .before .before .before .before .before .before .before .before .before .before .before .before .before .before .before .before .before .before .before .before .before .before .before .before .before .before .before .before .before .before in
+    let at-if1 =
+    c .before .before .before .before .before .before .before .before .before .before .before .before .before .before .before .before .before .before .before .before .before .before .before .before .before .before .before .before .before .before .if1 in
+    let at-put-field =
+    c .before .before .before .before .before .before .before .before .before .before .before .before .before .before .before .before .before .before .before .before .before .before .before .before .before .before .before .put-field in
+    let at-put-field2 =
+    c .before .before .before .before .before .before .before .before .before .before .before .before .before .before .before .before .before .before .before .before .before .before .put-field2 in
+    let at-put-field3 =
+    c .before .before .before .before .before .before .before .before .before .before .before .before .before .before .before .before .before .put-field3 in
     let at-put-field4 = c .before .before .before .before .before .before .before .before .before .before .before .before .put-field4 in
     let at-put-field5 = c .before .before .before .before .before .before .before .put-field5 in
     first-is (entry .args .totals) (entry .args .out .now) (at-if1 .left) (at-put-field .ensures) (at-put-field2 .ensures)
