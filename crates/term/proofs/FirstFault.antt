@@ -1,20 +1,19 @@
 -- The reader refuses a term exactly where it goes wrong first.
 --   fault-of of-fault   from the reader to the fault, and back
 --   fault-is            exactly
-use mathlib.Core.Path.{_≡_, refl, ap, ap₂, sym, _∙_}
+use mathlib.Core.Path.{_≡_, refl, ap, sym, _∙_}
 use mathlib.Core.Logic.{inl, inr, _↔_}
 use mathlib.Core.List.{List, _++_, append-assoc}
 use mathlib.Core.Bool.{Bool, true, false, cond}
 use mathlib.Core.Option.{some}
 use Prim.Native.Nat.{ℕ, zero, suc, _+_, _-_, max, _<_, _≤_}
 use native.Mathlib.Omega.{arith}
-use native.Mathlib.Nat.{add-zero, zero-add}
 use native.Mathlib.Decide.{decLt}
 use borrow.Author.Tests.{ltb-true, ltb-false, leb-true, leb-false}
 use lib.Dec.{ltb, leb}
 use lib.ListN.{length, getD, getElem?, drop}
 use Rattle.kinds.proofs.Places.{at-below, at-getD, getD-at}
-use Rattle.term.specs.Terms.{Terms, tnil, tcons, count, span, spans, depth, depths, flatten, flattens, Fitss}
+use Rattle.term.specs.Terms.{Terms, tnil, tcons, count, spans, depths, flatten, flattens, Fitss}
 use Rattle.term.specs.Reading.{childrenOf, below, headOf, met, alone, after, enter, kidsOf, reading}
 use Rattle.term.specs.Reading.{next as and-on}
 use Rattle.term.specs.declared.Limits.{Limits}
@@ -27,7 +26,7 @@ use Rattle.term.specs.declared.Reading.{Reading}
 use Rattle.term.specs.declared.Reading.the-variants.{Whole, Refused}
 use Rattle.term.proofs.LawsReading.{children-blank, children-none, children-symbol, head-out, head-bad, head-many, head-kids, reading-bad, reading-deep, never-whole, whole-in}
 use Rattle.term.proofs.WholeTerm.{whole-term}
-use Rattle.term.proofs.TermWhole.{read-back}
+use Rattle.term.proofs.TermWhole.{reads-back}
 use Rattle.term.specs.Faults.{Known, FaultIn, ends, no-symbol, many, deep, under}
 
 module _ (ar ws : List ℕ) (l : Limits) where
@@ -134,22 +133,6 @@ module _ (ar ws : List ℕ) (l : Limits) where
       go c (a-symbol n h s b g) e ih = let x = kids-stopped d n (alone at) f p (omega arith) e in inner n h s b g x (ih (x .to) (x .stops))
 
   -- ---- to the reader
-  kids-past : (d : ℕ) (ts : Terms) (k c most : ℕ) (r : List ℕ) → Fitss ar (l .blanks) ts → depths ts ≤ d → c + spans ts ≤ l .stop
-      → drop c ws ≡ flattens ts ++ r
-      → kidsOf (reading ar ws l d) (count ts + k) (met c most) ≡ kidsOf (reading ar ws l d) k (met (c + spans ts) (max most (depths ts)))
-  kids-past d tnil k c most r fs fl room e =
-      let z : most ≡ max most 0 = omega arith in
-      ap₂ (λ x y. kidsOf (reading ar ws l d) x (met y most)) (zero-add k) (sym (add-zero c)) ∙ ap (λ y. kidsOf (reading ar ws l d) k (met (c + 0) y)) z
-  kids-past d (tcons t ts) k c most r fs fl room e =
-      let b = read-back ar ws l t d c (flattens ts ++ r) (fs .0) (omega arith) (omega arith) (e ∙ append-assoc (flatten t) (flattens ts) r) in
-      let more : suc (count ts) + k ≡ suc (count ts + k) = omega arith in
-      let ih = kids-past d ts k (c + span t) (max most (depth t + 1)) r (fs .1) (omega arith) (omega arith) (b .1) in
-      let z : c + span t + spans ts ≡ c + (span t + spans ts) = omega arith in
-      let y : max (max most (depth t + 1)) (depths ts) ≡ max most (max (suc (depth t)) (depths ts)) = omega arith in
-      ap (λ x. kidsOf (reading ar ws l d) x (met c most)) more
-      ∙ ap (λ x. and-on x (λ m. kidsOf (reading ar ws l d) (count ts + k) (after (met c most) m))) (b .0) ∙ ih
-      ∙ ap₂ (λ u v. kidsOf (reading ar ws l d) k (met u v)) z y
-
   known-children : (w : ℕ) → Known ar l w → (n : ℕ) × (childrenOf ar (l .blanks) w ≡ Kids n)
   known-children w k = go k (decLt w (l .blanks))
     where
@@ -173,7 +156,7 @@ module _ (ar ws : List ℕ) (l : Limits) where
       ∙ ap Kids (getD-at ar (getD ws at 0) 0 g)) s in
       ap (λ c. enter c at (λ m. kidsOf (reading ar ws l d) m (alone at))) head
       ∙ ap (λ m. kidsOf (reading ar ws l d) m (alone at)) many
-      ∙ kids-past d before (suc k) (at + 1) 0 (drop next ws) fits flat (rw (← size) room) words
+      ∙ reads-back ar ws l before d (suc k) (at + 1) 0 (drop next ws) fits flat (rw (← size) room) words .0
       ∙ ap (λ m. kidsOf (reading ar ws l d) (suc k) (met m (max 0 (depths before)))) (sym size)
       ∙ ap (λ r. and-on r (λ m. kidsOf (reading ar ws l d) k (after (met next (max 0 (depths before))) m))) ih
 

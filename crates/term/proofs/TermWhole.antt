@@ -9,7 +9,7 @@ use mathlib.Core.List.{List, [], _∷_, _++_, append-assoc}
 use mathlib.Core.Option.{some}
 use Prim.Native.Nat.{ℕ, zero, suc, _+_, max, _<_, _≤_}
 use native.Mathlib.Omega.{arith}
-use native.Mathlib.Nat.{add-zero}
+use native.Mathlib.Nat.{add-zero, zero-add}
 use borrow.Author.Tests.{le-leb, lt-leb}
 use lib.ListN.{length, getD, drop, length-drop}
 use Rattle.kinds.specs.Lists.{gather}
@@ -55,27 +55,34 @@ mutual
       let f = first ws at s (flattens ts ++ r) e in
       let k = head-kids ar ws l at (f .0) (ap (childrenOf ar (l .blanks)) (f .1) ∙ children-symbol ar (l .blanks) s (p .0) (at-below ar s (p .1)))
       (omega arith) in
-      let b = reads-back ar ws l ts d (at + 1) 0 r (p .2) (omega arith) (omega arith) (f .2) in
+      let b = reads-back ar ws l ts d 0 (at + 1) 0 r (p .2) (omega arith) (omega arith) (f .2) in
       let q : at + 1 + spans ts ≡ at + suc (spans ts) = omega arith in
       let z : max 0 (depths ts) ≡ depths ts = omega arith in (
         ap (λ c. enter c at (λ n. kidsOf (reading ar ws l d) n (alone at))) k
-            ∙ ap (λ (n : ℕ). kidsOf (reading ar ws l d) n (alone at)) (getD-at ar s 0 (p .1)) ∙ b .0 ∙ ap₂ (λ (n k : ℕ). Whole (met n k)) q z,
+            ∙ ap (λ (n : ℕ). kidsOf (reading ar ws l d) n (alone at)) (getD-at ar s 0 (p .1) ∙ sym (add-zero (count ts))) ∙ b .0
+            ∙ ap₂ (λ (n k : ℕ). Whole (met n k)) q z,
         ap (λ (n : ℕ). drop n ws) (sym q) ∙ b .1,
       )
 
-  pub reads-back : (ar ws : List ℕ) (l : Limits) (ts : Terms) (d at most : ℕ) (r : List ℕ) → Fitss ar (l .blanks) ts → depths ts ≤ d
+  -- children that are terms, and k more to read behind them
+  pub reads-back : (ar ws : List ℕ) (l : Limits) (ts : Terms) (d k at most : ℕ) (r : List ℕ) → Fitss ar (l .blanks) ts → depths ts ≤ d
       → at + spans ts ≤ l .stop → drop at ws ≡ flattens ts ++ r
-      → (kidsOf (reading ar ws l d) (count ts) (met at most) ≡ Whole (met (at + spans ts) (max most (depths ts)))) × (drop (at + spans ts) ws ≡ r)
-  reads-back ar ws l tnil d at most r p h g e =
-      let z : most ≡ max most 0 = omega arith in
-      (ap₂ (λ (n k : ℕ). Whole (met n k)) (sym (add-zero at)) z, ap (λ (n : ℕ). drop n ws) (add-zero at) ∙ e)
-  reads-back ar ws l (tcons t ts) d at most r p h g e =
+      → (kidsOf (reading ar ws l d) (count ts + k) (met at most) ≡ kidsOf (reading ar ws l d) k (met (at + spans ts) (max most (depths ts))))
+      × (drop (at + spans ts) ws ≡ r)
+  reads-back ar ws l tnil d k at most r p h g e =
+      let z : most ≡ max most 0 = omega arith in (
+        λ i. kidsOf (reading ar ws l d) (zero-add k i) (met (sym (add-zero at) i) (z i)),
+        ap (λ (n : ℕ). drop n ws) (add-zero at) ∙ e,
+      )
+  reads-back ar ws l (tcons t ts) d k at most r p h g e =
       let a = read-back ar ws l t d at (flattens ts ++ r) (p .0) (omega arith) (omega arith) (e ∙ append-assoc (flatten t) (flattens ts) r) in
-      let b = reads-back ar ws l ts d (at + span t) (max most (depth t + 1)) r (p .1) (omega arith) (omega arith) (a .1) in
+      let b = reads-back ar ws l ts d k (at + span t) (max most (depth t + 1)) r (p .1) (omega arith) (omega arith) (a .1) in
+      let n : suc (count ts) + k ≡ suc (count ts + k) = omega arith in
       let q : at + span t + spans ts ≡ at + (span t + spans ts) = omega arith in
       let z : max (max most (depth t + 1)) (depths ts) ≡ max most (max (suc (depth t)) (depths ts)) = omega arith in (
-        ap (λ (x : Reading). next x (λ c. kidsOf (reading ar ws l d) (count ts) (after (met at most) c))) (a .0) ∙ b .0
-            ∙ ap₂ (λ (n k : ℕ). Whole (met n k)) q z,
+        ap (λ (x : ℕ). kidsOf (reading ar ws l d) x (met at most)) n
+            ∙ ap (λ (x : Reading). next x (λ c. kidsOf (reading ar ws l d) (count ts + k) (after (met at most) c))) (a .0) ∙ b .0
+            ∙ (λ i. kidsOf (reading ar ws l d) k (met (q i) (z i))),
         ap (λ (n : ℕ). drop n ws) (sym q) ∙ b .1,
       )
 
