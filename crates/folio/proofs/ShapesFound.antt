@@ -4,7 +4,7 @@
 --   ShapesAt shapes-at            the words from an index on are those of shapes, and their starts are such
 --   found-shapes                  all of them
 --   others pushes shapes-past     shapes in front of words that are any: what they are met with, and their starts
---   metIn met-others shapes-found   and all of them
+--   metIn shapes-found            and all of them
 --   all-once                      shapes' words determine the shapes
 use mathlib.Core.Path.{_≡_, refl, ap, ap₂, sym, _∙_}
 use mathlib.Core.List.{List, [], _∷_, _++_, map, append-nil, append-assoc}
@@ -136,7 +136,7 @@ found-shapes ar ws k e = go (ltb 0 (length ws)) refl e
     go false eb e = never-found e
 
 -- ---- the way back
-pub head-word : (ar ws : List ℕ) (at : ℕ) (t : Term) (r : List ℕ) → IsShape ar t → drop at ws ≡ flatten t ++ r → (at < length ws)
+head-word : (ar ws : List ℕ) (at : ℕ) (t : Term) (r : List ℕ) → IsShape ar t → drop at ws ≡ flatten t ++ r → (at < length ws)
     × (getD ws at 0 < blankWord)
 head-word ar ws at (blank w) r s e = false-true (sym (s .solid))
 head-word ar ws at (node f ts) r s e =
@@ -195,7 +195,7 @@ words-some (t ∷ ts) h e = omega (arith, length-append (flatten t) (gather flat
 abbrev pub metIn : List Term → ShapesMet
 metIn ts = shapesMet (length ts) (greatest (map depth ts))
 
-pub met-others : (ts : List Term) → others (shapesMet 0 0) ts ≡ metIn ts
+met-others : (ts : List Term) → others (shapesMet 0 0) ts ≡ metIn ts
 met-others ts =
     let z : max 0 (greatest (map depth ts)) ≡ greatest (map depth ts) = omega arith in
     λ i. shapesMet (zero-add (length ts) i) (z i)

@@ -73,16 +73,16 @@ kids-terms : (ar ws : List ℕ) (bl d : ℕ) (f : ℕ → Reading) → ((at : �
     → (n : ℕ) (c m : Met) → kidsOf f n c ≡ Whole m → TermsAt ar ws bl d n c m
 kids-terms ar ws bl d f each zero c m e =
     let s : c ≡ m = cc in
-    let e : c .end ≡ m .end = ap (λ (x : Met). x .end) s in
-    let d : c .depth ≡ m .depth = ap (λ (x : Met). x .depth) s in
+    let ends : c .end ≡ m .end = ap (λ (x : Met). x .end) s in
+    let depths-same : c .depth ≡ m .depth = ap (λ (x : Met). x .depth) s in
     record {
       trees = tnil;
       many = refl;
-      words = ap (λ (n : ℕ). drop n ws) e;
+      words = ap (λ (n : ℕ). drop n ws) ends;
       fits = tt;
       flat = omega arith;
-      size = omega (arith, e);
-      deep = omega (arith, d);
+      size = omega (arith, ends);
+      deep = omega (arith, depths-same);
     }
 kids-terms ar ws bl d f each (suc n) c m e =
     on-next (f (c .end)) _ m e λ m₁ e₁ e₂.
