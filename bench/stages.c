@@ -13,7 +13,8 @@ size_t stage_start(const uint8_t *, size_t, const uint16_t *, size_t, const uint
                    uint16_t *, size_t);
 size_t stage_step(const uint16_t *, size_t, const uint16_t *, size_t, const uint16_t *, size_t, uint16_t *, size_t, uint16_t *, size_t,
                   uint16_t *, size_t, size_t, size_t, size_t);
-size_t stage_count(const uint8_t *, size_t, const uint16_t *, size_t, const uint16_t *, size_t, const uint16_t *, size_t);
+size_t stage_count(const uint8_t *, size_t, const uint16_t *, size_t, const uint16_t *, size_t, const uint16_t *, size_t, const uint16_t *, size_t,
+                   const uint16_t *, size_t);
 
 enum { ROUNDS = 200 };
 
@@ -39,7 +40,9 @@ static size_t walk_score(void) {
     return more == 1 ? done : 0;
 }
 
-static size_t count_marks(void) { return stage_count(BYTES(file, symbols), WORDS(score, nodes), WORDS(spans, nodes), WORDS(marks, 4096)); }
+static size_t count_marks(void) {
+    return stage_count(BYTES(file, symbols), WORDS(words, shape_words), WORDS(starts, 16), WORDS(score, nodes), WORDS(spans, nodes), WORDS(marks, 4096));
+}
 
 static double now(void) {
     struct timespec t;

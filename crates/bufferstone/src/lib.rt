@@ -59,9 +59,9 @@ pub use walk::Walked;
 pub use walk::starting::start;
 pub use walk::stepping::step;
 
-// How many matches and clashes the marks have.
+// How many matches the marks hold, and how many of them clash.
+pub use clashing::marks::clashes;
 pub use counting::Counted;
-pub use counting::marks::clashes;
 pub use counting::marks::matches;
 
 // The report's lines.

@@ -1,19 +1,24 @@
 -- Counting at each way through it.
---   count-bad count-short count-is   31, 30, or the number
---   few-nodes                        a good score has at most 4,096 words
---   total-next total-end             the ones, mark by mark
+--   few-nodes                     a good score has at most 4,096 words
+--   long-bad long-short long-is   how many marks are looked at: 31, 30, or one for each node
+--   looked unlooked               what is counted in them then
+--   total-next total-end          the ones, mark by mark
 use Prim.Native.Nat.{ℕ, _+_, _-_, _^_, _<_, _≤_}
 use mathlib.Core.Path.{_≡_, ap, ap₂, sym, _∙_}
 use mathlib.Core.List.{List}
 use mathlib.Core.Bool.{true, false}
+use mathlib.Core.Logic.{_⊎_, inl, inr}
 use native.Mathlib.Omega.{arith}
 use native.Mathlib.Nat.{sub-zero}
 use native.Mathlib.Numerals.{add-one}
+use native.Mathlib.Decide.{decLt}
 use borrow.Author.Tests.{lt-leb, le-leb}
 use lib.Count.{ones}
 use lib.ListN.{length, take, drop, getD, drop-of-length-le}
-use lib.Seq.{drop-cons}
+use lib.Seq.{drop-cons, length-take-le}
 use Rattle.kinds.proofs.BitLaws.{ones-bits}
+use Rattle.kinds.proofs.Bools.{test}
+use Rattle.kinds.specs.declared.Reason.{Reason}
 use Rattle.kinds.specs.declared.Reason.the-variants.{BadScore, ShortBuffers}
 use Rattle.contents.specs.Tables.{scoreLimits}
 use Rattle.contents.proofs.LawsTables.{score-read}
@@ -22,20 +27,15 @@ use Rattle.checks.specs.Again.{scoreGood}
 use Rattle.checks.proofs.LawsAgain.{score-good-is}
 use Rattle.term.proofs.LawsReading.{whole-in}
 use Rattle.counting.specs.Counting.{total, counted}
+use Rattle.counting.specs.Passing.{longOf}
+use Rattle.counting.specs.declared.Counted.{Counted}
 use Rattle.counting.specs.declared.Counted.the-variants.{Number, Refused}
 
-module _ (f : List ℕ → ℕ) (ar ws sp ms : List ℕ) where
-  pub count-bad : scoreGood ar ws sp ≡ false → counted f ar ws sp ms ≡ Refused BadScore
-  unfolding counted
-  count-bad e = rw e
+number-not : {n : ℕ} {r : Reason} → Number n ≡ Refused r → ⊥
+number-not e = let z : _≡_ {A = ℕ} 0 1 = cc in absurd (omega arith)
 
-  pub count-short : scoreGood ar ws sp ≡ true → length ms < length ws → counted f ar ws sp ms ≡ Refused ShortBuffers
-  unfolding counted
-  count-short e h = rw (e, lt-leb _ _ h)
-
-  pub count-is : scoreGood ar ws sp ≡ true → length ws ≤ length ms → counted f ar ws sp ms ≡ Number (f (take (length ws - 0) ms))
-  unfolding counted
-  count-is e h = rw (e, le-leb _ _ h) (ap (λ (n : ℕ). Number (f (take n ms))) (sym (sub-zero (length ws))))
+number-is : {m n : ℕ} → Number m ≡ Number n → m ≡ n
+number-is e = cc
 
 pub few-nodes : (ar ws sp : List ℕ) → scoreGood ar ws sp ≡ true → length ws ≤ 4096
 few-nodes ar ws sp e =
@@ -43,6 +43,54 @@ few-nodes ar ws sp e =
     let r = score-read ar ws (t .met) (t .whole) in
     let w = whole-in ar ws (scoreLimits 0) scoreLevels 0 (t .met) (r .0) in
     omega (arith, w .few, r .1)
+
+pub record Looked (ar ws sp ms : List ℕ) (n : ℕ) : Type 0 where
+  pub nodes : n ≡ length ws
+  pub few : n ≤ 4096
+  pub inside : n ≤ length ms
+  pub short : length (take (n - 0) ms) ≤ 4096
+  pub counts : (f : List ℕ → Counted) → counted f ar ws sp ms ≡ f (take (n - 0) ms)
+
+module _ (ar ws sp ms : List ℕ) where
+  pub long-bad : scoreGood ar ws sp ≡ false → longOf ar ws sp ms ≡ Refused BadScore
+  unfolding counted
+  long-bad e = rw e
+
+  pub long-short : scoreGood ar ws sp ≡ true → length ms < length ws → longOf ar ws sp ms ≡ Refused ShortBuffers
+  unfolding counted
+  long-short e h = rw (e, lt-leb _ _ h)
+
+  pub long-is : scoreGood ar ws sp ≡ true → length ws ≤ length ms → longOf ar ws sp ms ≡ Number (length ws)
+  unfolding counted
+  long-is e h = rw (e, le-leb _ _ h) (ap Number (length-take-le (length ws) ms h))
+
+  -- what is counted where so many marks are looked at, and what is refused where none is
+  pub looked : (n : ℕ) → longOf ar ws sp ms ≡ Number n → Looked ar ws sp ms n
+  unfolding counted
+  looked n e = go (test (scoreGood ar ws sp)) (decLt (length ms) (length ws))
+    where
+      go : (scoreGood ar ws sp ≡ true) ⊎ (scoreGood ar ws sp ≡ false) → Dec (length ms < length ws) → Looked ar ws sp ms n
+      go (inr g) d = absurd (number-not (sym e ∙ long-bad g))
+      go (inl g) (yes h) = absurd (number-not (sym e ∙ long-short g h))
+      go (inl g) (no h) =
+          let l : length ws ≤ length ms = omega arith in
+          let same : n ≡ length ws = number-is (sym e ∙ long-is g l) in
+          record {
+            nodes = same;
+            few = let w = few-nodes ar ws sp g in omega arith;
+            inside = omega arith;
+            short = let w = few-nodes ar ws sp g in omega (arith, length-take-le (n - 0) ms (omega arith));
+            counts = λ f. rw (g, le-leb (length ws) (length ms) l) (ap (λ (m : ℕ). f (take m ms)) (sym same ∙ sym (sub-zero n)));
+          }
+
+  pub unlooked : (f : List ℕ → Counted) (r : Reason) → longOf ar ws sp ms ≡ Refused r → counted f ar ws sp ms ≡ Refused r
+  unfolding counted
+  unlooked f r e = go (test (scoreGood ar ws sp)) (decLt (length ms) (length ws))
+    where
+      go : (scoreGood ar ws sp ≡ true) ⊎ (scoreGood ar ws sp ≡ false) → Dec (length ms < length ws) → counted f ar ws sp ms ≡ Refused r
+      go (inr g) d = rw g (sym (long-bad g) ∙ e)
+      go (inl g) (yes h) = rw (g, lt-leb (length ws) (length ms) h) (sym (long-short g h) ∙ e)
+      go (inl g) (no h) = absurd (number-not (sym (long-is g (omega arith)) ∙ e))
 
 pub total-next : (ms : List ℕ) (i : ℕ) → i < length ms → getD ms i 0 < 2 ^ 16 → total (drop i ms) ≡ ones (getD ms i 0) + total (drop (i + 1) ms)
 unfolding total

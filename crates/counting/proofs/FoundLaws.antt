@@ -1,22 +1,22 @@
--- The matches that marks hold, as one list: each count is a count of it.
---   foundOne foundAt foundIn   a shape's match at a node, if there is one; the matches of a node; of all nodes, "by node, then shape"
---   some-found        some match has p
---   many-found        how many have p
---   total-found       how many there are
+-- The matches that marks hold, node by node.
+--   foundOne foundAt   a shape's match at a node, if there is one; the matches of a node
+--   found-nodes        all are those of each node
+--   total-found        how many there are
 use mathlib.Core.Path.{_≡_, refl, ap, ap₂, sym, _∙_}
-use mathlib.Core.List.{List, [], _∷_, _++_}
-use mathlib.Core.Bool.{Bool, true, false, cond, _&&_, _||_}
-use Prim.Native.Nat.{ℕ, zero, suc, _+_}
+use mathlib.Core.List.{List, [], _∷_, _++_, map, append-nil}
+use mathlib.Core.Bool.{Bool, true, false, cond}
+use Prim.Native.Nat.{ℕ, zero, suc, _+_, _*_, _/_, _%_}
 use native.Mathlib.Omega.{arith}
 use native.Mathlib.Nat.{add-zero, zero-add}
 use lib.Dec.{eqb}
 use lib.ListN.{length, getD, length-append}
-use Rattle.kinds.specs.Lists.{any, filter, gather, range}
+use Rattle.kinds.specs.Lists.{filter, gather, range}
 use Rattle.kinds.specs.Bits.{bit, sumTo}
 use Rattle.kinds.proofs.Bools.{eqb-is, is-eqb, false-true}
 use Rattle.kinds.proofs.BitLaws.{clear-or-set}
-use Rattle.kinds.proofs.ListLaws.{any-append, filter-append, range-next}
-use Rattle.counting.specs.Counting.{Match, matchAt, found, anyTo, someMatch, numberAt, howMany, total}
+use Rattle.kinds.proofs.ListLaws.{filter-append, map-append, gather-append, gather-same, range-append, range-next}
+use Rattle.kinds.proofs.Members.{in-range}
+use Rattle.counting.specs.Counting.{Match, matchAt, matchOf, found, foundFrom, foundIn, total}
 
 abbrev pub one : Bool → Match → List Match
 one b m = cond b (m ∷ []) []
@@ -27,46 +27,56 @@ foundOne ms x j = one (found ms (matchAt x j)) (matchAt x j)
 abbrev pub foundAt : List ℕ → ℕ → List Match
 foundAt ms x = gather (foundOne ms x) (range 0 16)
 
-abbrev pub foundIn : List ℕ → List Match
-foundIn ms = gather (foundAt ms) (range 0 (length ms))
+module _ (ms : List ℕ) where
+  -- numbers from c on, one by one
+  each-one : (xs : List ℕ) → map matchOf (filter (λ i. found ms (matchOf i)) xs) ≡ gather (λ i. one (found ms (matchOf i)) (matchOf i)) xs
+  each-one [] = refl
+  each-one (x ∷ xs) = go (found ms (matchOf x)) (each-one xs)
+    where
+      go : (b : Bool) → map matchOf (filter (λ i. found ms (matchOf i)) xs) ≡ gather (λ i. one (found ms (matchOf i)) (matchOf i)) xs
+          → map matchOf (cond b (x ∷ filter (λ i. found ms (matchOf i)) xs) (filter (λ i. found ms (matchOf i)) xs))
+          ≡ one b (matchOf x) ++ gather (λ i. one (found ms (matchOf i)) (matchOf i)) xs
+      go true ih = ap (λ l. matchOf x ∷ l) ih
+      go false ih = ih
 
--- ---- some
-any-gather : {A : Type 0} (p : Match → Bool) (f : A → List Match) (xs : List A) → any p (gather f xs) ≡ any (λ x. any p (f x)) xs
-any-gather p f [] = refl
-any-gather p f (x ∷ xs) = any-append p (f x) (gather f xs) ∙ ap (λ b. any p (f x) || b) (any-gather p f xs)
+  shifted : (g : ℕ → List Match) (c a n : ℕ) → gather g (range (c + a) n) ≡ gather (λ j. g (c + j)) (range a n)
+  shifted g c a zero = refl
+  shifted g c a (suc n) = let z : suc (c + a) ≡ c + suc a = omega arith in rw z (ap (λ l. g (c + a) ++ l) (shifted g c (suc a) n))
 
-any-to : (k : ℕ) (p q : ℕ → Bool) → ((i : ℕ) → p i ≡ q i) → anyTo k p ≡ any q (range 0 k)
-unfolding anyTo
-any-to zero p q e = refl
-any-to (suc k) p q e = ap₂ _||_ (any-to k p q e) (e k ∙ last (q k)) ∙ sym (any-append q (range 0 k) (k ∷ [])) ∙ ap (any q) (sym (snoc))
-  where
-    last : (b : Bool) → b ≡ (b || false)
-    last true = refl
-    last false = refl
+  -- the sixteen numbers of a node
+  node-found : (x : ℕ) → foundFrom ms (16 * x) 16 ≡ foundAt ms x
+  unfolding foundFrom
+  node-found x =
+      each-one (range (16 * x) 16)
+      ∙ ap (λ c. gather (λ i. one (found ms (matchOf i)) (matchOf i)) (range c 16)) (sym (add-zero (16 * x)))
+      ∙ shifted (λ i. one (found ms (matchOf i)) (matchOf i)) (16 * x) 0 16
+      ∙ gather-same (λ j. one (found ms (matchOf (16 * x + j))) (matchOf (16 * x + j))) (foundOne ms x) (range 0 16)
+      (λ j m. let b = in-range 16 0 j m in
+      let q : (16 * x + j) / 16 ≡ x = omega (arith, b .1) in
+      let r : (16 * x + j) % 16 ≡ j = omega (arith, b .1) in
+      λ i. one (found ms (matchAt (q i) (r i))) (matchAt (q i) (r i)))
 
-    snoc : range 0 (suc k) ≡ range 0 k ++ (k ∷ [])
-    snoc = range-next 0 k ∙ ap (λ n. range 0 k ++ (n ∷ [])) (zero-add k)
+  from-append : (k m n : ℕ) → foundFrom ms k (m + n) ≡ foundFrom ms k m ++ foundFrom ms (k + m) n
+  unfolding foundFrom
+  from-append k m n =
+      ap (λ l. map matchOf (filter (λ i. found ms (matchOf i)) l)) (range-append k m n)
+      ∙ ap (map matchOf) (filter-append (λ i. found ms (matchOf i)) (range k m) (range (k + m) n))
+      ∙ map-append matchOf (filter (λ i. found ms (matchOf i)) (range k m)) (filter (λ i. found ms (matchOf i)) (range (k + m) n))
 
-pub some-found : (ms : List ℕ) (p : Match → Bool) → someMatch ms p ≡ any p (foundIn ms)
-unfolding someMatch
-some-found ms p =
-    any-to (length ms) _ (λ x. any p (foundAt ms x)) (λ x. each x)
-    ∙ sym (any-gather p (foundAt ms) (range 0 (length ms)))
-  where
-    at : (b : Bool) (m : Match) → (b && p m) ≡ any p (one b m)
-    at true m = last (p m)
-      where
-        last : (b : Bool) → b ≡ (b || false)
-        last true = refl
-        last false = refl
-    at false m = refl
+  nodes-found : (n : ℕ) → foundFrom ms 0 (16 * n) ≡ gather (foundAt ms) (range 0 n)
+  unfolding foundFrom
+  nodes-found zero = refl
+  nodes-found (suc n) =
+      let z : 16 * suc n ≡ 16 * n + 16 = omega arith in
+      ap (foundFrom ms 0) z ∙ from-append 0 (16 * n) 16
+      ∙ ap₂ _++_ (nodes-found n) (ap (λ k. foundFrom ms k 16) (zero-add (16 * n)) ∙ node-found n ∙ sym (append-nil (foundAt ms n)))
+      ∙ sym (gather-append (foundAt ms) (range 0 n) (n ∷ []))
+      ∙ ap (gather (foundAt ms)) (sym (range-next 0 n ∙ ap (λ k. range 0 n ++ (k ∷ [])) (zero-add n)))
 
-    each : (x : ℕ) → anyTo 16 (λ j. found ms (matchAt x j) && p (matchAt x j)) ≡ any p (foundAt ms x)
-    each x =
-        any-to 16 (λ j. found ms (matchAt x j) && p (matchAt x j)) (λ j. any p (foundOne ms x j)) (λ j. at (found ms (matchAt x j)) (matchAt x j))
-        ∙ sym (any-gather p (foundOne ms x) (range 0 16))
+  pub found-nodes : foundIn ms ≡ gather (foundAt ms) (range 0 (length ms))
+  found-nodes = nodes-found (length ms)
 
--- ---- how many
+-- ---- all
 length-to : {A : Type 0} (k c : ℕ) (f : ℕ → ℕ) (g : ℕ → List A) → ((i : ℕ) → f i ≡ length (g (c + i))) → sumTo k f ≡ length (gather g (range c k))
 length-to zero c f g e = refl
 length-to (suc k) c f g e =
@@ -77,32 +87,6 @@ length-to (suc k) c f g e =
     shift : (i : ℕ) → c + suc i ≡ suc c + i
     shift i = omega arith
 
-filter-gather : {A : Type 0} (p : Match → Bool) (f : A → List Match) (xs : List A) → filter p (gather f xs) ≡ gather (λ x. filter p (f x)) xs
-filter-gather p f [] = refl
-filter-gather p f (x ∷ xs) = filter-append p (f x) (gather f xs) ∙ ap (λ l. filter p (f x) ++ l) (filter-gather p f xs)
-
-pub many-found : (ms : List ℕ) (p : Match → Bool) → howMany ms p ≡ length (filter p (foundIn ms))
-unfolding numberAt
-many-found ms p =
-    length-to (length ms) 0 (numberAt ms p) (λ x. filter p (foundAt ms x))
-    (λ x. each x ∙ ap (λ n. length (filter p (foundAt ms n))) (sym (zero-add x)))
-    ∙ sym (ap length (filter-gather p (foundAt ms) (range 0 (length ms))))
-  where
-    at : (b : Bool) (m : Match) → cond (b && p m) 1 0 ≡ length (filter p (one b m))
-    at true m = go (p m)
-      where
-        go : (b : Bool) → cond b 1 0 ≡ length (cond b (m ∷ []) [])
-        go true = refl
-        go false = refl
-    at false m = refl
-
-    each : (x : ℕ) → numberAt ms p x ≡ length (filter p (foundAt ms x))
-    each x =
-        length-to 16 0 _ (λ j. filter p (foundOne ms x j))
-        (λ j. at (found ms (matchAt x j)) (matchAt x j) ∙ ap (λ n. length (filter p (foundOne ms x n))) (sym (zero-add j)))
-        ∙ sym (ap length (filter-gather p (foundOne ms x) (range 0 16)))
-
--- ---- all
 bit-one : (m j : ℕ) (y : Match) → bit m j ≡ length (one (eqb (bit m j) 1) y)
 bit-one m j y = go (eqb (bit m j) 1) refl
   where
@@ -131,4 +115,4 @@ total-from ms (n ∷ ns) c e =
         (λ j. bit-one (getD ms c 0) j (matchAt c j) ∙ ap (λ n. length (foundOne ms c n)) (sym (zero-add j)))
 
 pub total-found : (ms : List ℕ) → total ms ≡ length (foundIn ms)
-total-found ms = total-from ms ms 0 (λ i. ap (λ k. getD ms k 0) (sym (zero-add i)))
+total-found ms = total-from ms ms 0 (λ i. ap (λ k. getD ms k 0) (sym (zero-add i))) ∙ ap length (sym (found-nodes ms))

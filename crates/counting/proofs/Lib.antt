@@ -1,4 +1,3 @@
-pub mod AnyLaws
 pub mod CountLaws
-pub mod ClashLaws
+pub mod PassLaws
 pub mod FoundLaws

@@ -1,19 +1,23 @@
--- Inside: the one pass that counts clashing matches: what it tests at a node.
---   markedIn   one of the nodes from a on and before b is marked
---   hits       k ones at node x, r the furthest end of marked nodes before x, e the end of x: do the matches at x clash
---   further    the furthest end after x
-use Prim.Native.Nat.{ℕ, _+_}
+-- Inside: going from match to match.
+--   nextOf    the number of the first match that marks hold from number k on, or k + n if none of the n numbers is one
+--   behind    how far the next number is that may be one
+--   longOf    how many marks are looked at, or 31, or 30
+use Prim.Native.Nat.{ℕ, zero, suc, _-_, _%_}
 use mathlib.Core.List.{List}
-use mathlib.Core.Bool.{Bool, cond, _&&_, _||_}
-use lib.Dec.{ltb, leb}
-use lib.ListN.{getD}
-use Rattle.counting.specs.Counting.{anyTo}
+use mathlib.Core.Bool.{cond}
+use lib.Dec.{eqb}
+use lib.ListN.{length}
+use Rattle.counting.specs.Counting.{matchOf, found, counted}
+use Rattle.counting.specs.declared.Counted.{Counted}
+use Rattle.counting.specs.declared.Counted.the-variants.{Number}
 
-abbrev pub markedIn : List ℕ → ℕ → ℕ → Bool
-markedIn ms a b = anyTo b (λ y. leb a y && ltb 0 (getD ms y 0))
+unfoldable pub nextOf : List ℕ → ℕ → ℕ → ℕ
+nextOf ms k zero = k
+nextOf ms k (suc n) = cond (found ms (matchOf k)) k (nextOf ms (suc k) n)
 
-abbrev pub hits : List ℕ → ℕ → ℕ → ℕ → ℕ → Bool
-hits ms k x r e = ltb 1 k || (ltb x r || (ltb 0 k && markedIn ms (x + 1) e))
+-- how far the next number is that may be a match, where a mark's bits from number k on are r
+abbrev pub behind : ℕ → ℕ → ℕ
+behind r k = cond (eqb r 0) (16 - k % 16) 1
 
-abbrev pub further : ℕ → ℕ → ℕ → ℕ
-further r k e = cond (ltb 0 k) (cond (ltb r e) e r) r
+abbrev pub longOf : List ℕ → List ℕ → List ℕ → List ℕ → Counted
+longOf ar score spans marks = counted (λ ms. Number (length ms)) ar score spans marks

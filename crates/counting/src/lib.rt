@@ -1,6 +1,7 @@
 use kinds::Reason;
 
-pub mod marks; // matches and clashes
+pub mod marks; // how many matches the marks hold
+pub mod passing; // from match to match
 
 pub enum Counted {
     Number(usize),

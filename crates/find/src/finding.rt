@@ -3,6 +3,8 @@ use crate::holding::Held;
 use crate::holding::Shown;
 use crate::printing::show_refusal;
 use crate::printing::show_report;
+use crate::totals::Total;
+use crate::totals::count;
 use bufferstone::Built;
 use bufferstone::Counts;
 use bufferstone::Opened;
@@ -56,38 +58,46 @@ fn find_opened(
     out: &mut [u8],
     held: Held,
 ) -> Shown {
-    let mut plan = [0u16; PLAN_WORDS];
-    let mut scratch = [0u16; SCRATCH_WORDS];
-    match build(symbols, words, starts, &mut plan, &mut scratch) {
-        Built::Refused(reason) => show_refusal(reason, 0, out, held),
-        Built::Stopped(reason, state) => show_refusal(reason, state.0 as usize, out, held),
-        Built::Plan(size) => find_by(
-            counts,
-            size,
-            first::words(&plan, size.words),
-            symbols,
-            score,
-            spans,
-            out,
-            held,
-        ),
+    let mut marks = [0u16; SCORE_NODES];
+    match mark(symbols, words, starts, score, spans, &mut marks) {
+        Marked::Refused(reason, place) => show_refusal(reason, place, out, held),
+        Marked::By(size) => {
+            let found = first::words(&marks, counts.nodes);
+            match count(counts, size, symbols, words, starts, score, spans, found) {
+                Total::Refused(reason) => show_refusal(reason, 0, out, held),
+                Total::Of(totals) => show_report(totals, spans, found, out, held),
+            }
+        }
     }
 }
 
-fn find_by(
-    counts: Counts,
-    size: Size,
-    plan: &[u16],
+// What the marks were made by: a plan of this size.
+enum Marked {
+    By(Size),
+    Refused(Reason, usize),
+}
+
+// Builds the plan, and walks to the end.
+fn mark(
     symbols: &[u8],
+    words: &[u16],
+    starts: &[u16],
     score: &[u16],
     spans: &[u16],
-    out: &mut [u8],
-    held: Held,
-) -> Shown {
-    let mut marks = [0u16; SCORE_NODES];
-    match walk_whole(plan, symbols, score, spans, &mut marks) {
-        Walked::Refused(reason) => show_refusal(reason, 0, out, held),
-        Walked::On(end) => show_report(counts, size, symbols, score, spans, &marks, out, held),
+    marks: &mut [u16],
+) -> Marked {
+    let mut plan = [0u16; PLAN_WORDS];
+    let mut scratch = [0u16; SCRATCH_WORDS];
+    match build(symbols, words, starts, &mut plan, &mut scratch) {
+        Built::Refused(reason) => Marked::Refused(reason, 0),
+        Built::Stopped(reason, state) => Marked::Refused(reason, state.0 as usize),
+        Built::Plan(size) => {
+            let built = first::words(&plan, size.words);
+            match walk_whole(built, symbols, score, spans, marks) {
+                Walked::Refused(reason) => Marked::Refused(reason, 0),
+                Walked::On(end) => Marked::By(size),
+            }
+        }
     }
 }
 

@@ -1,19 +1,13 @@
-ghost use mathlib.Core.Path.{_≡_};
 use crate::holding::Held;
 use crate::holding::Shown;
 use crate::holding::longer;
 use crate::holding::put_text;
 use crate::holding::rest;
 use crate::holding::room;
-use bufferstone::Counted;
-use bufferstone::Counts;
 use bufferstone::Node;
 use bufferstone::Reason;
 use bufferstone::Shape;
-use bufferstone::Size;
 use bufferstone::Totals;
-use bufferstone::clashes;
-use bufferstone::matches;
 use bufferstone::put_first;
 use bufferstone::put_line;
 use bufferstone::put_refusal;
@@ -34,37 +28,14 @@ fn refusal_line(reason: Reason, place: usize, out: &mut [u8], held: Held) -> Hel
 }
 
 pub fn show_report(
-    counts: Counts,
-    size: Size,
-    symbols: &[u8],
-    score: &[u16],
+    totals: Totals,
     spans: &[u16],
     marks: &[u16],
     out: &mut [u8],
     held: Held,
 ) -> Shown {
-    match matches(symbols, score, spans, marks) {
-        Counted::Refused(reason) => show_refusal(reason, 0, out, held),
-        Counted::Number(all) => match clashes(symbols, score, spans, marks) {
-            Counted::Refused(reason) => show_refusal(reason, 0, out, held),
-            Counted::Number(some) => {
-                let begun = first_line(totals_of(counts, size, all, some), out, held);
-                Shown::Report(show_matches(spans, marks, score.len(), out, begun))
-            }
-        },
-    }
-}
-
-fn totals_of(counts: Counts, size: Size, matches: usize, clashes: usize) -> Totals
-    ensures { λ r. ⌜ r ≡ record { nodes = counts .nodes; states = size .states; matches = matches; clashes = clashes; depth = counts .depth } ⌝ }
-{
-    Totals {
-        nodes: counts.nodes,
-        states: size.states,
-        matches,
-        clashes,
-        depth: counts.depth,
-    }
+    let begun = first_line(totals, out, held);
+    Shown::Report(show_matches(spans, marks, out, begun))
 }
 
 fn first_line(totals: Totals, out: &mut [u8], held: Held) -> Held {
@@ -74,14 +45,11 @@ fn first_line(totals: Totals, out: &mut [u8], held: Held) -> Held {
     }
 }
 
-// The lines of the first n nodes' marks.
-fn show_matches(spans: &[u16], marks: &[u16], n: usize, out: &mut [u8], held: Held) -> Held {
+// The lines of the nodes' marks.
+fn show_matches(spans: &[u16], marks: &[u16], out: &mut [u8], held: Held) -> Held {
     let mut now = held;
     for x in 0..4096 {
         let at = x as usize;
-        if n <= at {
-            return now;
-        }
         if marks.len() <= at {
             return now;
         }

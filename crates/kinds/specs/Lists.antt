@@ -9,6 +9,7 @@
 --   sum greatest     of numbers; of none 0
 --   bind need        go on with what there is; go on only if the test holds
 --   orElse           a number that there is, or another
+--   perhaps          what there is, as a list
 --   onto             words in front, the others as they were
 use mathlib.Core.List.{List, [], _∷_, _++_}
 use mathlib.Core.Bool.{Bool, true, false, cond, _&&_, _||_}
@@ -30,7 +31,7 @@ same (i ∷ p) (j ∷ q) = eqb i j && same p q
 module _ {ℓ} {A : Type ℓ} where
   abbrev pub filter : (A → Bool) → List A → List A
   filter f [] = []
-  filter f (x ∷ xs) = cond (f x) (x ∷ filter f xs) (filter f xs)
+  filter f (x ∷ xs) = let rest = filter f xs in cond (f x) (x ∷ rest) rest
 
   abbrev pub any : (A → Bool) → List A → Bool
   any f [] = false
@@ -56,6 +57,10 @@ module _ {ℓ} {A : Type ℓ} where
   abbrev pub concat : List (List A) → List A
   concat [] = []
   concat (x ∷ xs) = x ++ concat xs
+
+  abbrev pub perhaps : Option A → List A
+  perhaps none = []
+  perhaps (some a) = a ∷ []
 
   abbrev pub isNil : List A → Bool
   isNil [] = true

@@ -1,10 +1,10 @@
--- The refusal numbers of document 01's table, and what an answer says in its numbers.
+-- The refusal numbers of document 01's table and of document 02, and what an answer says in its numbers.
 --   numberOf   the number of each reason
 --   Says       number 0 and the values answered (gives), or a refusal's number and its place (refusal; refuses: by its reason)
 use Prim.Native.Nat.{ℕ}
 use mathlib.Core.List.{List, [], _∷_}
 use Rattle.kinds.specs.declared.Reason.{Reason}
-use Rattle.kinds.specs.declared.Reason.the-variants.{Short, Long, EndBytes, Trailer, Symbols, Children, ShapeWord, ShapeEnds, LoneBlank, ShapeNodes, ShapeDepth, Shapes, ScoreWord, ScoreEnds, ScoreDepth, Surplus, ScoreNodes, Tables, BadShapes, ManyGoals, ManyStates, LongPlan, ShortScratch, ShortBuffers, BadScore, NoSuchItem, OutOfRange}
+use Rattle.kinds.specs.declared.Reason.the-variants.{Short, Long, EndBytes, Trailer, Symbols, Children, ShapeWord, ShapeEnds, LoneBlank, ShapeNodes, ShapeDepth, Shapes, ScoreWord, ScoreEnds, ScoreDepth, Surplus, ScoreNodes, Tables, BadShapes, ManyGoals, ManyStates, LongPlan, ShortScratch, ShortBuffers, BadScore, NoSuchItem, OutOfRange, NoSuchMatch}
 
 abbrev pub numberOf : Reason → ℕ
 numberOf Short = 1
@@ -34,6 +34,7 @@ numberOf ShortBuffers = 30
 numberOf BadScore = 31
 numberOf NoSuchItem = 32
 numberOf OutOfRange = 34
+numberOf NoSuchMatch = 35
 
 pub record Says : Type 0 where
   pub number : ℕ

@@ -149,6 +149,7 @@ pub enum Reason {
     BadScore,
     NoSuchItem,
     OutOfRange,
+    NoSuchMatch,
 }
 
 // The number of a reason in that table.
@@ -183,5 +184,6 @@ pub fn number(reason: Reason) -> u16
         Reason::BadScore => 31,
         Reason::NoSuchItem => 32,
         Reason::OutOfRange => 34,
+        Reason::NoSuchMatch => 35,
     }
 }

@@ -20,7 +20,6 @@ use Rattle.kinds.specs.Kinds.{childSays}
 use Rattle.folio.specs.Opening.{lent, openedSays}
 use Rattle.walk.specs.Starting.{walkOf, counting, recordAfter, walkedSays}
 use Rattle.counting.specs.Counting.{total, countedSays}
-use Rattle.counting.specs.Clashes.{clashNumber, clash}
 use Rattle.readers.specs.BlockWords.{middle}
 use Rattle.readers.specs.PlanParts.{labelOf, labelSays, lengthsOf, blockSays, announcementOf, announcementSays, successorOf, successorSays}
 use Rattle.readers.specs.declared.Announcement.{Announcement}
@@ -37,7 +36,7 @@ use Rattle.plan.specs.Building.{builtSays}
 use Rattle.plan.proofs.building.build.Reads as build
 use Rattle.walk.proofs.starting.start.Reads as start
 use Rattle.walk.proofs.stepping.step.Reads as step
-use Rattle.counting.proofs.marks.clashes.Reads as clashes
+use Rattle.clashing.proofs.marks.clashes.Reads as clashes
 use Rattle.counting.proofs.marks.matches.Reads as matches
 use Rattle.checks.proofs.showing.subtree.Reads as subtree
 use Rattle.readers.proofs.reading.announcement_of.Reads as announcement-of
@@ -59,7 +58,7 @@ use Rattle.kinds.proofs.Position.child.Reads as child
 use Rattle.following.proofs.positions.follow.Reads as follow
 use Rattle.promises.specs.Told.{told}
 use Rattle.promises.specs.Found.{FoundRow, partSays, pairValues, Standing, LabelFound, BlockFound, AnnouncementFound, SuccessorFound, ChildFound, Reaches}
-use Rattle.promises.specs.Demand1.{OpenRow, openTold, BuildRow, buildTold, StartRow, CountRow, StepRow, walkTold, LineRow, MatchRow, lineTold}
+use Rattle.promises.specs.Demand1.{OpenRow, openTold, BuildRow, buildTold, StartRow, CountRow, ClashRow, StepRow, walkTold, LineRow, MatchRow, lineTold}
 use Rattle.promises.proofs.Demand1.{demand-1}
 
 pub open-call : (κs : _) (a : _) (r : _) (e : _) → open-folio.Learnt κs a r e → Below 256 (now (a .0))
@@ -91,15 +90,15 @@ step-call κs a r e h = subst (StepRow (now (a .0)) (now (a .1 .0)) (now (a .1 .
     (demand-1 .stepping _ _ _ _ _ .0)
 
 pub matches-call : (κs : _) (a : _) (r : _) (e : _) → matches.Learnt κs a r e → Below 65536 (now (a .1 .0))
-    → CountRow (now (a .0)) (now (a .1 .0)) (now (a .1 .1 .0)) total (now (a .1 .1 .1 .0)) (countedSays r)
-matches-call κs a r e h small = subst (CountRow (now (a .0)) (now (a .1 .0)) (now (a .1 .1 .0)) total (now (a .1 .1 .1 .0))) (ap countedSays (sym h))
+    → CountRow (now (a .0)) (now (a .1 .0)) (now (a .1 .1 .0)) (now (a .1 .1 .1 .0)) (countedSays r)
+matches-call κs a r e h small = subst (CountRow (now (a .0)) (now (a .1 .0)) (now (a .1 .1 .0)) (now (a .1 .1 .1 .0))) (ap countedSays (sym h))
     (demand-1 .matches _ _ _ _ small .0)
 
-pub clashes-call : (κs : _) (a : _) (r : _) (e : _) → clashes.Learnt κs a r e → Below 65536 (now (a .1 .0))
-    → CountRow (now (a .0)) (now (a .1 .0)) (now (a .1 .1 .0)) (clashNumber (clash (now (a .1 .1 .0)))) (now (a .1 .1 .1 .0)) (countedSays r)
+pub clashes-call : (κs : _) (a : _) (r : _) (e : _) → clashes.Learnt κs a r e → Below 65536 (now (a .1 .1 .1 .0))
+    → ClashRow (now (a .0)) (now (a .1 .0)) (now (a .1 .1 .0)) (now (a .1 .1 .1 .0)) (now (a .1 .1 .1 .1 .0)) (now (a .1 .1 .1 .1 .1 .0)) (countedSays r)
 clashes-call κs a r e h small =
-    subst (CountRow (now (a .0)) (now (a .1 .0)) (now (a .1 .1 .0)) (clashNumber (clash (now (a .1 .1 .0)))) (now (a .1 .1 .1 .0)))
-    (ap countedSays (sym h)) (demand-1 .clashes _ _ _ _ small .0)
+    subst (ClashRow (now (a .0)) (now (a .1 .0)) (now (a .1 .1 .0)) (now (a .1 .1 .1 .0)) (now (a .1 .1 .1 .1 .0)) (now (a .1 .1 .1 .1 .1 .0)))
+    (ap countedSays (sym h)) (demand-1 .clashes _ _ _ _ _ _ small .0)
 
 pub subtree-call : (κs : _) (a : _) (r : _) (e : _) → subtree.Learnt κs a r e → Below 65536 (now (a .1 .1 .1 .0))
     → FoundRow (Standing (now (a .1 .0)) (now (a .1 .1 .0)) (now (a .1 .1 .1 .0)) (a .0)) flatten (partSays (now r))

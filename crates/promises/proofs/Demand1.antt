@@ -9,8 +9,6 @@ use Rattle.folio.specs.declared.Opened.{Opened}
 use Rattle.folio.specs.declared.Opened.the-variants as opening
 use Rattle.folio.proofs.Accepted.{Accepted, accepted, made}
 use Rattle.sections.proofs.LawsSections.{sections-in}
-use Rattle.counting.specs.Counting.{total}
-use Rattle.counting.specs.Clashes.{clash, clashNumber}
 use Rattle.promises.specs.Demand1 as rows
 use Rattle.promises.specs.Demand1.{OpenRow, openTold, Demand1}
 use Rattle.promises.specs.Told.{Told, told, By}
@@ -23,6 +21,7 @@ use Rattle.promises.proofs.ChildRows.{by-child, by-follow}
 use Rattle.promises.proofs.LineRows.{by-first-line, by-match-line, by-refusal-line}
 use Rattle.promises.proofs.BuildRows.{by-build}
 use Rattle.promises.proofs.WalkRows.{by-start, by-count}
+use Rattle.promises.proofs.ClashRows.{by-clash}
 use Rattle.promises.proofs.StepRows.{by-step}
 
 -- ---- opening
@@ -58,8 +57,8 @@ demand-1 = record {
   building = by-build;
   starting = λ ar score spans w small. by-start ar score spans small w;
   stepping = by-step;
-  matches = λ ar score spans marks small. by-count ar score spans small total marks;
-  clashes = λ ar score spans marks small. by-count ar score spans small (clashNumber (clash spans)) marks;
+  matches = λ ar score spans marks small. by-count ar score spans small marks;
+  clashes = by-clash;
   subtree = λ w ar shapes score small. by-subtree ar shapes score small w;
   label = by-label;
   lengths = by-lengths;

@@ -1,7 +1,7 @@
 -- Demand 2 holds of every file that opens and whose build is accepted.
 --   marks-long     there is a mark for each node
 --   right          the marks of a finished walk are set exactly where a test that says the paper's match says yes
-use mathlib.Core.Path.{_≡_, ap, ap₂, sym, _∙_, subst}
+use mathlib.Core.Path.{_≡_, refl, ap, sym, _∙_, subst}
 use mathlib.Core.Bool.{Bool}
 use mathlib.Core.List.{List}
 use mathlib.Core.Logic.{_↔_}
@@ -15,19 +15,20 @@ use Rattle.kinds.specs.Bits.{bit}
 use Rattle.kinds.specs.Positions.{Pos}
 use Rattle.kinds.proofs.Bools.{bool-ext, eqb-is, is-eqb, not-true}
 use Rattle.kinds.proofs.Places.{at-below}
-use Rattle.term.specs.Terms.{Term, span}
+use Rattle.term.specs.Terms.{Term, span, sizes}
 use Rattle.term.specs.Places.{Matches, sub, number}
 use Rattle.term.proofs.MatchTest.{agreesAt, matches-of, matches-is}
 use Rattle.term.proofs.Numbers.{number-place, number-below, node-at, dom-place}
 use Rattle.counting.specs.Counting.{matchAt, found}
+use Rattle.clashing.proofs.OneFolio.{SaysOf, says-of}
 use Rattle.report.specs.Paths.{pathOf}
 use Rattle.report.specs.Text.{matchLine, report}
 use Rattle.walk.specs.Starting.{Walk}
 use Rattle.walking.proofs.AnyWalk.{same-walk, marks-right, marks-shapes}
-use Rattle.promises.specs.OneFile.{OneFile, symbolsIn, spansIn, shapesIn, scoreIn, after, reported}
-use Rattle.promises.specs.Reported.{reportIn}
+use Rattle.promises.specs.OneFile.{OneFile, symbolsIn, wordsIn, startsIn, nodesIn, spansIn, shapesIn, scoreIn, after, reported}
+use Rattle.promises.specs.Reported.{reportIn, totalsOf}
 use Rattle.promises.specs.Demand2.{Demand2, Says}
-use Rattle.promises.proofs.Setting.{is-folio, shape-words, score-words, score-spans, score-depth, shapes-depth, plan-is, told}
+use Rattle.promises.proofs.Setting.{is-folio, shape-words, shape-starts, score-words, score-spans, score-depth, shapes-depth, plan-is, told}
 use Rattle.promises.proofs.Construction.{paper-says}
 use Rattle.promises.proofs.ScorePaths.{score-path}
 use Rattle.promises.proofs.Reported.{Right, report-right}
@@ -77,11 +78,16 @@ module _ {file : List ℕ} (S : OneFile file) where
               bit-first j n h ∙ not-true (eqb (bit (mark n) j) 1) (λ b. omega (arith, at-below (shapesIn S) j (no-other j n h (eqb-is _ 1 b) .1)));
         }
 
+        tables : SaysOf (wordsIn S) (startsIn S) (nodesIn S) (sizes (scoreIn S)) (shapesIn S) (scoreIn S)
+        tables = says-of (symbolsIn S) (wordsIn S) (startsIn S) (nodesIn S) (sizes (scoreIn S)) (shapesIn S) (scoreIn S)
+            (is-folio S .limits .are-shapes) (is-folio S .is-score) (shape-words S) (shape-starts S) (score-words S) refl
+
         text : reported S choices ≡ reportIn test (shapesIn S) (scoreIn S) (S .size .states)
         text =
-            ap₂ (λ sp d. report sp d (S .size .states) (after S choices .marks)) (score-spans S) (score-depth S)
+            (λ i. report (totalsOf (wordsIn S) (startsIn S) (score-spans S i) (score-depth S i) (S .size .states)
+            (take (length (score-spans S i)) (after S choices .marks))) (score-spans S i) (after S choices .marks))
             ∙ report-right test (shapesIn S) (scoreIn S) (after S choices .marks) right (is-folio S .limits .few-shapes)
-            (λ p n e. rw (score-spans S) at (path p n e)) (S .size .states)
+            (λ p n e. rw (score-spans S) at (path p n e)) (wordsIn S) (startsIn S) (nodesIn S) tables says (S .size .states)
 
 pub demand-2 : {file : List ℕ} (S : OneFile file) → Demand2 S
 demand-2 S = record {

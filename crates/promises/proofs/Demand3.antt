@@ -18,7 +18,7 @@ use Rattle.term.specs.Terms.{span}
 use Rattle.term.specs.Places.{Matches, number}
 use Rattle.term.proofs.Numbers.{node-at}
 use Rattle.term.proofs.Sizes.{length-sizes}
-use Rattle.report.specs.Text.{firstLine, totalsOf, lines, report}
+use Rattle.report.specs.Text.{firstLine, lines, report}
 use Rattle.walk.specs.Starting.{Walk, WalkOutcome, refuseWalk, walkedSays}
 use Rattle.kinds.specs.Reasons.{Says, gives, refusal}
 use Rattle.promises.specs.Told.{Told, told as telling}
@@ -26,9 +26,10 @@ use Rattle.promises.specs.Demand1.{walkTold}
 use Rattle.walk.specs.declared.Walked.the-variants.{On}
 use Rattle.walking.specs.OneFolio.{walkIn}
 use Rattle.walking.proofs.AnyWalk as any-walk
-use Rattle.promises.specs.OneFile.{OneFile, scoreIn, spansIn, bufferIn, after, stepAfter, acceptedIn, reported}
+use Rattle.promises.specs.OneFile.{OneFile, wordsIn, startsIn, scoreIn, spansIn, bufferIn, after, stepAfter, acceptedIn, reported}
+use Rattle.promises.specs.Reported.{totalsOf}
 use Rattle.promises.specs.Demand3.{Demand3}
-use Rattle.promises.proofs.Setting.{score-spans, told, same-shapes, same-score, same-spans, same-depth, same-states}
+use Rattle.promises.proofs.Setting.{score-spans, told, same-shapes, same-score, same-words, same-starts, same-spans, same-depth, same-states}
 use Rattle.promises.proofs.Demand2.{demand-2, marks-long}
 
 -- the first n entries, as a list and by place
@@ -149,8 +150,10 @@ module _ {file : List ℕ} (S T : OneFile file) (c d : List ℕ) (c-done : after
   same-text =
       let k : length (spansIn S) ≡ span (scoreIn S) = ap length (score-spans S) ∙ length-sizes (scoreIn S) in
       let m : take (length (spansIn S)) (after S c .marks) ≡ take (length (spansIn S)) (after T d .marks) = rw k same-marks in
-      ap (λ ms. firstLine (totalsOf (spansIn S) (S .counts .depth) (S .size .states) ms) ++ lines (spansIn S) ms) m
-      ∙ (λ i. report (same-spans S T i) (same-depth S T i) (same-states S T i) (after T d .marks))
+      ap (λ ms. firstLine (totalsOf (wordsIn S) (startsIn S) (spansIn S) (S .counts .depth) (S .size .states) ms) ++ lines (spansIn S) ms) m
+      ∙ (λ i. let marks = after T d .marks in
+      report (totalsOf (same-words S T i) (same-starts S T i) (same-spans S T i) (same-depth S T i) (same-states S T i)
+      (take (length (same-spans S T i)) marks)) (same-spans S T i) marks)
 
 pub demand-3 : {file : List ℕ} (S : OneFile file) → Demand3 S
 demand-3 S = record {

@@ -18,7 +18,7 @@ use Rattle.kinds.proofs.number.Reads as number
 use Rattle.kinds.proofs.slices.equal.Reads as equal
 use Rattle.plan.specs.Building.{BuildOutcome}
 use Rattle.plan.proofs.building.build.Reads as build
-use Rattle.counting.proofs.marks.clashes.Reads as clashes
+use Rattle.clashing.proofs.marks.clashes.Reads as clashes
 use Rattle.counting.proofs.marks.matches.Reads as matches
 use Rattle.report.proofs.lines.put_first.Reads as put-first
 use Rattle.report.proofs.lines.put_line.Reads as put-line

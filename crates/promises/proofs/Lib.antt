@@ -7,6 +7,7 @@ pub mod OpenExactly
 pub mod Answers
 pub mod BuildRows
 pub mod WalkRows
+pub mod ClashRows
 pub mod FoundRows
 pub mod ReaderRows
 pub mod LeadRows

@@ -1,80 +1,39 @@
 -- The report of a finished walk is the one that matches alone say.
---   over-prefix      a node is another's or lies over it exactly if its position is a prefix
 --   Right            marks that are set exactly where shapes match
 --   found-matches    the matches that right marks hold are those of the shapes at the score's positions
 --   matches-numbered each of these stands at the position of its node
---   right-report report-right   the text over right marks
+--   right-report report-right   the text over right marks, where the tables are those of the terms
 use mathlib.Core.Path.{_≡_, refl, ap, ap₂, sym, _∙_, subst}
-use mathlib.Core.Bool.{Bool, true, false, cond, _&&_, _||_}
+use mathlib.Core.Bool.{Bool, true, false, cond}
 use mathlib.Core.List.{List, [], _∷_, _++_, map, append-nil}
 use mathlib.Core.Logic.{⊎-elim}
 use mathlib.Core.Option.{some, Option·map}
 use Prim.Native.Nat.{ℕ, zero, suc, _+_, _-_, _<_, _≤_}
 use native.Mathlib.Omega.{arith}
 use native.Mathlib.Nat.{add-zero, zero-add}
-use lib.Dec.{eqb, ltb}
-use lib.ListN.{length, getD, getElem?, take, length-map}
-use Rattle.kinds.specs.Lists.{any, filter, gather, concat, mapAt, range}
+use native.Mathlib.Decide.{decLt}
+use lib.ListN.{length, getElem?, take, length-map}
+use Rattle.kinds.specs.Lists.{gather, concat, mapAt, range}
 use Rattle.kinds.specs.Members.{_∈_, here, there}
-use Rattle.kinds.specs.Positions.{Pos, prefix}
-use Rattle.kinds.proofs.Bools.{bool-ext, on-or, or-l, or-r, both, and-l, and-r, eqb-is, is-eqb, ltb-is, is-ltb}
-use Rattle.kinds.proofs.ListLaws.{map-append, gather-append, gather-map, gather-same, filter-map, filter-same, any-map, any-same, range-append}
+use Rattle.kinds.specs.Positions.{Pos}
+use Rattle.kinds.proofs.Bools.{false-true}
+use Rattle.kinds.proofs.ListLaws.{map-append, gather-append, gather-map, gather-same, range-append}
 use Rattle.kinds.proofs.Members.{∈-append, in-one, in-none, in-range}
-use Rattle.kinds.proofs.Options.{on-map}
-use Rattle.kinds.proofs.Places.{on-mapAt}
-use Rattle.kinds.proofs.Prefixes.{prefix-is, is-prefix}
+use Rattle.kinds.proofs.Places.{at-some, on-mapAt}
 use Rattle.term.specs.Terms.{Term, span, depth, sizes}
-use Rattle.term.specs.Places.{sub, dom, number, place}
-use Rattle.term.proofs.Numbers.{number-place, number-below, node-at, number-append, sub-number, dom-number}
-use Rattle.term.proofs.Sizes.{length-sizes, span-pos}
+use Rattle.term.specs.Places.{dom, number}
+use Rattle.term.proofs.Numbers.{number-below, node-at, dom-number}
+use Rattle.term.proofs.Sizes.{length-sizes}
 use Rattle.term.proofs.Subterms.{length-dom}
-use Rattle.following.proofs.FollowTree.{span-at}
-use Rattle.counting.specs.Counting.{Match, matchAt, found, total}
-use Rattle.counting.specs.Clashes.{isOver, clash, other, clashing, clashNumber}
-use Rattle.counting.proofs.FoundLaws.{one, foundOne, foundAt, foundIn, some-found, many-found, total-found}
+use Rattle.counting.specs.Counting.{Match, matchAt, found, foundIn, total}
+use Rattle.counting.proofs.FoundLaws.{one, foundOne, foundAt, found-nodes, total-found}
+use Rattle.clashing.specs.Clashes.{clashNumber, nodesIn, nodesOf}
+use Rattle.clashing.specs.Strays.{IsMatch}
+use Rattle.clashing.proofs.OneFolio.{in-found, SaysOf}
 use Rattle.report.specs.Paths.{pathOf}
-use Rattle.report.specs.Text.{matchLine, line, textOf, firstLine, totalsOf, lines, report}
-use Rattle.report.proofs.LinesLaws.{lines-found}
-use Rattle.promises.specs.Reported.{MatchIn, matchOne, matchesAt, matchesIn, clashIn, clashNumberIn, totalsIn, reportIn}
-
--- ---- a node over another
-is-over : (sp : List ℕ) (x y : ℕ) → isOver sp x y ≡ true → 0 < getD sp x 0 → (x ≤ y) × (y < x + getD sp x 0)
-is-over sp x y e h = on-or (eqb x y) e
-    (λ a. let z = eqb-is x y a in (omega arith, omega arith))
-    (λ a. let l = ltb-is x y (and-l _ a) in let r = ltb-is y (x + getD sp x 0) (and-r (ltb x y) a) in (omega arith, omega arith))
-
-over-is : (sp : List ℕ) (x k : ℕ) → k < getD sp x 0 → isOver sp x (x + k) ≡ true
-over-is sp x zero h = or-l _ (is-eqb x (x + 0) (sym (add-zero x)))
-over-is sp x (suc k) h = or-r (eqb x (x + suc k)) (both (is-ltb x (x + suc k) (omega arith)) (is-ltb (x + suc k) (x + getD sp x 0) (omega arith)))
-
-module _ (t : Term) (p q : Pos) (x y : ℕ) (np : number t p ≡ some x) (nq : number t q ≡ some y) where
-  pub over-prefix : isOver (sizes t) x y ≡ prefix p q
-  over-prefix = bool-ext (isOver (sizes t) x y) (prefix p q) down up
-    where
-      u : (v : Term) × (sub t p ≡ some v)
-      u = sub-number p t x np
-
-      spanned : getD (sizes t) x 0 ≡ span (u .0)
-      spanned = span-at t p (u .0) x (u .1) np
-
-      down : isOver (sizes t) x y ≡ true → prefix p q ≡ true
-      down e =
-          let pos = span-pos (u .0) in
-          let b = is-over (sizes t) x y e (omega (arith, pos, spanned)) in
-          let w = node-at (u .0) (y - x) (omega (arith, b .0, b .1, spanned)) in
-          let z : x + (y - x) ≡ y = omega (arith, b .0) in
-          let n : number t (p ++ w .0) ≡ some y = number-append p (w .0) t (u .0) x (u .1) np ∙ ap (Option·map (λ k. x + k)) (w .1) ∙ ap some z in
-          let one : some (p ++ w .0) ≡ some q = sym (number-place (p ++ w .0) t y n) ∙ number-place q t y nq in
-          let same : p ++ w .0 ≡ q = cc in
-          rw (← same) (is-prefix p (w .0))
-
-      up : prefix p q ≡ true → isOver (sizes t) x y ≡ true
-      up e =
-          let l = prefix-is p q e in
-          let n : Option·map (λ k. x + k) (number (u .0) (l .by)) ≡ some y =
-          sym (number-append p (l .by) t (u .0) x (u .1) np) ∙ ap (number t) (sym (l .eq)) ∙ nq in
-          on-map (number (u .0) (l .by)) _ n λ k ek z.
-          rw (← z) (over-is (sizes t) x k (omega (arith, number-below (l .by) (u .0) k ek, spanned)))
+use Rattle.report.specs.Text.{matchLine, line, textOf, firstLine, lines, report}
+use Rattle.promises.specs.Reported.{MatchIn, matchOne, matchesAt, matchesIn, totalsIn, reportIn, totalsOf}
+use Rattle.promises.specs.Demand2.{Says}
 
 -- ---- a list with numbers, and the numbers alone
 listed : {A B C : Type 0} (h : B → C) (g : ℕ → A → List B) (f : ℕ → List C) (c : ℕ) (xs : List A)
@@ -133,7 +92,7 @@ module _ (test : Term → Pos → Bool) (shapes : List Term) (t : Term) (ms : Li
   pub found-matches : map numbers all ≡ foundIn ms
   found-matches =
       listed numbers (matchesAt test shapes) (foundAt ms) 0 (dom t) (λ n p e. rw (zero-add n) (found-here n p (dom-number t n p e)))
-      ∙ ap (λ n. gather (foundAt ms) (range 0 n)) (length-dom t ∙ sym (right .long))
+      ∙ ap (λ n. gather (foundAt ms) (range 0 n)) (length-dom t ∙ sym (right .long)) ∙ sym (found-nodes ms)
 
   pub matches-numbered : (m : MatchIn) → m ∈ all → number t (m .place) ≡ some (m .match .node)
   matches-numbered m i =
@@ -148,53 +107,52 @@ module _ (test : Term → Pos → Bool) (shapes : List Term) (t : Term) (ms : Li
   total-is : total ms ≡ length all
   total-is = total-found ms ∙ ap length (sym found-matches) ∙ simp length-map
 
-  clash-is : (m o : MatchIn) → m ∈ all → o ∈ all → clash (sizes t) (m .match) (o .match) ≡ clashIn m o
-  clash-is m o i k =
-      let a = matches-numbered m i in
-      let b = matches-numbered o k in
-      ap₂ _||_ (over-prefix t (m .place) (o .place) _ _ a b) (over-prefix t (o .place) (m .place) _ _ b a)
-
-  clashing-is : (m : MatchIn) → m ∈ all → clashing (clash (sizes t)) ms (m .match) ≡ any (λ o. other (m .match) (o .match) && clashIn m o) all
-  clashing-is m i =
-      some-found ms (λ o. other (m .match) o && clash (sizes t) (m .match) o)
-      ∙ ap (any (λ o. other (m .match) o && clash (sizes t) (m .match) o)) (sym found-matches)
-      ∙ any-map numbers (λ o. other (m .match) o && clash (sizes t) (m .match) o) all
-      ∙ any-same _ _ all (λ o k. ap (λ b. other (m .match) (o .match) && b) (clash-is m o i k))
-
-  clashes-are : clashNumber (clash (sizes t)) ms ≡ clashNumberIn all
-  clashes-are =
-      many-found ms (clashing (clash (sizes t)) ms)
-      ∙ ap (λ l. length (filter (clashing (clash (sizes t)) ms) l)) (sym found-matches)
-      ∙ ap length (filter-map numbers (clashing (clash (sizes t)) ms) all)
-      ∙ length-of (filter (λ m. clashing (clash (sizes t)) ms (m .match)) all)
-      ∙ ap length (filter-same (λ m. clashing (clash (sizes t)) ms (m .match)) (λ m. any (λ o. other (m .match) (o .match) && clashIn m o) all) all
-      clashing-is)
+  -- each match that the marks hold is one
+  is-match : Says test t → (m : Match) → m ∈ foundIn ms → IsMatch shapes t m
+  is-match says m i =
+      let f = in-found ms m i in
+      let h : m .node < span t = omega (arith, f .0, right .long) in
+      let p = node-at t (m .node) h in
+      go p (decLt (m .shape) (length shapes)) (f .2)
     where
-      length-of : (l : List MatchIn) → length (map numbers l) ≡ length l
-      length-of l = simp length-map
-
-  totals-are : (states : ℕ) → totalsOf (sizes t) (depth t) states ms ≡ totalsIn all t states
-  totals-are states = λ i. record { nodes = length-sizes t i; states = states; matches = total-is i; clashes = clashes-are i; depth = depth t }
+      go : (p : Pos) × (number t p ≡ some (m .node)) → Dec (m .shape < length shapes) → found ms m ≡ true → IsMatch shapes t m
+      go p (yes l) f =
+          let s = at-some shapes (m .shape) l in
+          record {
+            shape = s .0;
+            place = p .0;
+            has-shape = s .1;
+            has-node = p .1;
+            matches = says (s .0) (p .0) .0 (sym (right .exactly (m .shape) (s .0) (s .1) (m .node) (p .0) (p .1)) ∙ f);
+          }
+      go p (no l) f = false-true (sym (right .no-other (m .shape) (m .node) (number-below (p .0) t (m .node) (p .1)) (omega arith)) ∙ f)
 
   module _ (paths : (p : Pos) (n : ℕ) → number t p ≡ some n → pathOf (sizes t) n ≡ some p) where
     lines-are : lines (sizes t) ms ≡ gather (λ m. matchLine (m .match) (m .place)) all
+    unfolding lines
     lines-are =
-        lines-found (sizes t) ms
-        ∙ ap (gather (λ m. textOf (line (sizes t) m))) (sym found-matches)
+        ap (gather (λ m. textOf (line (sizes t) m))) (sym found-matches)
         ∙ gather-map (λ m. textOf (line (sizes t) m)) numbers all
         ∙ gather-same (λ m. textOf (line (sizes t) (m .match))) (λ m. matchLine (m .match) (m .place)) all
         (λ m i. ap (λ q. textOf (Option·map (matchLine (m .match)) q)) (paths (m .place) (m .match .node) (matches-numbered m i)))
 
-    pub right-report : (states : ℕ)
-        → firstLine (totalsOf (sizes t) (depth t) states ms) ++ lines (sizes t) ms ≡ reportIn test shapes t states
-    right-report states = λ i. firstLine (totals-are states i) ++ lines-are i
+    module _ (words starts score : List ℕ) (tables : SaysOf words starts score (sizes t) shapes t) (says : Says test t) where
+      clashes-are : clashNumber (nodesOf words starts (sizes t)) (foundIn ms) ≡ clashNumber (nodesIn shapes t) (map numbers all)
+      clashes-are = tables .same-number (foundIn ms) (is-match says) ∙ ap (clashNumber (nodesIn shapes t)) (sym found-matches)
+
+      totals-are : (states : ℕ) → totalsOf words starts (sizes t) (depth t) states ms ≡ totalsIn all shapes t states
+      totals-are states = λ i. record { nodes = length-sizes t i; states = states; matches = total-is i; clashes = clashes-are i; depth = depth t }
+
+      pub right-report : (states : ℕ)
+          → firstLine (totalsOf words starts (sizes t) (depth t) states ms) ++ lines (sizes t) ms ≡ reportIn test shapes t states
+      right-report states = λ i. firstLine (totals-are states i) ++ lines-are i
 
 -- the report of marks, the first n of which are right
 pub report-right : (test : Term → Pos → Bool) (shapes : List Term) (t : Term) (marks : List ℕ) → Right test shapes t (take (span t) marks)
-    → length shapes ≤ 16
-    → ((p : Pos) (n : ℕ) → number t p ≡ some n → pathOf (sizes t) n ≡ some p) → (states : ℕ)
-    → report (sizes t) (depth t) states marks ≡ reportIn test shapes t states
+    → length shapes ≤ 16 → ((p : Pos) (n : ℕ) → number t p ≡ some n → pathOf (sizes t) n ≡ some p)
+    → (words starts score : List ℕ) → SaysOf words starts score (sizes t) shapes t → Says test t → (states : ℕ)
+    → report (totalsOf words starts (sizes t) (depth t) states (take (length (sizes t)) marks)) (sizes t) marks ≡ reportIn test shapes t states
 unfolding report
-report-right test shapes t marks right few paths states =
-    ap (λ n. firstLine (totalsOf (sizes t) (depth t) states (take n marks)) ++ lines (sizes t) (take n marks)) (length-sizes t)
-    ∙ right-report test shapes t (take (span t) marks) right few paths states
+report-right test shapes t marks right few paths words starts score tables says states =
+    ap (λ n. firstLine (totalsOf words starts (sizes t) (depth t) states (take n marks)) ++ lines (sizes t) (take n marks)) (length-sizes t)
+    ∙ right-report test shapes t (take (span t) marks) right few paths words starts score tables says states

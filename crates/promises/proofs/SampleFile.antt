@@ -10,7 +10,7 @@ use Prim.Native.Nat.{ℕ}
 use native.Mathlib.Omega.{arith}
 use borrow.Author.Tests.{ltb-true}
 use lib.Dec.{ltb}
-use lib.ListN.{getD, getElem?, take, replicate}
+use lib.ListN.{length, getD, getElem?, take, replicate}
 use Rattle.kinds.specs.Bits.{bit}
 use Rattle.kinds.proofs.Members.{all-at}
 use Rattle.term.specs.Terms.{Term, blank, node, tnil, tcons, span}
@@ -26,6 +26,7 @@ use Rattle.walk.specs.Stepping.{run}
 use Rattle.report.specs.Text.{report}
 use Rattle.promises.specs.Computing.{computing}
 use Rattle.promises.specs.Sample.{file, symbols, shapeWords, starts, score, spans, plan, marks, text, nines}
+use Rattle.promises.specs.Reported.{totalsOf}
 use Rattle.promises.specs.OneFile.{OneFile, openedWords, openedStarts, openedNodes, openedSpans}
 use Rattle.promises.specs.OneFile.{nodesIn, spansIn, shapesIn, scoreIn, lentIn, begunIn, after, acceptedIn, reported}
 use Rattle.promises.proofs.Demand2.{demand-2}
@@ -157,9 +158,12 @@ no-shape-1-at-1 h =
 pub always-ten : (choices : List ℕ) → after one-file choices .count .waiting ≡ 0 → acceptedIn one-file choices ≡ 10
 always-ten choices e = demand-3 one-file .steps choices .2 .0 e ∙ ap span tree-is
 
-text-is : report spans 4 3 marks ≡ text
+text-is : report (totalsOf shapeWords starts spans 4 3 marks) spans marks ≡ text
 unfolding computing
 text-is = refl
 
 pub always-reported : (T : OneFile file) (choices : List ℕ) → after T choices .count .waiting ≡ 0 → reported T choices ≡ text
-always-reported T choices e = demand-3 T .same-text one-file choices zeros e ended ∙ ap₂ (λ s m. report s 4 3 m) spans-are marks-are ∙ text-is
+always-reported T choices e =
+    demand-3 T .same-text one-file choices zeros e ended
+    ∙ (λ i. report (totalsOf (words-are i) (starts-are i) (spans-are i) 4 3 (take (length (spans-are i)) (marks-are i))) (spans-are i) (marks-are i))
+    ∙ text-is

@@ -2,7 +2,7 @@
 --   symbols-are …     what opening wrote is what the file means
 --   is-folio          the terms that opening read, within the limits
 --   Told told         the walk over the file's words is one over a folio, for which `AnyWalk` speaks
---   same-…            two settings of one file have the same symbols, shapes, score, spans, depth and number of states
+--   same-…            two settings of one file have the same symbols, shapes with their words and starts, score, spans, depth and number of states
 use mathlib.Core.Path.{_≡_, ap, ap₂, sym, _∙_, subst}
 use mathlib.Core.Bool.{true}
 use mathlib.Core.List.{List, map}
@@ -99,6 +99,9 @@ module _ {file : List ℕ} (S : OneFile file) where
   pub shape-words : wordsIn S ≡ gather flatten (shapesIn S)
   shape-words = words-are ∙ ap (gather flatten) (sym shapes-are)
 
+  pub shape-starts : startsIn S ≡ startsAt 0 (shapesIn S)
+  shape-starts = starts-are ∙ ap (startsAt 0) (sym shapes-are)
+
   pub score-words : nodesIn S ≡ flatten (scoreIn S)
   score-words = nodes-are ∙ ap flatten (sym score-is)
 
@@ -168,6 +171,12 @@ module _ {file : List ℕ} (S T : OneFile file) where
 
   pub same-spans : spansIn S ≡ spansIn T
   same-spans = score-spans S ∙ ap sizes same-score ∙ sym (score-spans T)
+
+  pub same-words : wordsIn S ≡ wordsIn T
+  same-words = shape-words S ∙ ap (gather flatten) same-shapes ∙ sym (shape-words T)
+
+  pub same-starts : startsIn S ≡ startsIn T
+  same-starts = shape-starts S ∙ ap (startsAt 0) same-shapes ∙ sym (shape-starts T)
 
   pub same-depth : S .counts .depth ≡ T .counts .depth
   same-depth = score-depth S ∙ ap depth same-score ∙ sym (score-depth T)

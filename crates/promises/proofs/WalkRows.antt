@@ -1,4 +1,4 @@
--- Rows 30 and 31: the outcomes of starting and counting are those that they give.
+-- Rows 30 and 31: the outcomes of starting and of counting matches are those that they give.
 use mathlib.Core.Path.{_≡_, refl, sym, _∙_, ap}
 use mathlib.Core.Bool.{true, false, _&&_}
 use mathlib.Core.Logic.{_⊎_, inl, inr}
@@ -15,7 +15,7 @@ use Rattle.kinds.specs.Members.{Below}
 use Rattle.checks.specs.Again.{scoreGood}
 use Rattle.folio.proofs.GoodTables.{score-good-scored, scored-good}
 use Rattle.walk.specs.Starting.{Walk, goOn, begun, roomFor, started, refuseWalk}
-use Rattle.counting.specs.Counting.{counted, countedSays}
+use Rattle.counting.specs.Counting.{total, counted, countedSays}
 use Rattle.counting.specs.declared.Counted.{Counted}
 use Rattle.counting.specs.declared.Counted.the-variants as count
 use Rattle.promises.specs.Demand1 as rows
@@ -24,18 +24,18 @@ use Rattle.promises.specs.Told.{By, Told}
 use Rattle.kinds.specs.Reasons.{Says}
 
 module _ (ar score spans : List ℕ) (small : Below 65536 score) where
-  score-or-not : (scoreGood ar score spans ≡ true) ⊎ (scoreGood ar score spans ≡ false) → Good ar score spans ⊎ (Good ar score spans → ⊥)
+  pub score-or-not : (scoreGood ar score spans ≡ true) ⊎ (scoreGood ar score spans ≡ false) → Good ar score spans ⊎ (Good ar score spans → ⊥)
   score-or-not (inl e) = inl (score-good-scored ar score spans small e)
   score-or-not (inr e) = inr (λ g. false-true (sym e ∙ scored-good ar score spans (g .0) (g .1)))
 
-  score-bad : (Good ar score spans → ⊥) → scoreGood ar score spans ≡ false
+  pub score-bad : (Good ar score spans → ⊥) → scoreGood ar score spans ≡ false
   score-bad n = go (test (scoreGood ar score spans))
     where
       go : (scoreGood ar score spans ≡ true) ⊎ (scoreGood ar score spans ≡ false) → scoreGood ar score spans ≡ false
       go (inl e) = absurd (n (score-good-scored ar score spans small e))
       go (inr e) = e
 
-  score-fine : Good ar score spans → scoreGood ar score spans ≡ true
+  pub score-fine : Good ar score spans → scoreGood ar score spans ≡ true
   score-fine g = scored-good ar score spans (g .0) (g .1)
 
   module _ (w : Walk) where
@@ -90,33 +90,36 @@ module _ (ar score spans : List ℕ) (small : Below 65536 score) where
     pub by-start : By (StartRow ar score spans w) (walkTold (started ar score spans w))
     by-start = (start-row, start-only)
 
-  module _ (f : List ℕ → ℕ) (marks : List ℕ) where
-    counted-bad : scoreGood ar score spans ≡ false → counted f ar score spans marks ≡ count.Refused BadScore
+  module _ (f : List ℕ → Counted) (marks : List ℕ) where
+    pub counted-bad : scoreGood ar score spans ≡ false → counted f ar score spans marks ≡ count.Refused BadScore
     unfolding counted
     counted-bad e = rw e refl
 
-    counted-short : scoreGood ar score spans ≡ true → length marks < length score → counted f ar score spans marks ≡ count.Refused ShortBuffers
+    pub counted-short : scoreGood ar score spans ≡ true → length marks < length score → counted f ar score spans marks ≡ count.Refused ShortBuffers
     unfolding counted
     counted-short e h = rw (e, lt-leb (length score) (length marks) h) refl
 
-    counted-on : scoreGood ar score spans ≡ true → length score ≤ length marks
-        → counted f ar score spans marks ≡ count.Number (f (take (length score) marks))
+    pub counted-on : scoreGood ar score spans ≡ true → length score ≤ length marks → counted f ar score spans marks ≡ f (take (length score) marks)
     unfolding counted
     counted-on e h = rw (e, le-leb (length score) (length marks) h) refl
 
-    count-row : CountRow ar score spans f marks (countedSays (counted f ar score spans marks))
+  module _ (marks : List ℕ) where
+    abbrev all : List ℕ → Counted
+    all ms = count.Number (total ms)
+
+    count-row : CountRow ar score spans marks (countedSays (counted all ar score spans marks))
     count-row = go (score-or-not (test (scoreGood ar score spans))) (decLt (length marks) (length score))
       where
         go : Good ar score spans ⊎ (Good ar score spans → ⊥) → Dec (length marks < length score)
-            → CountRow ar score spans f marks (countedSays (counted f ar score spans marks))
-        go (inr n) d = rw (counted-bad (score-bad n)) (rows.count-31 n)
-        go (inl g) (yes h) = rw (counted-short (score-fine g) h) (rows.count-30 g h)
-        go (inl g) (no h) = let k : length score ≤ length marks = omega arith in rw (counted-on (score-fine g) k) (rows.counts g k)
+            → CountRow ar score spans marks (countedSays (counted all ar score spans marks))
+        go (inr n) d = rw (counted-bad all marks (score-bad n)) (rows.count-31 n)
+        go (inl g) (yes h) = rw (counted-short all marks (score-fine g) h) (rows.count-30 g h)
+        go (inl g) (no h) = let k : length score ≤ length marks = omega arith in rw (counted-on all marks (score-fine g) k) (rows.counts g k)
 
-    count-only : (o : Says) → CountRow ar score spans f marks o → countedSays (counted f ar score spans marks) ≡ o
-    count-only _ (rows.count-31 n) = ap countedSays (counted-bad (score-bad n))
-    count-only _ (rows.count-30 g h) = ap countedSays (counted-short (score-fine g) h)
-    count-only _ (rows.counts g h) = ap countedSays (counted-on (score-fine g) h)
+    count-only : (o : Says) → CountRow ar score spans marks o → countedSays (counted all ar score spans marks) ≡ o
+    count-only _ (rows.count-31 n) = ap countedSays (counted-bad all marks (score-bad n))
+    count-only _ (rows.count-30 g h) = ap countedSays (counted-short all marks (score-fine g) h)
+    count-only _ (rows.counts g h) = ap countedSays (counted-on all marks (score-fine g) h)
 
-    pub by-count : By (CountRow ar score spans f marks) (countedSays (counted f ar score spans marks))
+    pub by-count : By (CountRow ar score spans marks) (countedSays (counted all ar score spans marks))
     by-count = (count-row, count-only)

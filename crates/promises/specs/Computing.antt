@@ -14,15 +14,20 @@ use Rattle.readers.specs.PlanParts.{pairs, countedPairs, blockAt, labelWord, bl
 use Rattle.walk.specs.Starting.{started}
 use Rattle.walk.specs.Stepping.{look, tried, stepped, run, runBy}
 use Rattle.queue.specs.Targets.{targets, marked}
-use Rattle.counting.specs.Counting.{anyTo, someMatch, numberAt, total}
-use Rattle.counting.specs.Counting.{counted}
+use Rattle.counting.specs.Counting.{foundFrom, total, counted}
+use Rattle.matching.specs.Shapes.{endOf, part, shapeAt}
+use Rattle.matching.specs.Falling.{size, stands, falls, falling, touched}
+use Rattle.clashing.specs.Clashes.{clashNumber, nodesOf}
+use Rattle.clashing.specs.Strays.{matched, strays}
+use Rattle.clashing.specs.Clashing.{clashesIn, clashesOf}
 use Rattle.report.specs.Lines.{written}
 use Rattle.report.specs.Paths.{childOn, pathTo, pathOf}
-use Rattle.report.specs.Text.{digitsTo, digits, dotted, pathText, texts, lines, report}
+use Rattle.report.specs.Text.{digitsTo, digits, dotted, pathText, lines, report}
 
 unfoldable pub computing : ℕ
 unfolding decodeTo childrenOf headOf reading over spansOf sibling childAt follow target wordsOf distancesOf trailerOf overAt symbolsOf sectionsOf
     shapesFrom shapesOf scoreOf stored held opened symbolsGood shapesGood scoreGood pieceAt subtreeAt cleared buildOf pairs countedPairs blockAt
-    labelWord blockOf pairAt pairIn labelOf lengthsOf announcementOf successorOf started targets look marked tried stepped run runBy anyTo someMatch
-    numberAt total counted childOn pathTo pathOf digitsTo digits dotted pathText texts lines report written
+    labelWord blockOf pairAt pairIn labelOf lengthsOf announcementOf successorOf started targets look marked tried stepped run runBy foundFrom total
+    counted endOf part shapeAt size stands falls falling touched clashNumber nodesOf matched strays clashesIn clashesOf childOn pathTo pathOf digitsTo
+    digits dotted pathText lines report written
 computing = 0

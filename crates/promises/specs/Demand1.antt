@@ -5,7 +5,8 @@
 --   paperOf wordsFor   the paper's construction for the shapes that shape words hold; its plan's words
 --   StartRow    31, 30; or a walk that is begun
 --   StepRow     32, 34; or a step, by `StepFound`
---   CountRow    31, 30; or a number, for matches and for clashes
+--   CountRow    31, 30; or the number of matches
+--   ClashRow    19, 31, 30; 35 for a bit that is no match; or the number of matches that clash, by the terms
 --   lineTold wrote   what is said and left in the buffer; a line at the buffer's start, the bytes behind it as they were
 --   LineRow     30 for a buffer under 1,400 bytes (docs/DECISIONS.md); or the line
 --   MatchRow    30; 34 for a node to which no path leads by the spans lent; or the line with the path that does
@@ -23,7 +24,7 @@ use Rattle.kinds.specs.declared.Position.{Position}
 use Rattle.kinds.specs.declared.Reason.{Reason}
 use Rattle.term.specs.Terms.{span, depth, flatten}
 use Rattle.folio.specs.Opening.{Lent, Room, OpenOutcome, opened, openedSays}
-use Rattle.folio.specs.Folio.{Meaning, Shaped, GoodScore, shapeTerms, answered}
+use Rattle.folio.specs.Folio.{Meaning, Shaped, GoodScore, shapeTerms, scoreTerm, answered}
 use Rattle.term.specs.Admitted.{GoodSymbols}
 use Rattle.checks.specs.Again.{subtreeAt}
 use Rattle.checks.specs.declared.Asked.{Asked}
@@ -35,8 +36,10 @@ use Rattle.automaton.specs.Progress.{AllMet, OverGoals, OverStates, wordsOf, To
 use Rattle.plan.specs.Building.{scratchWords, cleared, buildOf, BuildOutcome, builtSays}
 use Rattle.walk.specs.Starting.{Walk, WalkOutcome, begun, started, walkedSays}
 use Rattle.walk.specs.Stepping.{stepped}
-use Rattle.counting.specs.Counting.{total, matchAt, matchesOf, countedSays}
-use Rattle.counting.specs.Clashes.{clashNumber, clash, clashesOf}
+use Rattle.counting.specs.Counting.{Match, matchAt, foundIn, total, matchesOf, countedSays}
+use Rattle.clashing.specs.Clashes.{clashNumber, nodesIn}
+use Rattle.clashing.specs.Strays.{IsMatch}
+use Rattle.clashing.specs.Clashing.{clashesOf}
 use Rattle.readers.specs.BlockWords.{middle}
 use Rattle.readers.specs.PlanParts.{labelOf, labelSays, lengthsOf, blockSays, announcementOf, announcementSays, successorOf, successorSays}
 use Rattle.following.specs.Following.{target, reached, reachedSays}
@@ -48,7 +51,7 @@ use Rattle.promises.specs.Found.{FoundRow, partSays, pairValues, Standin
 use Rattle.promises.specs.Told.{Told, told, By}
 use Rattle.promises.specs.StepFound.{StepFound}
 use Rattle.promises.specs.Refusals.{Given, Framed}
-use Rattle.kinds.specs.Members.{Below}
+use Rattle.kinds.specs.Members.{_∈_, Below}
 use Rattle.sections.specs.Sections.{symbolsAt}
 
 abbrev pub openTold : OpenOutcome → Told Lent
@@ -78,24 +81,25 @@ module _ (ar ws : List ℕ) where
   abbrev pub wordsFor : List (State Ob) → List ℕ
   wordsFor ss = wordsOf paperOf ar (length (shapeTerms ar ws)) ss
 
-module _ (ar ws st plan scratch : List ℕ) where
+module _ (ar ws st : List ℕ) where
   -- "such as opening writes or accepts"
   abbrev pub GoodShapes : Type 0
   GoodShapes = GoodSymbols ar × Shaped ar ws st
 
-  pub data BuildRow : Told (List ℕ × List ℕ) → Type 0 where
-    build-19 : (GoodShapes → ⊥) → BuildRow (told (refusal 19 0) (plan, scratch))
-    build-23 : GoodShapes → length scratch < scratchWords → BuildRow (told (refusal 23 0) (plan, scratch))
-    build-20 : GoodShapes → scratchWords ≤ length scratch → (i : ℕ) → OverGoals (paperOf ar ws) ar i
-        → BuildRow (told (refusal 20 i) (plan, cleared scratch))
-    build-21 : GoodShapes → scratchWords ≤ length scratch → (i : ℕ) → OverStates (paperOf ar ws) ar i
-        → BuildRow (told (refusal 21 i) (plan, cleared scratch))
-    build-22 : GoodShapes → scratchWords ≤ length scratch → (ss : List (State Ob)) → AllMet (paperOf ar ws) ar ss
-        → TooLong (length plan) (wordsFor ar ws ss)
-        → BuildRow (told (refusal 22 0) (plan, cleared scratch))
-    builds : GoodShapes → scratchWords ≤ length scratch → (ss : List (State Ob)) → AllMet (paperOf ar ws) ar ss
-        → Fits (length plan) (wordsFor ar ws ss)
-        → BuildRow (told (gives (length ss ∷ length (wordsFor ar ws ss) ∷ [])) (sets plan 0 (wordsFor ar ws ss), cleared scratch))
+  module _ (plan scratch : List ℕ) where
+    pub data BuildRow : Told (List ℕ × List ℕ) → Type 0 where
+      build-19 : (GoodShapes → ⊥) → BuildRow (told (refusal 19 0) (plan, scratch))
+      build-23 : GoodShapes → length scratch < scratchWords → BuildRow (told (refusal 23 0) (plan, scratch))
+      build-20 : GoodShapes → scratchWords ≤ length scratch → (i : ℕ) → OverGoals (paperOf ar ws) ar i
+          → BuildRow (told (refusal 20 i) (plan, cleared scratch))
+      build-21 : GoodShapes → scratchWords ≤ length scratch → (i : ℕ) → OverStates (paperOf ar ws) ar i
+          → BuildRow (told (refusal 21 i) (plan, cleared scratch))
+      build-22 : GoodShapes → scratchWords ≤ length scratch → (ss : List (State Ob)) → AllMet (paperOf ar ws) ar ss
+          → TooLong (length plan) (wordsFor ar ws ss)
+          → BuildRow (told (refusal 22 0) (plan, cleared scratch))
+      builds : GoodShapes → scratchWords ≤ length scratch → (ss : List (State Ob)) → AllMet (paperOf ar ws) ar ss
+          → Fits (length plan) (wordsFor ar ws ss)
+          → BuildRow (told (gives (length ss ∷ length (wordsFor ar ws ss) ∷ [])) (sets plan 0 (wordsFor ar ws ss), cleared scratch))
 
 -- ---- starting
 module _ (ar score spans : List ℕ) where
@@ -111,11 +115,29 @@ module _ (ar score spans : List ℕ) where
     start-30 : Good → (Roomy w → ⊥) → StartRow w (told (refusal 30 0) w)
     starts : Good → Roomy w → StartRow w (told (gives (1 ∷ 0 ∷ [])) (begun (length score) w))
 
-  -- ---- counting what f counts in the first n marks
-  pub data CountRow (f : List ℕ → ℕ) (marks : List ℕ) : Says → Type 0 where
-    count-31 : (Good → ⊥) → CountRow f marks (refusal 31 0)
-    count-30 : Good → length marks < length score → CountRow f marks (refusal 30 0)
-    counts : Good → length score ≤ length marks → CountRow f marks (gives (f (take (length score) marks) ∷ []))
+  -- ---- counting matches
+  pub data CountRow (marks : List ℕ) : Says → Type 0 where
+    count-31 : (Good → ⊥) → CountRow marks (refusal 31 0)
+    count-30 : Good → length marks < length score → CountRow marks (refusal 30 0)
+    counts : Good → length score ≤ length marks → CountRow marks (gives (total (take (length score) marks) ∷ []))
+
+-- ---- counting clashes
+module _ (ar ws st score spans marks : List ℕ) where
+  -- the matches that the first n marks hold, and whether one is a match of the shapes in the score
+  abbrev pub marked : List Match
+  marked = foundIn (take (length score) marks)
+
+  abbrev pub Stands : Match → Type 0
+  Stands = IsMatch (shapeTerms ar ws) (scoreTerm ar score)
+
+  pub data ClashRow : Says → Type 0 where
+    clash-19 : (GoodShapes ar ws st → ⊥) → ClashRow (refusal 19 0)
+    clash-31 : GoodShapes ar ws st → (Good ar score spans → ⊥) → ClashRow (refusal 31 0)
+    clash-30 : GoodShapes ar ws st → Good ar score spans → length marks < length score → ClashRow (refusal 30 0)
+    clash-35 : GoodShapes ar ws st → Good ar score spans → length score ≤ length marks → (m : Match) → m ∈ marked → (Stands m → ⊥)
+        → ClashRow (refusal 35 0)
+    clashes : GoodShapes ar ws st → Good ar score spans → length score ≤ length marks → ((m : Match) → m ∈ marked → Stands m)
+        → ClashRow (gives (clashNumber (nodesIn (shapeTerms ar ws) (scoreTerm ar score)) marked ∷ []))
 
 -- ---- stepping
 pub data StepRow (plan score spans : List ℕ) (i : ℕ) (w : Walk) : Told Walk → Type 0 where
@@ -146,9 +168,9 @@ pub record Demand1 : Type 0 where
   pub starting : (ar score spans : List ℕ) (w : Walk) → Below 65536 score → By (StartRow ar score spans w) (walkTold (started ar score spans w))
   pub stepping : (plan score spans : List ℕ) (i : ℕ) (w : Walk) → By (StepRow plan score spans i w) (walkTold (stepped plan score spans i w))
   pub matches : (ar score spans marks : List ℕ) → Below 65536 score
-      → By (CountRow ar score spans total marks) (countedSays (matchesOf ar score spans marks))
-  pub clashes : (ar score spans marks : List ℕ) → Below 65536 score
-      → By (CountRow ar score spans (clashNumber (clash spans)) marks) (countedSays (clashesOf ar score spans marks))
+      → By (CountRow ar score spans marks) (countedSays (matchesOf ar score spans marks))
+  pub clashes : (ar ws st score spans marks : List ℕ) → Below 65536 score
+      → By (ClashRow ar ws st score spans marks) (countedSays (clashesOf ar ws st score spans marks))
   pub subtree : (w : Asked) (ar shapes score : List ℕ) → Below 65536 score
       → By (FoundRow (Standing ar shapes score w) flatten) (partSays (subtreeAt w ar shapes score))
   pub label : (plan : List ℕ) (m k s : ℕ) → By (FoundRow (LabelFound plan m k s) (λ c. c ∷ [])) (labelSays (labelOf plan m k s))

@@ -1,13 +1,13 @@
 -- What is promised.
 pub mod Computing
-pub mod Sample
 pub mod Told
 pub mod Refusals
 pub mod Found
 pub mod StepFound
 pub mod Demand1
-pub mod OneFile
 pub mod Reported
+pub mod Sample
+pub mod OneFile
 pub mod Demand2
 pub mod Demand3
 pub mod Construction

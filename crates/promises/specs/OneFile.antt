@@ -12,7 +12,7 @@
 use mathlib.Core.Path.{_≡_}
 use mathlib.Core.List.{List, _++_}
 use Prim.Native.Nat.{ℕ}
-use lib.ListN.{take}
+use lib.ListN.{length, take}
 use Rattle.term.specs.Terms.{Term}
 use Rattle.folio.specs.Opening.{Lent, opened}
 use Rattle.folio.specs.Folio.{shapeTerms, scoreTerm}
@@ -27,6 +27,7 @@ use Rattle.walk.specs.declared.Record.{Record}
 use Rattle.walk.specs.declared.Walked.the-variants as walking
 use Rattle.report.specs.Text.{report}
 use Rattle.kinds.specs.Members.{Below}
+use Rattle.promises.specs.Reported.{totalsOf}
 
 module _ (file : List ℕ) (tables : Lent) (counts : Counts) where
   abbrev pub openedSymbols : List ℕ
@@ -104,4 +105,5 @@ module _ {file : List ℕ} (S : OneFile file) where
   acceptedIn choices = accepted lentIn nodesIn spansIn choices begunIn
 
   abbrev pub reported : List ℕ → List ℕ
-  reported choices = report spansIn (S .counts .depth) (S .size .states) (after choices .marks)
+  reported choices = let marks = after choices .marks in
+      report (totalsOf wordsIn startsIn spansIn (S .counts .depth) (S .size .states) (take (length spansIn) marks)) spansIn marks

@@ -4,20 +4,20 @@
 --   matchOne        a shape's match at a position, if it matches there
 --   matchesAt       the shapes that match at a position, ascending
 --   matchesIn       those of every position, in document order
---   clashIn         "Two matches clash if one's node is the other's or lies under it"
---   clashNumberIn   "the clash number counts matches that clash with at least one other"
---   totalsIn        the numbers of the first line: "nodes, states, matches …, clashes", "a last field, `depth D`, the score's"
+--   totalsIn        the numbers of the first line: "nodes, states, matches …, clashes", "a last field, `depth D`, the score's"; which matches clash is said
+--                   in `Clashes` (clashing/specs), over the shapes' and the score's positions
+--   totalsOf        the same by the tables and the marks
 --   reportIn        the text: the first line, then the lines
-use mathlib.Core.List.{List, [], _∷_, _++_}
-use mathlib.Core.Bool.{Bool, cond, _&&_, _||_}
+use mathlib.Core.List.{List, [], _∷_, _++_, map}
+use mathlib.Core.Bool.{Bool, cond}
 use Prim.Native.Nat.{ℕ}
 use lib.ListN.{length}
-use Rattle.kinds.specs.Lists.{any, filter, gather, concat, mapAt}
-use Rattle.kinds.specs.Positions.{Pos, prefix}
+use Rattle.kinds.specs.Lists.{gather, concat, mapAt}
+use Rattle.kinds.specs.Positions.{Pos}
 use Rattle.term.specs.Terms.{Term, span, depth}
 use Rattle.term.specs.Places.{dom}
-use Rattle.counting.specs.Counting.{Match, matchAt}
-use Rattle.counting.specs.Clashes.{other}
+use Rattle.counting.specs.Counting.{Match, matchAt, foundIn, total}
+use Rattle.clashing.specs.Clashes.{clashNumber, nodesIn, nodesOf}
 use Rattle.report.specs.declared.Totals.{Totals}
 use Rattle.report.specs.Text.{matchLine, firstLine}
 
@@ -36,16 +36,26 @@ module _ (test : Term → Pos → Bool) (shapes : List Term) where
   abbrev pub matchesIn : Term → List MatchIn
   matchesIn t = concat (mapAt matchesAt 0 (dom t))
 
-abbrev pub clashIn : MatchIn → MatchIn → Bool
-clashIn m o = prefix (m .place) (o .place) || prefix (o .place) (m .place)
-
-abbrev pub clashNumberIn : List MatchIn → ℕ
-clashNumberIn ms = length (filter (λ m. any (λ o. other (m .match) (o .match) && clashIn m o) ms) ms)
-
-abbrev pub totalsIn : List MatchIn → Term → ℕ → Totals
-totalsIn ms t states = record { nodes = span t; states = states; matches = length ms; clashes = clashNumberIn ms; depth = depth t }
+abbrev pub totalsIn : List MatchIn → List Term → Term → ℕ → Totals
+totalsIn ms shapes t states = record {
+  nodes = span t;
+  states = states;
+  matches = length ms;
+  clashes = clashNumber (nodesIn shapes t) (map (λ m. m .match) ms);
+  depth = depth t;
+}
 
 abbrev pub reportIn : (Term → Pos → Bool) → List Term → Term → ℕ → List ℕ
 reportIn test shapes t states =
     let ms = matchesIn test shapes t in
-    firstLine (totalsIn ms t states) ++ gather (λ m. matchLine (m .match) (m .place)) ms
+    firstLine (totalsIn ms shapes t states) ++ gather (λ m. matchLine (m .match) (m .place)) ms
+
+-- ms are the marks of the nodes, d the score's depth
+abbrev pub totalsOf : List ℕ → List ℕ → List ℕ → ℕ → ℕ → List ℕ → Totals
+totalsOf words starts spans d states ms = record {
+  nodes = length spans;
+  states = states;
+  matches = total ms;
+  clashes = clashNumber (nodesOf words starts spans) (foundIn ms);
+  depth = d;
+}

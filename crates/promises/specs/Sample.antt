@@ -19,11 +19,12 @@ use Rattle.readers.specs.PlanParts.{labelOf, labelSays, lengthsOf, blockSays, a
 use Rattle.walk.specs.Starting.{Walk, walkOf, counting, started, walkedSays}
 use Rattle.walk.specs.Stepping.{stepped, runBy}
 use Rattle.counting.specs.Counting.{matchesOf, countedSays}
-use Rattle.counting.specs.Clashes.{clashesOf}
+use Rattle.clashing.specs.Clashing.{clashesOf}
 use Rattle.report.specs.Quoted.{bytes}
 use Rattle.report.specs.Lines.{lineOut, writtenSays}
 use Rattle.report.specs.Text.{report}
 use Rattle.promises.specs.Computing.{computing}
+use Rattle.promises.specs.Reported.{totalsOf}
 
 -- rest, join, close with 0, 2, 1 children
 abbrev pub symbols : List ℕ
@@ -39,7 +40,7 @@ scoreBytes = 1 ∷ 0 ∷ 1 ∷ 0 ∷ 0 ∷ 0 ∷ 2 ∷ 0 ∷ 0 ∷ 0 ∷ 2 ∷ 0
 abbrev pub file : List ℕ
 file = symbols ++ (shapeBytes ++ (scoreBytes ++ (41 ∷ 0 ∷ 38 ∷ 0 ∷ 20 ∷ 0 ∷ 83 ∷ 67 ∷ [])))
 
--- what document 01 says that opening and building write; the rows below hold the calls against it, and go on from it
+-- what document 01 says that opening, building and a walk write; the rows below hold the calls against it, and go on from it
 abbrev pub shapeWords : List ℕ
 shapeWords = 1 ∷ 65535 ∷ 2 ∷ 65535 ∷ 1 ∷ 1 ∷ 65535 ∷ 65535 ∷ 65535 ∷ []
 
@@ -61,7 +62,7 @@ marks = 3 ∷ 1 ∷ 0 ∷ 0 ∷ 0 ∷ 0 ∷ 1 ∷ 0 ∷ 0 ∷ 0 ∷ []
 
 -- what find prints
 abbrev pub text : List ℕ
-text = bytes "nodes 10 states 3 matches 4 clashes 4 depth 4\n0 0 -\n0 1 -\n1 0 1\n6 0 2.1\n"
+text = bytes "nodes 10 states 3 matches 4 clashes 3 depth 4\n0 0 -\n0 1 -\n1 0 1\n6 0 2.1\n"
 
 abbrev pub nines : ℕ → List ℕ
 nines n = replicate n 9
@@ -100,13 +101,13 @@ table =
     ∷ row (walkedSays (stepped plan score spans 0 firsts .answer))
     ∷ row (openedSays (opening .answer)) ∷ opening .tables .words ∷ opening .tables .starts ∷ opening .tables .score ∷ opening .tables .spans
     ∷ row (builtSays (building .answer)) ∷ building .plan
-    ∷ row (countedSays (matchesOf symbols score spans (firsts .marks))) ∷ row (countedSays (clashesOf symbols score spans (firsts .marks)))
+    ∷ row (countedSays (matchesOf symbols score spans marks)) ∷ row (countedSays (clashesOf symbols shapeWords starts score spans marks))
     ∷ row (labelSays (labelOf plan 3 3 1)) ∷ row (blockSays (lengthsOf plan 3 3 1 1)) ∷ row (announcementSays (announcementOf plan 3 3 1 1 0)) ∷ row
     (successorSays (successorOf plan 3 3 2 2 0)) ∷ row (labelSays (labelOf plan 3 3 3))
     ∷ row (childSays (childOf (position 2) 1)) ∷ row (reachedSays (reached (target 10 spans 0 11))) ∷ row
     (writtenSays (lineOut spans 6 0 (nines 1399) .answer))
     ∷ row (writtenSays (lineOut spans 10 0 (nines 1400) .answer))
-    ∷ report spans 4 3 (firsts .marks) ∷ []
+    ∷ report (totalsOf shapeWords starts spans 4 3 marks) spans marks ∷ []
 
 abbrev pub claimed : List (List ℕ)
 claimed =
@@ -118,7 +119,7 @@ claimed =
     ∷ (32 ∷ 0 ∷ [])
     ∷ (0 ∷ 3 ∷ 2 ∷ 9 ∷ 10 ∷ 4 ∷ 2 ∷ []) ∷ shapeWords ∷ starts ∷ score ∷ spans
     ∷ (0 ∷ 3 ∷ 56 ∷ []) ∷ (plan ++ (9 ∷ []))
-    ∷ (0 ∷ 4 ∷ []) ∷ (0 ∷ 4 ∷ [])
+    ∷ (0 ∷ 4 ∷ []) ∷ (0 ∷ 3 ∷ [])
     ∷ (0 ∷ 1 ∷ []) ∷ (0 ∷ 1 ∷ 2 ∷ []) ∷ (0 ∷ 1 ∷ 0 ∷ []) ∷ (0 ∷ 0 ∷ 11 ∷ []) ∷ (34 ∷ 0 ∷ [])
     ∷ (0 ∷ 11 ∷ []) ∷ (0 ∷ 6 ∷ []) ∷ (30 ∷ 0 ∷ []) ∷ (34 ∷ 0 ∷ [])
     ∷ text ∷ []

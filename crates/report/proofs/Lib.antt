@@ -2,4 +2,3 @@ pub mod PathLaws
 pub mod FollowPath
 pub mod DigitLaws
 pub mod TextLaws
-pub mod LinesLaws

@@ -8,10 +8,9 @@
 --   matchLine     one match, its node's position given
 --   line          the same by the spans; none where they do not have the node
 --   firstLine     its numbers, each behind its name
---   texts textOf  texts in a row; a text that there is
+--   textOf        a text that there is
 --   lines         by node, then shape; a match whose node the spans do not have has no line
---   totalsOf      the numbers of the first line
---   report        over the spans of the n nodes, the score's depth, the state count and the marks
+--   report        over the first line's numbers, the spans of the n nodes and the marks
 --   refusalText   what a refusal prints
 --   stepOf pathIn numbersIn   what the parts of the code answer: a child, a path at a buffer's start, how many numbers it has
 use Prim.Native.Nat.{ℕ, zero, suc, _+_, _/_, _%_}
@@ -25,8 +24,7 @@ use Rattle.kinds.specs.Lists.{gather}
 use Rattle.kinds.specs.Positions.{Pos}
 use Rattle.kinds.specs.Reasons.{numberOf}
 use Rattle.kinds.specs.declared.Reason.{Reason}
-use Rattle.counting.specs.Counting.{Match, matchAt, found, total}
-use Rattle.counting.specs.Clashes.{clashNumber, clash}
+use Rattle.counting.specs.Counting.{Match, foundIn}
 use Rattle.report.specs.Quoted.{bytes}
 use Rattle.report.specs.Paths.{pathOf}
 use Rattle.report.specs.declared.Totals.{Totals}
@@ -68,27 +66,16 @@ firstLine t =
     ++ (field (bytes " clashes ") (t .clashes)
     ++ (field (bytes " depth ") (t .depth) ++ bytes "\n"))))
 
--- t 0, t 1, …, t (k - 1), one after the other
-unfoldable pub texts : ℕ → (ℕ → List ℕ) → List ℕ
-texts zero t = []
-texts (suc k) t = texts k t ++ t k
-
 -- a text that there is
 abbrev pub textOf : Option (List ℕ) → List ℕ
 textOf none = []
 textOf (some text) = text
 
 unfoldable pub lines : List ℕ → List ℕ → List ℕ
-lines spans ms = texts (length ms) (λ x. texts 16 (λ j. cond (found ms (matchAt x j)) (textOf (line spans (matchAt x j))) []))
+lines spans ms = gather (λ m. textOf (line spans m)) (foundIn ms)
 
--- ms are the marks of the nodes, d the score's depth
-abbrev pub totalsOf : List ℕ → ℕ → ℕ → List ℕ → Totals
-totalsOf spans d states ms = record { nodes = length spans; states = states; matches = total ms; clashes = clashNumber (clash spans) ms; depth = d }
-
-unfoldable pub report : List ℕ → ℕ → ℕ → List ℕ → List ℕ
-report spans d states marks =
-    let ms = take (length spans) marks in
-    firstLine (totalsOf spans d states ms) ++ lines spans ms
+unfoldable pub report : Totals → List ℕ → List ℕ → List ℕ
+report t spans marks = firstLine t ++ lines spans (take (length spans) marks)
 
 abbrev pub refusalText : Reason → ℕ → List ℕ
 refusalText r p = field (bytes "refused ") (numberOf r) ++ (field (bytes " at ") p ++ bytes "\n")

@@ -85,6 +85,9 @@ enum-told-26 c = search needs
 enum-told-27 : tie.Need-enum-told-27
 enum-told-27 c = search needs
 
+enum-told-28 : tie.Need-enum-told-28
+enum-told-28 c = search needs
+
 returns : tie.Need-returns
 returns c = sym (ap numberOf (c .enum-told .given .1))
 
@@ -166,6 +169,9 @@ returns-26 c = sym (ap numberOf (c .enum-told26 .given .1))
 returns-27 : tie.Need-returns-27
 returns-27 c = sym (ap numberOf (c .enum-told27 .given .1))
 
+returns-28 : tie.Need-returns-28
+returns-28 c = sym (ap numberOf (c .enum-told28 .given .1))
+
 pub number-spec : {M : Type 1} → statement M
 number-spec =
     tie.close
@@ -197,6 +203,7 @@ number-spec =
     enum-told-25
     enum-told-26
     enum-told-27
+    enum-told-28
     returns
     returns-2
     returns-3
@@ -223,4 +230,5 @@ number-spec =
     returns-24
     returns-25
     returns-26
-    returns-27)
+    returns-27
+    returns-28)

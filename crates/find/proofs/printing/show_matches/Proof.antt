@@ -6,10 +6,10 @@ use Rattle.find.proofs.printing.show_matches.Statement.{statement}
 use Rattle.find.proofs.printing.show_matches.Tie as tie
 
 abbrev Inv-loop : tie.InvT-loop
-Inv-loop spans marks n out₀ now₀ x₀ out now x = length out ≡ length out₀
+Inv-loop spans marks out₀ now₀ x₀ out now x = length out ≡ length out₀
 
 abbrev μ-loop : tie.MeasureT-loop
-μ-loop spans marks n out₀ now₀ x₀ out now x = 4096 - x
+μ-loop spans marks out₀ now₀ x₀ out now x = 4096 - x
 
 loop-holds : tie.Need-loop-holds Inv-loop μ-loop
 loop-holds c = search needs
@@ -22,12 +22,6 @@ same-length c = search needs
 
 returns : tie.Need-returns Inv-loop μ-loop
 returns c = search needs
-
-same-length-2 : tie.Need-same-length-2 Inv-loop μ-loop
-same-length-2 c = search needs
-
-returns-2 : tie.Need-returns-2 Inv-loop μ-loop
-returns-2 c = search needs
 
 mul-show-mark : tie.Need-mul-show-mark Inv-loop μ-loop
 mul-show-mark c = search needs
@@ -47,11 +41,11 @@ loop-less c = search needs
 loop-again : tie.Need-loop-again Inv-loop μ-loop
 loop-again c = search needs
 
-same-length-3 : tie.Need-same-length-3 Inv-loop μ-loop
-same-length-3 c = search needs
+same-length-2 : tie.Need-same-length-2 Inv-loop μ-loop
+same-length-2 c = search needs
 
-returns-3 : tie.Need-returns-3 Inv-loop μ-loop
-returns-3 c = search needs
+returns-2 : tie.Need-returns-2 Inv-loop μ-loop
+returns-2 c = search needs
 
 pub show-matches-spec : {M : Type 1} → statement M
 show-matches-spec =
@@ -63,13 +57,11 @@ show-matches-spec =
     cast-at
     same-length
     returns
-    same-length-2
-    returns-2
     mul-show-mark
     shared-slice-read-show-mark
     show-mark-requires
     add-x
     loop-less
     loop-again
-    same-length-3
-    returns-3)
+    same-length-2
+    returns-2)

@@ -1,0 +1,162 @@
+-- Over one folio's tables: words say of matches and of the nodes that they touch what the terms say.
+--   shape-words               the words of shape j
+--   in-found                  what is known of a match that marks hold
+--   matched-is is-matched clashes-same   a match by the tables is one by the terms; the clash number is the same by both
+--   SaysOf says-of            the three together, for tables that are those of terms
+use Prim.Native.Nat.{ℕ, zero, suc, _+_, _-_, _*_, _/_, _%_, _<_}
+use mathlib.Core.Path.{_≡_, refl, ap, ap₂, sym, _∙_}
+use mathlib.Core.List.{List, [], _∷_, _++_, append-assoc}
+use mathlib.Core.Bool.{Bool, true, cond, _&&_}
+use mathlib.Core.Option.{some}
+use mathlib.Core.Logic.{⊎-elim}
+use native.Mathlib.Omega.{arith}
+use lib.Dec.{ltb}
+use lib.ListN.{length, getD, getElem?, length-append}
+use lib.Seq.{drop-at, take-at}
+use Rattle.kinds.specs.Lists.{any, gather, filter, range}
+use Rattle.kinds.specs.Members.{_∈_, here}
+use Rattle.kinds.specs.Positions.{Pos}
+use Rattle.kinds.proofs.Bools.{and-l, and-r, both, is-ltb, ltb-is, ltb-suc}
+use Rattle.kinds.proofs.ListLaws.{any-same, filter-same}
+use Rattle.kinds.proofs.Members.{∈-left, ∈-append, in-none, in-filter, in-range, on-map}
+use Rattle.kinds.proofs.Options.{none-not}
+use Rattle.kinds.proofs.Places.{at-in, at-below, at-some}
+use Rattle.term.specs.Terms.{Term, span, flatten, sizes, Fits}
+use Rattle.term.specs.Places.{number, place, Matches}
+use Rattle.term.proofs.Numbers.{node-at, number-place}
+use Rattle.term.proofs.Sizes.{length-flatten}
+use Rattle.term.specs.Admitted.{AreShapes, IsScore}
+use Rattle.folio.specs.Folio.{startsAt}
+use Rattle.folio.proofs.ShapesFound.{length-starts}
+use Rattle.counting.specs.Counting.{Match, matchOf, found, foundFrom, foundIn}
+use Rattle.matching.specs.Shapes.{endOf, part, shapeAt}
+use Rattle.matching.specs.Touching.{touchedAt}
+use Rattle.matching.proofs.LawsShapes.{part-is, words-are}
+use Rattle.matching.proofs.FallsTree.{falls-matches, matches-falls}
+use Rattle.matching.proofs.TouchesTree.{touched-in, in-touched}
+use Rattle.clashing.specs.Clashes.{other, clash, clashing, clashNumber, nodesIn, nodesOf}
+use Rattle.clashing.specs.Strays.{IsMatch, matched}
+use Rattle.clashing.proofs.ClashLaws.{same-share}
+
+-- ---- the words of a shape
+first-end : (pre : List ℕ) (s : Term) (ss : List Term) (at : ℕ) → length pre ≡ at → endOf (pre ++ (flatten s ++ gather flatten ss)) (startsAt at (s ∷ ss)) 0 ≡ at + span s
+unfolding endOf
+first-end pre s [] at e = let l = length-flatten s in simp length-append (omega arith)
+first-end pre s (u ∷ ss) at e = rw (is-ltb 1 (suc (suc (length (startsAt (at + span s + span u) ss)))) (omega arith))
+
+first-part : (pre w r : List ℕ) (at n : ℕ) → length pre ≡ at → length w ≡ n → part (pre ++ (w ++ r)) at (at + n) ≡ w
+first-part pre w r at n e d =
+    let a : length (pre ++ (w ++ r)) ≡ length pre + (length w + length r) = rw (length-append, length-append) in
+    let z : at + n - at ≡ n = omega arith in
+    part-is (pre ++ (w ++ r)) at (at + n) (omega arith) (omega arith) ∙ rw (z, drop-at pre (w ++ r) at e) (take-at w r n d)
+
+shape-part : (ss : List Term) (j : ℕ) (ℓ : Term) (at : ℕ) (pre : List ℕ) → length pre ≡ at → getElem? ss j ≡ some ℓ
+    → part (pre ++ gather flatten ss) (getD (startsAt at ss) j 0) (endOf (pre ++ gather flatten ss) (startsAt at ss) j) ≡ flatten ℓ
+unfolding endOf
+shape-part [] j ℓ at pre e h = none-not h
+shape-part (s ∷ ss) zero ℓ at pre e h =
+    let z : s ≡ ℓ = cc in
+    rw (first-end pre s ss at e, ← z) (first-part pre (flatten s) (gather flatten ss) at (span s) e (length-flatten s))
+shape-part (s ∷ ss) (suc j) ℓ at pre e h =
+    let l : length (pre ++ flatten s) ≡ at + span s = let k = length-flatten s in rw length-append (omega arith) in
+    ap₂ (λ (w : List ℕ) (b : Bool). part w (getD (startsAt (at + span s) ss) j 0) (cond b (getD (startsAt (at + span s) ss) (suc j) 0) (length w)))
+    (sym (append-assoc pre (flatten s) (gather flatten ss))) (ltb-suc (suc j) (length (startsAt (at + span s) ss)))
+    ∙ shape-part ss j ℓ (at + span s) (pre ++ flatten s) l h
+
+pub shape-words : (ss : List Term) (j : ℕ) (ℓ : Term) → getElem? ss j ≡ some ℓ → shapeAt (gather flatten ss) (startsAt 0 ss) j ≡ flatten ℓ
+shape-words ss j ℓ h = let b = at-below ss j h in words-are (gather flatten ss) (startsAt 0 ss) j (rw (length-starts 0 ss) b) ∙ shape-part ss j ℓ 0 [] refl h
+
+-- ---- what marks hold
+pub in-found : (ms : List ℕ) (m : Match) → m ∈ foundIn ms → (m .node < length ms) × (m .shape < 16) × (found ms m ≡ true)
+unfolding foundFrom
+in-found ms m i =
+    on-map matchOf (filter (λ k. found ms (matchOf k)) (range 0 (16 * length ms))) i λ k j e.
+    let f = in-filter (λ k. found ms (matchOf k)) (range 0 (16 * length ms)) j in
+    let b = in-range (16 * length ms) 0 k (f .0) in
+    rw e (omega (arith, b .1), omega arith, f .1)
+
+-- ---- over a folio
+module _ (ar : List ℕ) (ss : List Term) (t : Term) (are : AreShapes ar ss) (score : IsScore ar t) where
+  abbrev W : List ℕ
+  W = gather flatten ss
+
+  abbrev A : List ℕ
+  A = startsAt 0 ss
+
+  abbrev F : List ℕ
+  F = flatten t
+
+  abbrev S : List ℕ
+  S = sizes t
+
+  shape-fits : (j : ℕ) {ℓ : Term} → getElem? ss j ≡ some ℓ → Fits ar 65535 ℓ
+  shape-fits j {ℓ} e = are ℓ (at-in ss j e) .fits
+
+  matched-is : (m : Match) → m .node < span t → matched W A F S m ≡ true → IsMatch ss t m
+  unfolding matched
+  matched-is m h e =
+      let l = length-starts 0 ss in
+      let b : m .shape < length ss = let k = ltb-is (m .shape) (length A) (and-l _ e) in omega arith in
+      let s = at-some ss (m .shape) b in
+      let p = node-at t (m .node) h in
+      record {
+        shape = s .0;
+        place = p .0;
+        has-shape = s .1;
+        has-node = p .1;
+        matches = falls-matches ar 65535 65536 (s .0) t (shape-fits (m .shape) (s .1)) (score .fits) (score .whole)
+            (p .0) (m .node) (p .1)
+            (rw (shape-words ss (m .shape) (s .0) (s .1)) at (and-r (ltb (m .shape) (length A)) e));
+      }
+
+  module _ (m : Match) (is : IsMatch ss t m) where
+    words : shapeAt W A (m .shape) ≡ flatten (is .shape)
+    words = shape-words ss (m .shape) (is .shape) (is .has-shape)
+
+    is-matched : matched W A F S m ≡ true
+    unfolding matched
+    is-matched = let b = at-below ss (m .shape) (is .has-shape) in let l = length-starts 0 ss in
+        both {a = ltb (m .shape) (length A)} (is-ltb (m .shape) (length A) (omega arith))
+        (rw words (matches-falls ar 65535 65536 (is .shape) t (shape-fits (m .shape) (is .has-shape)) (score .fits)
+        (score .whole) (is .place) (m .node) (is .has-node) (is .matches)))
+
+    -- the nodes by the terms, where shape and position are known
+    nodes-at : nodesIn ss t m ≡ (touchedAt (is .shape) t (is .place) ++ []) ++ []
+    nodes-at = rw (is .has-shape, number-place (is .place) t (m .node) (is .has-node)) refl
+
+    nodes-in : (y : ℕ) → y ∈ nodesOf W A S m → y ∈ nodesIn ss t m
+    unfolding nodesOf
+    nodes-in y i =
+        rw nodes-at (∈-left [] (∈-left [] (touched-in ar 65535 65536 (is .shape) t (shape-fits (m .shape) (is .has-shape))
+        (score .fits) (is .place) (m .node) (is .has-node) (is .matches) y (rw words at i))))
+
+    in-nodes : (y : ℕ) → y ∈ nodesIn ss t m → y ∈ nodesOf W A S m
+    unfolding nodesOf
+    in-nodes y i =
+        let j : y ∈ touchedAt (is .shape) t (is .place) = first (first (rw nodes-at at i)) in
+        rw words (in-touched ar 65535 65536 (is .shape) t (shape-fits (m .shape) (is .has-shape))
+        (score .fits) (is .place) (m .node) (is .has-node) (is .matches) y j)
+      where
+        first : {xs : List ℕ} → y ∈ (xs ++ []) → y ∈ xs
+        first {xs} k = ⊎-elim (λ a. a) (λ a. in-none a) (∈-append xs k)
+
+  clashes-same : (all : List Match) → ((m : Match) → m ∈ all → IsMatch ss t m) → clashNumber (nodesOf W A S) all ≡ clashNumber (nodesIn ss t) all
+  unfolding clashNumber
+  clashes-same all is = ap length (filter-same (clashing (nodesOf W A S) all) (clashing (nodesIn ss t) all) all λ m i.
+      any-same (λ o. other m o && clash (nodesOf W A S) m o) (λ o. other m o && clash (nodesIn ss t) m o) all λ o k.
+      ap (λ b. other m o && b) (same-share (nodesOf W A S m) (nodesOf W A S o) (nodesIn ss t m) (nodesIn ss t o)
+      (nodes-in m (is m i)) (in-nodes m (is m i)) (nodes-in o (is o k)) (in-nodes o (is o k))))
+
+-- ---- tables that are those of terms
+pub record SaysOf (ws st score spans : List ℕ) (ss : List Term) (t : Term) : Type 0 where
+  pub is-match : (m : Match) → m .node < length score → matched ws st score spans m ≡ true → IsMatch ss t m
+  pub is-matched : (m : Match) → IsMatch ss t m → matched ws st score spans m ≡ true
+  pub same-number : (all : List Match) → ((m : Match) → m ∈ all → IsMatch ss t m) → clashNumber (nodesOf ws st spans) all ≡ clashNumber (nodesIn ss t) all
+
+pub says-of : (ar ws st score spans : List ℕ) (ss : List Term) (t : Term) → AreShapes ar ss → IsScore ar t → ws ≡ gather flatten ss → st ≡ startsAt 0 ss
+    → score ≡ flatten t → spans ≡ sizes t → SaysOf ws st score spans ss t
+says-of ar ws st score spans ss t are is a b c d = rw (a, b, c, d) (record {
+  is-match = λ m h e. matched-is ar ss t are is m (rw (length-flatten t) at h) e;
+  is-matched = is-matched ar ss t are is;
+  same-number = clashes-same ar ss t are is;
+})

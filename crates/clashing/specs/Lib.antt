@@ -1,0 +1,4 @@
+pub mod Clashes
+pub mod Strays
+pub mod Clashing
+pub mod Passes
