@@ -6,7 +6,7 @@
 use Prim.Native.Nat.{ℕ, zero, suc, _+_, _*_, _/_, _%_, _<_, _≤_}
 use mathlib.Core.Path.{_≡_, refl, ap, sym, _∙_}
 use mathlib.Core.List.{List, [], _∷_, _++_}
-use mathlib.Core.Bool.{Bool, true, false, not, _&&_}
+use mathlib.Core.Bool.{true, false, not, _&&_}
 use mathlib.Core.Logic.{_⊎_, inl, inr}
 use native.Mathlib.Omega.{arith}
 use native.Mathlib.Nat.{zero-add}
@@ -16,13 +16,12 @@ use lib.ListN.{length, getD, replicate, length-replicate}
 use borrow.Author.Tests.{eq-eqb, ne-eqb}
 use Rattle.kinds.specs.Lists.{any, filter, gather, range}
 use Rattle.kinds.specs.Members.{_∈_, here, there, Pairwise}
-use Rattle.kinds.proofs.Bools.{and-l, and-r, both, bool-ext, eqb-is, is-eqb, ltb-is, is-ltb, test, false-true, of-not, not-true}
+use Rattle.kinds.proofs.Bools.{and-l, and-r, both, bool-ext, eqb-is, is-eqb, ltb-is, is-ltb, test, false-true, of-not}
 use Rattle.kinds.proofs.ListLaws.{filter-same}
 use Rattle.kinds.proofs.Members.{on-any, any-of, any-none, gather-in, on-gather}
 use Rattle.kinds.proofs.Pairwise.{pairwise-filter, pairwise-map, pairwise-range}
-use Rattle.counting.specs.Counting.{Match, matchAt, matchOf, found, foundFrom, foundIn}
+use Rattle.counting.specs.Counting.{Match, matchOf, found, foundFrom, foundIn}
 use Rattle.matching.specs.Shapes.{shapeAt}
-use Rattle.matching.specs.Falling.{falls, touched}
 use Rattle.matching.specs.Counts.{raises, isShared}
 use Rattle.clashing.specs.Clashes.{meet, other, clash, clashing, clashNumber, nodesOf}
 use Rattle.clashing.specs.Strays.{matched, strays}

@@ -1,9 +1,8 @@
 -- Over one folio's tables: words say of matches and of the nodes that they touch what the terms say.
 --   shape-words               the words of shape j
---   in-found                  what is known of a match that marks hold
 --   matched-is is-matched clashes-same   a match by the tables is one by the terms; the clash number is the same by both
 --   SaysOf says-of            the three together, for tables that are those of terms
-use Prim.Native.Nat.{ℕ, zero, suc, _+_, _-_, _*_, _/_, _%_, _<_}
+use Prim.Native.Nat.{ℕ, zero, suc, _+_, _-_, _<_}
 use mathlib.Core.Path.{_≡_, refl, ap, ap₂, sym, _∙_}
 use mathlib.Core.List.{List, [], _∷_, _++_, append-assoc}
 use mathlib.Core.Bool.{Bool, true, cond, _&&_}
@@ -13,22 +12,21 @@ use native.Mathlib.Omega.{arith}
 use lib.Dec.{ltb}
 use lib.ListN.{length, getD, getElem?, length-append}
 use lib.Seq.{drop-at, take-at}
-use Rattle.kinds.specs.Lists.{any, gather, filter, range}
-use Rattle.kinds.specs.Members.{_∈_, here}
-use Rattle.kinds.specs.Positions.{Pos}
+use Rattle.kinds.specs.Lists.{gather}
+use Rattle.kinds.specs.Members.{_∈_}
 use Rattle.kinds.proofs.Bools.{and-l, and-r, both, is-ltb, ltb-is, ltb-suc}
 use Rattle.kinds.proofs.ListLaws.{any-same, filter-same}
-use Rattle.kinds.proofs.Members.{∈-left, ∈-append, in-none, in-filter, in-range, on-map}
+use Rattle.kinds.proofs.Members.{∈-left, ∈-append, in-none}
 use Rattle.kinds.proofs.Options.{none-not}
 use Rattle.kinds.proofs.Places.{at-in, at-below, at-some}
 use Rattle.term.specs.Terms.{Term, span, flatten, sizes, Fits}
-use Rattle.term.specs.Places.{number, place, Matches}
+use Rattle.term.specs.Places.{place}
 use Rattle.term.proofs.Numbers.{node-at, number-place}
 use Rattle.term.proofs.Sizes.{length-flatten}
 use Rattle.term.specs.Admitted.{AreShapes, IsScore}
 use Rattle.folio.specs.Folio.{startsAt}
 use Rattle.folio.proofs.ShapesFound.{length-starts}
-use Rattle.counting.specs.Counting.{Match, matchOf, found, foundFrom, foundIn}
+use Rattle.counting.specs.Counting.{Match}
 use Rattle.matching.specs.Shapes.{endOf, part, shapeAt}
 use Rattle.matching.specs.Touching.{touchedAt}
 use Rattle.matching.proofs.LawsShapes.{part-is, words-are}
@@ -39,7 +37,8 @@ use Rattle.clashing.specs.Strays.{IsMatch, matched}
 use Rattle.clashing.proofs.ClashLaws.{same-share}
 
 -- ---- the words of a shape
-first-end : (pre : List ℕ) (s : Term) (ss : List Term) (at : ℕ) → length pre ≡ at → endOf (pre ++ (flatten s ++ gather flatten ss)) (startsAt at (s ∷ ss)) 0 ≡ at + span s
+first-end : (pre : List ℕ) (s : Term) (ss : List Term) (at : ℕ) → length pre ≡ at
+    → endOf (pre ++ (flatten s ++ gather flatten ss)) (startsAt at (s ∷ ss)) 0 ≡ at + span s
 unfolding endOf
 first-end pre s [] at e = let l = length-flatten s in simp length-append (omega arith)
 first-end pre s (u ∷ ss) at e = rw (is-ltb 1 (suc (suc (length (startsAt (at + span s + span u) ss)))) (omega arith))
@@ -65,15 +64,6 @@ shape-part (s ∷ ss) (suc j) ℓ at pre e h =
 
 pub shape-words : (ss : List Term) (j : ℕ) (ℓ : Term) → getElem? ss j ≡ some ℓ → shapeAt (gather flatten ss) (startsAt 0 ss) j ≡ flatten ℓ
 shape-words ss j ℓ h = let b = at-below ss j h in words-are (gather flatten ss) (startsAt 0 ss) j (rw (length-starts 0 ss) b) ∙ shape-part ss j ℓ 0 [] refl h
-
--- ---- what marks hold
-pub in-found : (ms : List ℕ) (m : Match) → m ∈ foundIn ms → (m .node < length ms) × (m .shape < 16) × (found ms m ≡ true)
-unfolding foundFrom
-in-found ms m i =
-    on-map matchOf (filter (λ k. found ms (matchOf k)) (range 0 (16 * length ms))) i λ k j e.
-    let f = in-filter (λ k. found ms (matchOf k)) (range 0 (16 * length ms)) j in
-    let b = in-range (16 * length ms) 0 k (f .0) in
-    rw e (omega (arith, b .1), omega arith, f .1)
 
 -- ---- over a folio
 module _ (ar : List ℕ) (ss : List Term) (t : Term) (are : AreShapes ar ss) (score : IsScore ar t) where

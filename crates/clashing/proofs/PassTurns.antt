@@ -1,10 +1,10 @@
 -- The turns of the passes over the matches: l are those that are left, and m the first of them.
 --   stray-here stray-next stray-end    the search for a bit that is no match
 --   touch-start touch-next touch-end   counting on nodes
---   share-start share-next share-end   counting the matches that share one
+--   share-start share-le share-next share-end   counting the matches that share one
 --   stray-none stray-is, nodes-are share-is   one match
 use Prim.Native.Nat.{ℕ, _+_, _<_, _≤_}
-use mathlib.Core.Path.{_≡_, refl, ap, sym, _∙_}
+use mathlib.Core.Path.{_≡_, ap, sym, _∙_}
 use mathlib.Core.List.{List, [], _∷_}
 use mathlib.Core.Bool.{Bool, true, false, cond, not}
 use native.Mathlib.Omega.{arith}
@@ -34,6 +34,13 @@ module _ (ws st score spans : List ℕ) (l : List Match) where
       → strays ws st score spans l ≡ strays ws st score spans r
   unfolding strays
   stray-next m r e h = rw (e, h)
+
+pub share-le : (N : Match → List ℕ) (cs : List ℕ) (m : Match) (n : ℕ) → n ≡ cond (isShared cs (N m)) 1 0 → n ≤ 1
+share-le N cs m n e = rw e (go (isShared cs (N m)))
+  where
+    go : (b : Bool) → cond b 1 0 ≤ 1
+    go true = omega arith
+    go false = omega arith
 
 module _ (N : Match → List ℕ) (l : List Match) (cs : List ℕ) where
   pub touch-start : (r : List Match) → l ≡ r → raises (gather N l) cs ≡ raises (gather N r) cs

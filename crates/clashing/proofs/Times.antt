@@ -3,7 +3,7 @@
 --   more-is                                a count is above 1 exactly if the node is met more than once
 --   touched-once                           one shape touches a node once
 --   falls-inside                           where it stands, it touches nodes of the score
-use Prim.Native.Nat.{ℕ, zero, suc, _+_, _<_, _≤_}
+use Prim.Native.Nat.{ℕ, suc, _+_, _<_, _≤_}
 use mathlib.Core.Path.{_≡_, refl, sym, _∙_}
 use mathlib.Core.List.{List, [], _∷_, _++_}
 use mathlib.Core.Bool.{true, cond}
@@ -66,24 +66,29 @@ module _ (bl : ℕ) (spans : List ℕ) where
   touched-low [] x y h = refl
   touched-low (w ∷ ws) x y h = times-append y (falling bl w x) _ ∙ go (decLt w bl) (touched-low ws (x + size bl spans w x) y (omega arith))
     where
-      go : Dec (w < bl) → times y (touched bl spans ws (x + size bl spans w x)) ≡ 0 → times y (falling bl w x) + times y (touched bl spans ws (x + size bl spans w x)) ≡ 0
+      go : Dec (w < bl) → times y (touched bl spans ws (x + size bl spans w x)) ≡ 0
+          → times y (falling bl w x) + times y (touched bl spans ws (x + size bl spans w x)) ≡ 0
       go (yes l) rest = rw (falling-some bl w x l, ne-eqb x y (λ e. omega arith), rest)
       go (no l) rest = rw (falling-none bl w x (omega arith), rest)
 
   pub touched-once : (ws : List ℕ) (x y : ℕ) → times y (touched bl spans ws x) ≤ 1
   unfolding touched
   touched-once [] x y = omega arith
-  touched-once (w ∷ ws) x y = rw (times-append y (falling bl w x) (touched bl spans ws (x + size bl spans w x))) (go (decLt w bl) (ℕ-discrete x y) (touched-once ws (x + size bl spans w x) y))
+  touched-once (w ∷ ws) x y = rw (times-append y (falling bl w x) (touched bl spans ws (x + size bl spans w x)))
+      (go (decLt w bl) (ℕ-discrete x y) (touched-once ws (x + size bl spans w x) y))
     where
-      go : Dec (w < bl) → Dec (x ≡ y) → times y (touched bl spans ws (x + size bl spans w x)) ≤ 1 → times y (falling bl w x) + times y (touched bl spans ws (x + size bl spans w x)) ≤ 1
-      go (yes l) (yes e) ih = let s = size-one bl spans w x l in let z = touched-low ws (x + size bl spans w x) y (omega arith) in rw (falling-some bl w x l, eq-eqb x y e, z) (omega arith)
+      go : Dec (w < bl) → Dec (x ≡ y) → times y (touched bl spans ws (x + size bl spans w x)) ≤ 1
+          → times y (falling bl w x) + times y (touched bl spans ws (x + size bl spans w x)) ≤ 1
+      go (yes l) (yes e) ih = let s = size-one bl spans w x l in let z = touched-low ws (x + size bl spans w x) y (omega arith) in rw
+          (falling-some bl w x l, eq-eqb x y e, z) (omega arith)
       go (yes l) (no e) ih = rw (falling-some bl w x l, ne-eqb x y e) (omega arith)
       go (no l) e ih = rw (falling-none bl w x (omega arith)) (omega arith)
 
   pub falls-inside : (score ws : List ℕ) (x y : ℕ) → falls bl score spans ws x ≡ true → y ∈ touched bl spans ws x → y < length score
   unfolding falls touched
   falls-inside score [] x y e m = in-none m
-  falls-inside score (w ∷ ws) x y e m = ⊎-elim (λ i. go (decLt w bl) (decLt x (length score)) i) (λ i. falls-inside score ws (x + size bl spans w x) y (and-r (stands bl score w x) e) i) (∈-append (falling bl w x) m)
+  falls-inside score (w ∷ ws) x y e m = ⊎-elim (λ i. go (decLt w bl) (decLt x (length score)) i)
+      (λ i. falls-inside score ws (x + size bl spans w x) y (and-r (stands bl score w x) e) i) (∈-append (falling bl w x) m)
     where
       go : Dec (w < bl) → Dec (x < length score) → y ∈ falling bl w x → y < length score
       go (yes l) (yes k) i = let q : y ≡ x = in-one (rw (falling-some bl w x l) at i) in omega arith

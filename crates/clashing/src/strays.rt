@@ -16,9 +16,8 @@ pub fn has_stray(words: &[u16], starts: &[u16], score: &[u16], spans: &[u16], ma
     requires { ⌜ length (now marks) ≤ 4096 ⌝ }
     ensures { λ r. ⌜ r ≡ strays (now (words .entry)) (now (starts .entry)) (now (score .entry)) (now (spans .entry)) (foundIn (now (marks .entry))) ⌝ }
 {
-    let end = 16 * marks.len();
     let mut k = next_match(marks, 0);
-    while k < end {
+    while k / 16 < marks.len() {
         if is_stray(words, starts, score, spans, k) {
             return true;
         }

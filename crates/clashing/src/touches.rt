@@ -20,9 +20,8 @@ pub fn touch_all(words: &[u16], starts: &[u16], spans: &[u16], marks: &[u16], co
     requires { ⌜ length (now marks) ≤ 4096 ⌝ }
     ensures { λ r. ⌜ now (counts .exit) ≡ raises (gather (nodesOf (now (words .entry)) (now (starts .entry)) (now (spans .entry))) (foundIn (now (marks .entry)))) (now (counts .entry)) ⌝ }
 {
-    let end = 16 * marks.len();
     let mut k = next_match(marks, 0);
-    while k < end {
+    while k / 16 < marks.len() {
         touch_match(words, starts, spans, k, counts);
         k = next_match(marks, k + 1);
     }
@@ -47,10 +46,9 @@ pub fn count_all(
     requires { ⌜ length (now marks) ≤ 4096 ⌝ }
     ensures { λ r. ⌜ r ≡ sharing (nodesOf (now (words .entry)) (now (starts .entry)) (now (spans .entry))) (now (counts .entry)) (foundIn (now (marks .entry))) ⌝ }
 {
-    let end = 16 * marks.len();
     let mut sum: usize = 0;
     let mut k = next_match(marks, 0);
-    while k < end {
+    while k / 16 < marks.len() {
         sum += count_match(words, starts, spans, k, counts);
         k = next_match(marks, k + 1);
     }
@@ -60,7 +58,7 @@ pub fn count_all(
 // 1 if match number k touches such a node, else 0.
 fn count_match(words: &[u16], starts: &[u16], spans: &[u16], k: usize, counts: &[u16]) -> usize
     requires { ⌜ k < 65536 ⌝ }
-    ensures { λ r. ⌜ (r ≤ 1) × (r ≡ cond (isShared (now (counts .entry)) (nodesOf (now (words .entry)) (now (starts .entry)) (now (spans .entry)) (matchOf k))) 1 0) ⌝ }
+    ensures { λ r. ⌜ r ≡ cond (isShared (now (counts .entry)) (nodesOf (now (words .entry)) (now (starts .entry)) (now (spans .entry)) (matchOf k))) 1 0 ⌝ }
 {
     let shape = words_of(words, starts, Shape((k % 16) as u16));
     if is_shared(shape, BLANK, spans, Node((k / 16) as u16), counts) {

@@ -1,11 +1,12 @@
 -- The matches that marks hold, node by node.
 --   foundOne foundAt   a shape's match at a node, if there is one; the matches of a node
 --   found-nodes        all are those of each node
+--   in-found           what is known of one of them
 --   total-found        how many there are
 use mathlib.Core.Path.{_≡_, refl, ap, ap₂, sym, _∙_}
 use mathlib.Core.List.{List, [], _∷_, _++_, map, append-nil}
 use mathlib.Core.Bool.{Bool, true, false, cond}
-use Prim.Native.Nat.{ℕ, zero, suc, _+_, _*_, _/_, _%_}
+use Prim.Native.Nat.{ℕ, zero, suc, _+_, _*_, _/_, _%_, _<_}
 use native.Mathlib.Omega.{arith}
 use native.Mathlib.Nat.{add-zero, zero-add}
 use lib.Dec.{eqb}
@@ -15,7 +16,8 @@ use Rattle.kinds.specs.Bits.{bit, sumTo}
 use Rattle.kinds.proofs.Bools.{eqb-is, is-eqb, false-true}
 use Rattle.kinds.proofs.BitLaws.{clear-or-set}
 use Rattle.kinds.proofs.ListLaws.{filter-append, map-append, gather-append, gather-same, range-append, range-next}
-use Rattle.kinds.proofs.Members.{in-range}
+use Rattle.kinds.specs.Members.{_∈_}
+use Rattle.kinds.proofs.Members.{in-filter, in-range, on-map}
 use Rattle.counting.specs.Counting.{Match, matchAt, matchOf, found, foundFrom, foundIn, total}
 
 abbrev pub one : Bool → Match → List Match
@@ -75,6 +77,15 @@ module _ (ms : List ℕ) where
 
   pub found-nodes : foundIn ms ≡ gather (foundAt ms) (range 0 (length ms))
   found-nodes = nodes-found (length ms)
+
+-- ---- one of them
+pub in-found : (ms : List ℕ) (m : Match) → m ∈ foundIn ms → (m .node < length ms) × (m .shape < 16) × (found ms m ≡ true)
+unfolding foundFrom
+in-found ms m i =
+    on-map matchOf (filter (λ k. found ms (matchOf k)) (range 0 (16 * length ms))) i λ k j e.
+    let f = in-filter (λ k. found ms (matchOf k)) (range 0 (16 * length ms)) j in
+    let b = in-range (16 * length ms) 0 k (f .0) in
+    rw e (omega (arith, b .1), omega arith, f .1)
 
 -- ---- all
 length-to : {A : Type 0} (k c : ℕ) (f : ℕ → ℕ) (g : ℕ → List A) → ((i : ℕ) → f i ≡ length (g (c + i))) → sumTo k f ≡ length (gather g (range c k))

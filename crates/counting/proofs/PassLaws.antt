@@ -1,62 +1,65 @@
 -- From match to match.
 --   next-here next-end next-turn   the search for the next match: it is here; none is left; the next numbers are none
---   none-behind behind-in          which those are
+--   none-left, low-in low-found none-low   what a mark's bits from a number on tell
 --   restFrom At                    the matches from number k on; k is where the first of them is, or the end
 --   pass-start pass-next pass-end  a loop over all matches
 use Prim.Native.Nat.{ℕ, zero, suc, _+_, _-_, _*_, _/_, _%_, _^_, _<_, _≤_}
-use mathlib.Core.Path.{_≡_, refl, ap, ap₂, sym, _∙_}
+use mathlib.Core.Path.{_≡_, refl, ap, sym, _∙_}
 use mathlib.Core.List.{List, [], _∷_}
 use mathlib.Core.Bool.{Bool, true, false}
 use native.Mathlib.Omega.{arith}
-use native.Mathlib.Nat.{add-zero, zero-add, div-div-eq-div-mul, div-eq-of-lt}
-use native.Mathlib.Decide.{ℕ-discrete}
-use borrow.Author.Tests.{eq-eqb, ne-eqb}
+use native.Mathlib.Nat.{add-zero, zero-add, div-le-self}
+use native.Mathlib.Decide.{decLt}
 use lib.Dec.{eqb}
 use lib.ListN.{length, getD}
-use lib.Pow.{pow-pos, pow-add}
+use lib.Count.{trailingZeros}
+use lib.Pow.{pow-mono}
 use Rattle.kinds.specs.Bits.{bit}
-use Rattle.kinds.proofs.Bools.{false-true}
+use Rattle.kinds.proofs.BitLaws.{clear-or-set, no-bit, low-clear, low-set, bit-shifted, bit-past}
 use Rattle.counting.specs.Counting.{Match, matchOf, found, foundFrom, foundIn}
-use Rattle.counting.specs.Passing.{nextOf, behind}
+use Rattle.counting.specs.Passing.{nextOf}
 
--- ---- a mark's bits
-shifted-out : (m a c : ℕ) → m / 2 ^ a ≡ 0 → m / 2 ^ (a + c) ≡ 0
-shifted-out m a c e =
-    ap (λ (n : ℕ). m / n) (pow-add 2 a c) ∙ sym (div-div-eq-div-mul m (2 ^ a) (2 ^ c)) ∙ ap (λ (n : ℕ). n / 2 ^ c) e ∙ div-eq-of-lt (pow-pos c)
+-- ---- a mark's bits from number k on
+module _ (ms : List ℕ) (k : ℕ) (fits : getD ms (k / 16) 0 < 2 ^ 16) where
+  abbrev mark : ℕ
+  mark = getD ms (k / 16) 0
 
--- a mark's bits from number k on
-abbrev restOf : List ℕ → ℕ → ℕ
-restOf ms k = getD ms (k / 16) 0 / 2 ^ (k % 16)
+  abbrev rest : ℕ
+  rest = mark / 2 ^ (k % 16)
 
-module _ (ms : List ℕ) (k : ℕ) where
-  pub here-found : restOf ms k % 2 ≡ 1 → found ms (matchOf k) ≡ true
-  here-found e = eq-eqb (bit (getD ms (k / 16) 0) (k % 16)) 1 e
+  -- number k + i, where the mark has a bit for it
+  at-number : (i b : ℕ) → k % 16 + i < 16 → bit rest i ≡ b → found ms (matchOf (k + i)) ≡ eqb b 1
+  at-number i b h e =
+      let q : (k + i) / 16 ≡ k / 16 = omega arith in
+      let r : (k + i) % 16 ≡ k % 16 + i = omega arith in
+      rw (q, r) (ap (λ n. eqb n 1) (sym (bit-shifted mark (k % 16) i) ∙ e))
 
-  -- the numbers that are passed over are no matches
-  pub none-behind : (restOf ms k % 2 ≡ 1 → ⊥) → (d : ℕ) → d ≡ behind (restOf ms k) k → (i : ℕ) → i < d → found ms (matchOf (k + i)) ≡ false
-  none-behind clear d e i h = go (ℕ-discrete (restOf ms k) 0)
-    where
-      zeros : restOf ms k ≡ 0 → d ≡ 16 - k % 16 → found ms (matchOf (k + i)) ≡ false
-      zeros z l =
-          let a : (k + i) / 16 ≡ k / 16 = omega arith in
-          let b : (k + i) % 16 ≡ k % 16 + i = omega arith in
-          let o : getD ms (k / 16) 0 / 2 ^ (k % 16 + i) ≡ 0 = shifted-out (getD ms (k / 16) 0) (k % 16) i z in
-          rw (a, b, o) refl
+  pub none-left : rest ≡ 0 → (i : ℕ) → i < 16 - k % 16 → found ms (matchOf (k + i)) ≡ false
+  none-left z i h = at-number i 0 (omega arith) (ap (λ n. bit n i) z ∙ clear-or-set 0 i (no-bit i))
 
-      one : d ≡ 1 → found ms (matchOf (k + i)) ≡ false
-      one l = let z : i ≡ 0 = omega arith in rw (z, add-zero) (ne-eqb (bit (getD ms (k / 16) 0) (k % 16)) 1 clear)
+  module _ (more : rest ≡ 0 → ⊥) where
+    abbrev low : ℕ
+    low = trailingZeros 16 rest
 
-      go : Dec (restOf ms k ≡ 0) → found ms (matchOf (k + i)) ≡ false
-      go (yes z) = zeros z (e ∙ rw (eq-eqb (restOf ms k) 0 z))
-      go (no n) = one (e ∙ rw (ne-eqb (restOf ms k) 0 n))
+    low-one : bit rest low ≡ 1
+    low-one = low-set 16 rest (let l = div-le-self mark (2 ^ (k % 16)) in omega arith) (omega arith)
 
-  -- the next number is within the marks, and further on
-  pub behind-in : (n d : ℕ) → k / 16 < n → d ≡ behind (restOf ms k) k → (k + d ≤ 16 * n) × (0 < d)
-  behind-in n d h e = go (ℕ-discrete (restOf ms k) 0)
-    where
-      go : Dec (restOf ms k ≡ 0) → (k + d ≤ 16 * n) × (0 < d)
-      go (yes z) = let a : d ≡ 16 - k % 16 = e ∙ rw (eq-eqb (restOf ms k) 0 z) in (omega arith, omega arith)
-      go (no z) = let a : d ≡ 1 = e ∙ rw (ne-eqb (restOf ms k) 0 z) in (omega arith, omega arith)
+    pub low-in : k % 16 + low < 16
+    low-in = go (decLt (k % 16 + low) 16)
+      where
+        go : Dec (k % 16 + low < 16) → k % 16 + low < 16
+        go (yes h) = h
+        go (no h) =
+            let p : 2 ^ 16 ≤ 2 ^ (k % 16 + low) = pow-mono {i = 16} {j = k % 16 + low} (omega arith) in
+            let z = bit-past mark (k % 16 + low) (omega arith) in
+            let o = sym (bit-shifted mark (k % 16) low) ∙ low-one in
+            absurd (omega arith)
+
+    pub low-found : found ms (matchOf (k + low)) ≡ true
+    low-found = at-number low 1 low-in low-one
+
+    pub none-low : (i : ℕ) → i < low → found ms (matchOf (k + i)) ≡ false
+    none-low i h = at-number i 0 (let l = low-in in omega arith) (low-clear 16 rest i h)
 
 -- ---- the next match
 module _ (ms : List ℕ) where
@@ -136,14 +139,15 @@ module _ (ms : List ℕ) where
       )
 
   pub pass-start : (k : ℕ) → k ≡ nextOf ms 0 (16 * length ms - 0) → At k × (foundIn ms ≡ restFrom k)
-  pass-start k e = let a = at-next 0 k (omega arith) e in let z : 16 * length ms - 0 ≡ 16 * length ms = omega arith in (a .0, ap (foundFrom ms 0) (sym z) ∙ a .2)
+  pass-start k e = let a = at-next 0 k (omega arith) e in let z : 16 * length ms - 0
+      ≡ 16 * length ms = omega arith in (a .0, ap (foundFrom ms 0) (sym z) ∙ a .2)
 
   pub record Turn (k r : ℕ) : Type 0 where
     pub at : At r
     pub more : k < r
     pub one : restFrom k ≡ matchOf k ∷ restFrom r
 
-  pub pass-next : (k r : ℕ) → At k → k < 16 * length ms → r ≡ nextOf ms (k + 1) (16 * length ms - (k + 1)) → Turn k r
+  pub pass-next : (k r : ℕ) → At k → k / 16 < length ms → r ≡ nextOf ms (k + 1) (16 * length ms - (k + 1)) → Turn k r
   pass-next k r a h e =
       let n = at-next (k + 1) r (omega arith) e in
       let low = n .1 in
@@ -152,10 +156,10 @@ module _ (ms : List ℕ) where
       record {
         at = n .0;
         more = omega (arith, low);
-        one = ap (foundFrom ms k) z ∙ from-found k (16 * length ms - (k + 1)) (a .hit h)
+        one = ap (foundFrom ms k) z ∙ from-found k (16 * length ms - (k + 1)) (a .hit (omega arith))
             ∙ ap (λ l. matchOf k ∷ l) (ap (λ i. foundFrom ms i (16 * length ms - (k + 1))) s ∙ n .2);
       }
 
-  pub pass-end : (k : ℕ) → 16 * length ms ≤ k → restFrom k ≡ []
+  pub pass-end : (k : ℕ) → length ms ≤ k / 16 → restFrom k ≡ []
   unfolding foundFrom
   pass-end k h = let z : 16 * length ms - k ≡ 0 = omega arith in ap (foundFrom ms k) z

@@ -1,7 +1,7 @@
 ghost use mathlib.Core.Path.{_≡_};
 ghost use Prim.Native.Nat.{_-_, _*_, _≤_};
 ghost use lib.ListN.{length};
-ghost use Rattle.counting.specs.Passing.{nextOf, behind};
+ghost use Rattle.counting.specs.Passing.{nextOf};
 
 // The number of the first match that the marks hold from a number on; behind the last one, 16 times the marks.
 // Number k is shape k % 16 at node k / 16.
@@ -12,20 +12,10 @@ pub fn next_match(marks: &[u16], from: usize) -> usize
     let mut k = from;
     while k / 16 < marks.len() {
         let rest = marks[k / 16] >> (k % 16);
-        if rest % 2 == 1 {
-            return k;
+        if rest != 0 {
+            return k + u16::trailing_zeros(rest) as usize;
         }
-        k += behind(rest, k);
+        k += 16 - k % 16;
     }
     k
-}
-
-// How far the next number is that may be a match, where the mark's bits from number k on are `rest`.
-fn behind(rest: u16, k: usize) -> usize
-    ensures { λ r. ⌜ r ≡ behind rest k ⌝ }
-{
-    if rest == 0 {
-        return 16 - k % 16;
-    }
-    1
 }

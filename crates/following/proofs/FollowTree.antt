@@ -1,5 +1,5 @@
 -- Following a position from a node by spans is following it in the tree, or none in both.
---   Stands                     a list stands in another from an index on
+--   Stands past only-first     a list stands in another from an index on; so do what is behind its front, and its front
 --   stands-at words-stand sizes-stand   what lists a term's nodes in preorder lists each subterm's where its node is
 --   word-at span-at            the word and the span at a position's node
 --   follow-is follow-at        following by spans reaches the number of the position, if it has one
@@ -37,10 +37,10 @@ pub record Stands (S : List ℕ) (c : ℕ) (l : List ℕ) : Type 0 where
 pub stands-all : (l : List ℕ) → Stands l 0 l
 stands-all l = record { front = []; back = []; whole = sym (append-nil l); place = refl }
 
-past : (S : List ℕ) (c : ℕ) (a b : List ℕ) → Stands S c (a ++ b) → Stands S (c + length a) b
+pub past : (S : List ℕ) (c : ℕ) (a b : List ℕ) → Stands S c (a ++ b) → Stands S (c + length a) b
 past S c a b h = record { front = h .front ++ a; back = h .back; whole = h .whole ∙ simp append-assoc; place = rw (length-append, h .place) }
 
-only-first : (S : List ℕ) (c : ℕ) (a b : List ℕ) → Stands S c (a ++ b) → Stands S c a
+pub only-first : (S : List ℕ) (c : ℕ) (a b : List ℕ) → Stands S c (a ++ b) → Stands S c a
 only-first S c a b h = record { front = h .front; back = b ++ h .back; whole = h .whole ∙ simp append-assoc; place = h .place }
 
 stands-length : (S : List ℕ) (c : ℕ) (l : List ℕ) → Stands S c l → c + length l ≤ length S

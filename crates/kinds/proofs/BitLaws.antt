@@ -1,9 +1,9 @@
 -- Bits of a mark or a mask.
---   one-shifted or-with bit-same bit-other bit-le   a bit set, and the others
+--   one-shifted or-with bit-same bit-other   a bit set, and the others
 --   clear-or-set no-bit bits-same            a bit is 0 or 1; numbers with the same bits are the same
 --   bit-zero bit-suc                         the lowest bit, and the bits of the half
---   ones-bits on-ones on-other ones-some ones-two ones-none ones-zero   how many are set
---   up-ext up-zero up-last                           sums over the first numbers
+--   low-clear low-set, bit-shifted bit-past  the lowest bit that is set; bits above
+--   ones-bits                                how many are set
 use Prim.Native.Nat.{ℕ, zero, suc, _+_, _-_, _*_, _/_, _%_, _^_, _<_, _≤_, max}
 use mathlib.Core.Path.{_≡_, refl, ap, ap₂, sym, _∙_}
 use mathlib.Core.Bool.{cond}
@@ -14,7 +14,7 @@ use native.Mathlib.Decide.{decLt}
 use lib.Dec.{eqb, lit<}
 use lib.Arith.{lt-one}
 use lib.Bits.{bitOr, or-step, or-block, or-zero-r, or-shr, or-mod}
-use lib.Count.{ones, ones-step}
+use lib.Count.{ones, ones-step, trailingZeros, under}
 use lib.Pow.{split, pow-pos, pow-add, pow-lt, shl-shr, shl-exact, high}
 use Rattle.kinds.specs.Bits.{bit, withBit, sumTo}
 
@@ -106,11 +106,39 @@ pub no-bit : (j : ℕ) → bit 0 j ≡ 1 → ⊥
 no-bit j e = let z : 0 / 2 ^ j ≡ 0 = div-eq-of-lt (pow-pos j) in let y : 0 / 2 ^ j % 2 ≡ 0 = rw z in omega arith
 
 -- numbers with the same bits are the same
-pub bit-zero : (m : ℕ) → bit m 0 ≡ m % 2
+bit-zero : (m : ℕ) → bit m 0 ≡ m % 2
 bit-zero m = ap (λ (x : ℕ). x % 2) (div-one m)
 
-pub bit-suc : (m j : ℕ) → bit (m / 2) j ≡ bit m (suc j)
+bit-suc : (m j : ℕ) → bit (m / 2) j ≡ bit m (suc j)
 bit-suc m j = ap (λ (x : ℕ). x % 2) (div-div-eq-div-mul m 2 (2 ^ j) ∙ ap (λ (x : ℕ). m / x) (sym (pow-succ' 2 j)))
+
+-- the lowest bit that is set
+pub low-clear : (w n i : ℕ) → i < trailingZeros w n → bit n i ≡ 0
+unfolding trailingZeros
+low-clear zero n i h = absurd (omega arith)
+low-clear (suc w) n i h = go (n % 2) refl i h (low-clear w (n / 2))
+  where
+    go : (b : ℕ) → n % 2 ≡ b → (i : ℕ) → i < under b (trailingZeros w (n / 2)) → ((j : ℕ) → j < trailingZeros w (n / 2) → bit (n / 2) j ≡ 0) → bit n i ≡ 0
+    go zero e zero l ih = bit-zero n ∙ e
+    go zero e (suc i) l ih = sym (bit-suc n i) ∙ ih i (omega arith)
+    go (suc b) e i l ih = absurd (omega arith)
+
+pub low-set : (w n : ℕ) → n < 2 ^ w → 0 < n → bit n (trailingZeros w n) ≡ 1
+unfolding trailingZeros
+low-set zero n h g = let z = lt-one h in absurd (omega arith)
+low-set (suc w) n h g = go (n % 2) refl (mod-lt n (lit< tt)) (λ l. low-set w (n / 2) (omega (arith, pow-succ' 2 w)) l)
+  where
+    go : (b : ℕ) → n % 2 ≡ b → b < 2 → (0 < n / 2 → bit (n / 2) (trailingZeros w (n / 2)) ≡ 1) → bit n (under b (trailingZeros w (n / 2))) ≡ 1
+    go zero e l ih = sym (bit-suc n (trailingZeros w (n / 2))) ∙ ih (omega arith)
+    go (suc zero) e l ih = bit-zero n ∙ e
+    go (suc (suc b)) e l ih = absurd (omega arith)
+
+-- the bits of what is left when the lowest are shifted out
+pub bit-shifted : (m a i : ℕ) → bit (m / 2 ^ a) i ≡ bit m (a + i)
+bit-shifted m a i = ap (λ (x : ℕ). x % 2) (div-div-eq-div-mul m (2 ^ a) (2 ^ i) ∙ ap (λ (x : ℕ). m / x) (sym (pow-add 2 a i)))
+
+pub bit-past : (m a : ℕ) → m < 2 ^ a → bit m a ≡ 0
+bit-past m a h = ap (λ (x : ℕ). x % 2) (div-eq-of-lt h)
 
 bits-same-up : (n a b : ℕ) → a ≤ n → b ≤ n → ((j : ℕ) → bit a j ≡ bit b j) → a ≡ b
 bits-same-up zero a b la lb h = omega arith
@@ -129,7 +157,7 @@ bits-same a b h = bits-same-up (a + b) a b (omega arith) (omega arith) (λ j. on
 
 -- ---- the ones of a number below 2 ^ k are its first k bits
 
-pub up-ext : (n : ℕ) (f g : ℕ → ℕ) → ((j : ℕ) → j < n → f j ≡ g j) → sumTo n f ≡ sumTo n g
+up-ext : (n : ℕ) (f g : ℕ → ℕ) → ((j : ℕ) → j < n → f j ≡ g j) → sumTo n f ≡ sumTo n g
 up-ext zero f g e = refl
 up-ext (suc n) f g e = ap₂ (λ (x y : ℕ). x + y) (e 0 (omega arith)) (up-ext n (λ j. f (suc j)) (λ j. g (suc j)) (λ j h. e (suc j) (omega arith)))
 
@@ -143,79 +171,3 @@ ones-bits (suc k) m h =
     (sym (ap (λ (x : ℕ). x % 2) (div-one m)))
     (ones-bits k (m / 2) half
     ∙ up-ext k (bit (m / 2)) (λ j. bit m (suc j)) (λ j l. bit-suc m j))
-
--- ---- sums of bits
-
-up-pos {κ} : {C : Type κ} (n : ℕ) (f : ℕ → ℕ) → 0 < sumTo n f → ((k : ℕ) → k < n → 0 < f k → C) → C
-up-pos zero f h c = absurd (omega arith)
-up-pos {C = C} (suc n) f h c = go (decLt 0 (f 0)) (up-pos n (λ j. f (suc j)))
-  where
-    go : Dec (0 < f 0) → (0 < sumTo n (λ j. f (suc j)) → ((k : ℕ) → k < n → 0 < f (suc k) → C) → C) → C
-    go (yes q) ih = c 0 (omega arith) q
-    go (no q) ih = ih (omega arith) (λ k l. c (suc k) (omega arith))
-
-up-ge : (n : ℕ) (f : ℕ → ℕ) (j : ℕ) → j < n → f j ≤ sumTo n f
-up-ge zero f j h = absurd (omega arith)
-up-ge (suc n) f zero h = omega arith
-up-ge (suc n) f (suc j) h = let ih = up-ge n (λ i. f (suc i)) j (omega arith) in omega arith
-
-up-two : (n : ℕ) (f : ℕ → ℕ) (j k : ℕ) → j < n → k < n → (j ≡ k → ⊥) → f j + f k ≤ sumTo n f
-up-two zero f j k h g ne = absurd (omega arith)
-up-two (suc n) f zero zero h g ne = absurd (ne refl)
-up-two (suc n) f zero (suc k) h g ne = let i = up-ge n (λ i. f (suc i)) k (omega arith) in omega arith
-up-two (suc n) f (suc j) zero h g ne = let i = up-ge n (λ i. f (suc i)) j (omega arith) in omega arith
-up-two (suc n) f (suc j) (suc k) h g ne = let ih = up-two n (λ i. f (suc i)) j k (omega arith) (omega arith) (λ e. ne (ap suc e)) in omega arith
-
-up-other {κ} : {C : Type κ} (n : ℕ) (f : ℕ → ℕ) (j : ℕ) → ((i : ℕ) → f i ≤ 1) → 1 < sumTo n f → ((k : ℕ) → k < n → (j ≡ k → ⊥) → 0 < f k → C) → C
-up-other zero f j small h c = absurd (omega arith)
-up-other (suc n) f zero small h c =
-    let s = small 0 in
-    up-pos n (λ i. f (suc i)) (omega arith) (λ k l q. c (suc k) (omega arith) (λ e. omega arith) q)
-up-other {C = C} (suc n) f (suc j) small h c = go (decLt 0 (f 0)) (up-other n (λ i. f (suc i)) j (λ i. small (suc i)))
-  where
-    go : Dec (0 < f 0) → (1 < sumTo n (λ i. f (suc i)) → ((k : ℕ) → k < n → (j ≡ k → ⊥) → 0 < f (suc k) → C) → C) → C
-    go (yes q) ih = c 0 (omega arith) (λ e. omega arith) q
-    go (no q) ih = ih (omega arith) (λ k l ne. c (suc k) (omega arith) (λ e. ne (omega arith)))
-
-pub up-zero : (n : ℕ) → sumTo n (λ j. 0) ≡ 0
-up-zero zero = refl
-up-zero (suc n) = let ih = up-zero n in omega arith
-
-pub up-last : (n : ℕ) (f : ℕ → ℕ) → sumTo (suc n) f ≡ sumTo n f + f n
-up-last zero f = omega arith
-up-last (suc n) f = let ih = up-last n (λ j. f (suc j)) in omega arith
-
-pub bit-le : (m j : ℕ) → bit m j ≤ 1
-bit-le m j = let h : m / 2 ^ j % 2 < 2 = mod-lt (m / 2 ^ j) (lit< tt) in omega arith
-
-one-le : {a c d : ℕ} → d ≡ c → a ≡ 1 → a ≤ c → 0 < d
-one-le e h g = omega arith
-
-two-le : {a b c d : ℕ} → d ≡ c → a ≡ 1 → b ≡ 1 → a + b ≤ c → 1 < d
-two-le e h i g = omega arith
-
-module _ (m : ℕ) (fits : m < 2 ^ 16) where
-  pub on-ones {κ} : {C : Type κ} → 0 < ones m → ((k : ℕ) → k < 16 → bit m k ≡ 1 → C) → C
-  on-ones h c = up-pos 16 (bit m) (rw (← ones-bits 16 m fits) h) (λ k l q. let b = bit-le m k in c k l (omega arith))
-
-  pub on-other {κ} : {C : Type κ} (j : ℕ) → 1 < ones m → ((k : ℕ) → k < 16 → (j ≡ k → ⊥) → bit m k ≡ 1 → C) → C
-  on-other j h c = up-other 16 (bit m) j (bit-le m) (rw (← ones-bits 16 m fits) h) (λ k l ne q. let b = bit-le m k in c k l ne (omega arith))
-
-  pub ones-some : (j : ℕ) → j < 16 → bit m j ≡ 1 → 0 < ones m
-  ones-some j l e = one-le (ones-bits 16 m fits) e (up-ge 16 (bit m) j l)
-
-  pub ones-two : (j k : ℕ) → j < 16 → k < 16 → (j ≡ k → ⊥) → bit m j ≡ 1 → bit m k ≡ 1 → 1 < ones m
-  ones-two j k l l′ ne e e′ = two-le (ones-bits 16 m fits) e e′ (up-two 16 (bit m) j k l l′ ne)
-
-pub ones-none : (k m : ℕ) → m < 2 ^ k → ones m ≡ 0 → m ≡ 0
-ones-none zero m h e = lt-one h
-ones-none (suc k) m h e =
-    let half : m / 2 < 2 ^ k = omega (arith, pow-succ' 2 k) in
-    let s = ones-step m in
-    let z : ones (m / 2) ≡ 0 = omega arith in
-    let ih = ones-none k (m / 2) half z in
-    omega arith
-
-pub ones-zero : (m : ℕ) → m ≡ 0 → ones m ≡ 0
-unfolding ones
-ones-zero m e = ap ones e

@@ -1,6 +1,6 @@
 -- Tests: one that passes is `b ≡ true`.
 --   and-l and-r both and-false and-true       the parts of a test of two that must both pass
---   or-l or-r or-case on-or neither or-first  of two of which one must
+--   or-l or-r or-case neither or-first  of two of which one must
 --   test bool-ext not-true of-not of-not-false   one or the other; equal tests; what is not true is false; denied tests
 --   false-true                                both at once proves anything
 --   eqb-is is-eqb ltb-is is-ltb leb-is is-leb, ltb-not leb-not   what a test of two numbers says
@@ -46,10 +46,6 @@ or-r false h = h
 pub or-case : (a : Bool) {b : Bool} → (a || b) ≡ true → (a ≡ true) ⊎ (b ≡ true)
 or-case true h = inl refl
 or-case false h = inr h
-
-pub on-or {κ} : {C : Type κ} (a : Bool) {b : Bool} → (a || b) ≡ true → (a ≡ true → C) → (b ≡ true → C) → C
-on-or true e f g = f refl
-on-or false e f g = g e
 
 pub neither : {a b : Bool} → a ≡ false → b ≡ false → (a || b) ≡ false
 neither x y = rw (x, y)

@@ -61,16 +61,19 @@ module _ (ar : List ℕ) (bl sb : ℕ) (F S : List ℕ) where
         let d : some (count ts) ≡ some (count us) = sym (p .1) ∙ ap (getElem? ar) e ∙ q .1 in
         let n : count ts ≡ count us = cc in
         let z : x + 1 + spans us ≡ x + suc (spans us) = omega arith in
-        rw (falling-some bl f x (p .0), size-one bl S f x (p .0), ← z) (ap (λ (l : List ℕ). x ∷ l) (touched-trees ts us r (x + 1) (p .2) (q .2) (and-r (eqb f g) a) n (below-kids F S x g us b)))
+        rw (falling-some bl f x (p .0), size-one bl S f x (p .0), ← z)
+        (ap (λ (l : List ℕ). x ∷ l) (touched-trees ts us r (x + 1) (p .2) (q .2) (and-r (eqb f g) a) n (below-kids F S x g us b)))
 
-    touched-trees : (ts us : Terms) (r : List ℕ) (x : ℕ) → Fitss ar bl ts → Fitss ar sb us → agreeAt ts us ≡ true → count ts ≡ count us → Below F S x (flattens us) (sizess us)
+    touched-trees : (ts us : Terms) (r : List ℕ) (x : ℕ) → Fitss ar bl ts → Fitss ar sb us → agreeAt ts us ≡ true → count ts ≡ count us
+        → Below F S x (flattens us) (sizess us)
         → touched bl S (flattens ts ++ r) x ≡ overs ts us x ++ touched bl S r (x + spans us)
     touched-trees tnil tnil r x p q a n b = rw add-zero
     touched-trees tnil (tcons u us) r x p q a n b = absurd (omega arith)
     touched-trees (tcons t ts) tnil r x p q a n b = absurd (omega arith)
     touched-trees (tcons t ts) (tcons u us) r x p q a n b =
         let z : x + span u + spans us ≡ x + (span u + spans us) = omega arith in
-        let ih = touched-trees ts us r (x + span u) (p .1) (q .1) (and-r (agreesAt t (some u)) a) (omega arith) (below-next F S x (span u) (flatten u) (flattens us) (sizes u) (sizess us) (length-flatten u) (length-sizes u) b) in
+        let ih = touched-trees ts us r (x + span u) (p .1) (q .1) (and-r (agreesAt t (some u)) a) (omega arith)
+        (below-next F S x (span u) (flatten u) (flattens us) (sizes u) (sizess us) (length-flatten u) (length-sizes u) b) in
         ap (λ (l : List ℕ). touched bl S l x) (append-assoc (flatten t) (flattens ts) r)
         ∙ touched-tree t u (flattens ts ++ r) x (p .0) (q .0) (and-l (agreeAt ts us) a) (below-first F S x (flatten u) (flattens us) (sizes u) (sizess us) b)
         ∙ ap (λ (l : List ℕ). over t u x ++ l) (ih ∙ ap (λ (y : ℕ). overs ts us (x + span u) ++ touched bl S r y) z)
@@ -99,8 +102,17 @@ mutual
   over-touches (node f ts) (blank w) x y (there m) = in-none (rw (none-over ts (x + 1)) at m)
   over-touches (node f ts) (node g us) x y (there m) =
       let h = overs-touches ts us (x + 1) y m in
-      let z : suc (skip us (h .i)) + h .k ≡ suc (skip us (h .i) + h .k) = omega arith in
-      (suc (skip us (h .i) + h .k), record { q = suc (h .i) ∷ h .under .q; f = h .under .f; symbol = rw (h .shape) (h .under .symbol); falls = rw (h .score, h .under .falls, z) }, omega (arith, h .sum))
+      let z : suc (skip us (h .i)) + h .k ≡ suc (skip us (h .i) + h .k) = omega arith in (
+        suc (skip us (h .i) + h .k),
+        record {
+          q = suc (h .i) ∷ h .under .q;
+          f = h .under .f;
+          symbol = rw (h .shape) (h .under .symbol);
+          falls = rw
+              (h .score, h .under .falls, z);
+        },
+        omega (arith, h .sum),
+      )
 
   overs-touches : (ts us : Terms) (x y : ℕ) → y ∈ overs ts us x → Kid ts us x y
   overs-touches tnil us x y m = in-none m
@@ -146,19 +158,27 @@ not-nil : (o : Option ℕ) → not (isNil (perhaps o)) ≡ true → (f : ℕ) ×
 not-nil none e = false-true e
 not-nil (some f) e = (f, refl)
 
-module _ (ar : List ℕ) (bl sb : ℕ) (ℓ t : Term) (fits : Fits ar bl ℓ) (good : Fits ar sb t) (p : Pos) (x : ℕ) (n : number t p ≡ some x) (m : Matches ℓ t p) where
+module _ (ar : List ℕ) (bl sb : ℕ) (ℓ t : Term) (fits : Fits ar bl ℓ) (good : Fits ar sb t) (p : Pos) (x : ℕ) (n : number t p ≡ some x)
+    (m : Matches ℓ t p) where
   touched-is : (u : Term) → sub t p ≡ some u → touched bl (sizes t) (flatten ℓ) x ≡ over ℓ u x
   unfolding touched
   touched-is u e =
       ap (λ (l : List ℕ). touched bl (sizes t) l x) (sym (append-nil (flatten ℓ)))
-      ∙ touched-tree ar bl sb (flatten t) (sizes t) ℓ u [] x fits (fits-sub ar sb p t good e) (ap (agreesAt ℓ) (sym e) ∙ matches-is ℓ t p m) (below-at t p u x e n)
+      ∙ touched-tree ar bl sb (flatten t) (sizes t) ℓ u [] x fits (fits-sub ar sb p t good e) (ap (agreesAt ℓ) (sym e) ∙ matches-is ℓ t p m)
+      (below-at t p u x e n)
       ∙ append-nil (over ℓ u x)
 
   touched-touches : (y : ℕ) → y ∈ touched bl (sizes t) (flatten ℓ) x → Touches ℓ t p y
   touched-touches y i =
       let s = sub-number p t x n in
       let h = over-touches ℓ (s .0) x y (rw (touched-is (s .0) (s .1)) at i) in
-      record { q = h .1 .q; f = h .1 .f; symbol = h .1 .symbol; falls = number-append p (h .1 .q) t (s .0) x (s .1) n ∙ ap (Option·map (λ k. x + k)) (h .1 .falls) ∙ ap some (sym (h .2)) }
+      record {
+        q = h .1 .q;
+        f = h .1 .f;
+        symbol = h .1 .symbol;
+        falls = number-append p (h .1 .q) t (s .0) x (s .1) n
+            ∙ ap (Option·map (λ k. x + k)) (h .1 .falls) ∙ ap some (sym (h .2));
+      }
 
   touches-touched : (y : ℕ) → Touches ℓ t p y → y ∈ touched bl (sizes t) (flatten ℓ) x
   touches-touched y h =

@@ -19,7 +19,7 @@ use Rattle.kinds.specs.Members.{Below}
 use Rattle.kinds.specs.Kinds.{childSays}
 use Rattle.folio.specs.Opening.{lent, openedSays}
 use Rattle.walk.specs.Starting.{walkOf, counting, recordAfter, walkedSays}
-use Rattle.counting.specs.Counting.{total, countedSays}
+use Rattle.counting.specs.Counting.{countedSays}
 use Rattle.readers.specs.BlockWords.{middle}
 use Rattle.readers.specs.PlanParts.{labelOf, labelSays, lengthsOf, blockSays, announcementOf, announcementSays, successorOf, successorSays}
 use Rattle.readers.specs.declared.Announcement.{Announcement}

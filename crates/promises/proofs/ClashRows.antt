@@ -18,11 +18,12 @@ use Rattle.folio.proofs.Accepted.{shape-terms, score-term}
 use Rattle.counting.specs.Counting.{Match, counted, countedSays}
 use Rattle.counting.specs.declared.Counted.{Counted}
 use Rattle.counting.specs.declared.Counted.the-variants as count
+use Rattle.counting.proofs.FoundLaws.{in-found}
 use Rattle.clashing.specs.Clashes.{clashNumber, nodesIn}
 use Rattle.clashing.specs.Strays.{matched, strays}
 use Rattle.clashing.specs.Clashing.{clashesIn, clashesOf}
 use Rattle.clashing.proofs.ClashLaws.{strays-none, on-stray, matched-all}
-use Rattle.clashing.proofs.OneFolio.{in-found, SaysOf, says-of}
+use Rattle.clashing.proofs.OneFolio.{SaysOf, says-of}
 use Rattle.clashing.proofs.Telling.{in-stray, in-is, clashes-bad, clashes-go}
 use Rattle.promises.specs.Demand1 as rows
 use Rattle.promises.specs.Demand1.{GoodShapes, Good, ClashRow, marked, Stands}
@@ -95,7 +96,7 @@ module _ (ar ws st score spans marks : List ℕ) (small : Below 65536 score) whe
 
         row-35 : strays ws st score spans all ≡ true → ClashRow ar ws st score spans marks (countedSays outcome)
         row-35 e = on-stray ws st score spans all e λ m i no.
-            rw (said-35 e) (rows.clash-35 s g h m i (λ is. false-true (sym no ∙ so .is-matched m is)))
+            rw (said-35 e) (rows.clash-35 s g (omega arith) m i (λ is. false-true (sym no ∙ so .is-matched m is)))
 
         row : strays ws st score spans all ≡ false → ClashRow ar ws st score spans marks (countedSays outcome)
         row e = rw (said e) (rows.clashes s g h (λ m i. stands m i (matched-all ws st score spans all e m i)))

@@ -8,7 +8,7 @@ use mathlib.Core.Bool.{Bool, true, false, cond}
 use mathlib.Core.List.{List, [], _∷_, _++_, map, append-nil}
 use mathlib.Core.Logic.{⊎-elim}
 use mathlib.Core.Option.{some, Option·map}
-use Prim.Native.Nat.{ℕ, zero, suc, _+_, _-_, _<_, _≤_}
+use Prim.Native.Nat.{ℕ, suc, _+_, _-_, _<_, _≤_}
 use native.Mathlib.Omega.{arith}
 use native.Mathlib.Nat.{add-zero, zero-add}
 use native.Mathlib.Decide.{decLt}
@@ -26,10 +26,10 @@ use Rattle.term.proofs.Numbers.{number-below, node-at, dom-number}
 use Rattle.term.proofs.Sizes.{length-sizes}
 use Rattle.term.proofs.Subterms.{length-dom}
 use Rattle.counting.specs.Counting.{Match, matchAt, found, foundIn, total}
-use Rattle.counting.proofs.FoundLaws.{one, foundOne, foundAt, found-nodes, total-found}
+use Rattle.counting.proofs.FoundLaws.{one, foundOne, foundAt, found-nodes, in-found, total-found}
 use Rattle.clashing.specs.Clashes.{clashNumber, nodesIn, nodesOf}
 use Rattle.clashing.specs.Strays.{IsMatch}
-use Rattle.clashing.proofs.OneFolio.{in-found, SaysOf}
+use Rattle.clashing.proofs.OneFolio.{SaysOf}
 use Rattle.report.specs.Paths.{pathOf}
 use Rattle.report.specs.Text.{matchLine, line, textOf, firstLine, lines, report}
 use Rattle.promises.specs.Reported.{MatchIn, matchOne, matchesAt, matchesIn, totalsIn, reportIn, totalsOf}

@@ -2,7 +2,7 @@
 --   sub-append sub-prefix          t[p.q] is t[p][q]
 --   nth-below nth-some child-fits child-some   which children there are
 --   sub-depth                      a position is no longer than the term is deep
---   fits-at fits-sub nth-fits whole-at   what fits, or has no blank, does so at each position
+--   fits-at fits-sub nth-fits whole-at whole-sub   what fits, or has no blank, does so at each position
 --   fits-proper                    the child numbers of its positions are 1 to 4, where no symbol has more children
 --   headed on-child                a node of a term that is no blank, and the child that it lies in
 --   dom-in in-dom length-dom length-doms dom-ordered dom-distinct   the list of a term's positions
@@ -98,6 +98,17 @@ fits-sub ar bl [] t {u} h e = let z : u ≡ t = cc in rw z h
 fits-sub ar bl (i ∷ p) (blank w) h e = none-not e
 fits-sub ar bl (zero ∷ p) (node f ts) h e = none-not e
 fits-sub ar bl (suc i ∷ p) (node f ts) h e = on-bind (nth ts i) _ e λ v ev d. fits-sub ar bl p v (nth-fits ar bl ts i (h .2) ev) d
+
+nth-whole : (ts : Terms) (i : ℕ) {u : Term} → Wholes ts → nth ts i ≡ some u → Whole u
+nth-whole tnil i h e = none-not e
+nth-whole (tcons t ts) zero {u} h e = let z : u ≡ t = cc in rw z (h .0)
+nth-whole (tcons t ts) (suc i) h e = nth-whole ts i (h .1) e
+
+pub whole-sub : (p : Pos) (t : Term) {u : Term} → Whole t → sub t p ≡ some u → Whole u
+whole-sub [] t {u} h e = let z : u ≡ t = cc in rw z h
+whole-sub (i ∷ p) (blank w) h e = none-not e
+whole-sub (zero ∷ p) (node f ts) h e = none-not e
+whole-sub (suc i ∷ p) (node f ts) h e = on-bind (nth ts i) _ e λ v ev d. whole-sub p v (nth-whole ts i h ev) d
 
 -- where symbols have at most 4 children
 pub fits-proper : (ar : List ℕ) → ((f n : ℕ) → getElem? ar f ≡ some n → n ≤ 4) → (bl : ℕ) (p : Pos) (t : Term) {u : Term} → Fits ar bl t

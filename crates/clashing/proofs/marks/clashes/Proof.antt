@@ -37,7 +37,8 @@ clashes-in-requires c κs = let l = looked _ _ _ _ _ (sym (c .before .before .be
     (omega (arith, l .nodes, l .few), l .short)
 
 returns-2 : tie.Need-returns-2
-returns-2 c = sym (clashes-go _ _ _ _ _ _ (sym (c .before .before .before .before .before .shapes-good .ensures) ∙ of-not-false _ (c .before .before .before .before .if1 .left))
+returns-2 c = sym (clashes-go _ _ _ _ _ _ (sym (c .before .before .before .before .before .shapes-good .ensures)
+    ∙ of-not-false _ (c .before .before .before .before .if1 .left))
     ∙ unlooked _ _ _ _ (clashesIn _ _ _ _) _ (sym (c .before .before .before .looked-at .ensures) ∙ c .before .reason .given .1))
 
 returns-3 : tie.Need-returns-3
@@ -46,7 +47,8 @@ returns-3 c =
     let at-if1 = c .before .before .before .before .before .before .if1 in
     c .clashes-in .ensures
     ∙ sym (clashes-go _ _ _ _ _ _ (sym (at-shapes-good .ensures) ∙ of-not-false _ (at-if1 .left))
-    ∙ looked _ _ _ _ _ (sym (c .before .before .before .before .before .looked-at .ensures) ∙ c .before .before .before .n .given .1) .counts (clashesIn _ _ _ _))
+    ∙ looked _ _ _ _ _ (sym (c .before .before .before .before .before .looked-at .ensures) ∙ c .before .before .before .n .given .1) .counts
+    (clashesIn _ _ _ _))
 
 pub clashes-spec : {M : Type 1} → statement M
 clashes-spec =

@@ -26,7 +26,8 @@ returns-2 : tie.Need-returns-2
 returns-2 c =
     let entry = c .before .before .before .before .before .before .before .before .before .before .before .before in
     let at-has-stray = c .before .before .before .before .before .before .has-stray in
-    in-number _ _ _ _ _ (sym (at-has-stray .ensures) ∙ c .before .before .before .before .before .if1 .left) (entry .pre .0) _ (c .before .before .before .touch-all .ensures) _ (c .count-all .ensures)
+    in-number _ _ _ _ _ (sym (at-has-stray .ensures) ∙ c .before .before .before .before .before .if1 .left) (entry .pre .0) _
+    (c .before .before .before .touch-all .ensures) _ (c .count-all .ensures)
 
 pub clashes-in-spec : {M : Type 1} → statement M
 clashes-in-spec =

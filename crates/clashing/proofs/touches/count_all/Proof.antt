@@ -1,10 +1,9 @@
-use Rattle.clashing.proofs.PassTurns.{share-start}
-use Rattle.clashing.proofs.PassTurns.{share-end, share-next}
+use Rattle.clashing.proofs.PassTurns.{share-start, share-le, share-next, share-end}
 use Rattle.clashing.specs.Clashes.{nodesOf}
 use Rattle.clashing.specs.Passes.{sharing}
 use Rattle.counting.specs.Counting.{foundIn}
 use Rattle.counting.proofs.PassLaws.{restFrom, At, pass-start, pass-next, pass-end}
-use mathlib.Core.Path.{_≡_, refl, ap, sym, _∙_}
+use mathlib.Core.Path.{_≡_}
 use native.Mathlib.Omega.{arith}
 use Prim.Native.Nat.{_+_, _-_, _*_, _≤_}
 use lib.ListN.{length}
@@ -13,13 +12,11 @@ use Rattle.clashing.proofs.touches.count_all.Statement.{statement}
 use Rattle.clashing.proofs.touches.count_all.Tie as tie
 
 abbrev Inv-loop : tie.InvT-loop
-Inv-loop words starts spans marks counts end sum₀ k₀ sum k = (end ≡ 16 * length marks) × (sum ≤ k) × At marks k × (sharing (nodesOf words starts spans) counts (foundIn marks) ≡ sum + sharing (nodesOf words starts spans) counts (restFrom marks k))
+Inv-loop words starts spans marks counts sum₀ k₀ sum k = At marks k
+    × (sharing (nodesOf words starts spans) counts (foundIn marks) ≡ sum + sharing (nodesOf words starts spans) counts (restFrom marks k)) × (sum ≤ k)
 
 abbrev μ-loop : tie.MeasureT-loop
-μ-loop words starts spans marks counts end sum₀ k₀ sum k = end - k
-
-mul-end : tie.Need-mul-end Inv-loop μ-loop
-mul-end c = search needs
+μ-loop words starts spans marks counts sum₀ k₀ sum k = 16 * length marks - k
 
 next-match-requires : tie.Need-next-match-requires Inv-loop μ-loop
 next-match-requires c κs = search needs
@@ -27,49 +24,47 @@ next-match-requires c κs = search needs
 loop-holds : tie.Need-loop-holds Inv-loop μ-loop
 loop-holds c =
     let entry = c .before .before .before .before .before .before in
-    let s = pass-start (entry .args .marks .now) _ (c .next-match .ensures) in
-    (refl, omega arith, s .0, share-start _ _ _ _ (s .1))
+    let s = pass-start (entry .args .marks .now) _ (c .next-match .ensures) in (s .0, share-start _ _ _ _ (s .1), omega arith)
 
 count-match-requires : tie.Need-count-match-requires Inv-loop μ-loop
 count-match-requires c κs =
     let entry = c .before .before .before .before .before .before .before .before in
-    omega (arith, entry .pre, c .before .loop .inv .0, c .loop-test .taken)
+    omega (arith, entry .pre, c .loop-test .taken)
 
 add-sum : tie.Need-add-sum Inv-loop μ-loop
 add-sum c =
     let entry = c .before .before .before .before .before .before .before .before .before in
-    let at-loop = c .before .before .loop in
-    omega (arith, entry .pre, at-loop .inv .0, at-loop .inv .1, c .before .loop-test .taken, c .count-match .ensures .0)
+    omega (arith, entry .pre, c .before .before .loop .inv .2, c .before .loop-test .taken, share-le (nodesOf _ _ _) _ _ _ (c .count-match .ensures))
 
 add-next-match : tie.Need-add-next-match Inv-loop μ-loop
 add-next-match c =
     let entry = c .before .before .before .before .before .before .before .before .before in
-    omega (arith, entry .pre, c .before .before .loop .inv .0, c .before .loop-test .taken)
+    omega (arith, entry .pre, c .before .loop-test .taken)
 
 next-match-requires-2 : tie.Need-next-match-requires-2 Inv-loop μ-loop
 next-match-requires-2 c κs =
     let entry = c .before .before .before .before .before .before .before .before .before in
-    (entry .pre, omega (arith, c .before .before .loop .inv .0, c .before .loop-test .taken))
+    (entry .pre, omega (arith, c .before .loop-test .taken))
 
 loop-less : tie.Need-loop-less Inv-loop μ-loop
 loop-less c =
     let entry = c .before .before .before .before .before .before .before .before .before .before in
     let at-loop = c .before .before .before .loop in
-    let t = pass-next (entry .args .marks .now) (at-loop .k) _ (at-loop .inv .2) (omega (arith, at-loop .inv .0, c .before .before .loop-test .taken)) (c .next-match2 .ensures) in
-    omega (arith, t .more, t .at .inside, at-loop .inv .0)
+    let t = pass-next (entry .args .marks .now) (at-loop .k) _ (at-loop .inv .0) (c .before .before .loop-test .taken) (c .next-match2 .ensures) in
+    omega (arith, t .more, t .at .inside)
 
 loop-again : tie.Need-loop-again Inv-loop μ-loop
 loop-again c =
     let entry = c .before .before .before .before .before .before .before .before .before .before in
     let at-loop = c .before .before .before .loop in
-    let t = pass-next (entry .args .marks .now) (at-loop .k) _ (at-loop .inv .2) (omega (arith, at-loop .inv .0, c .before .before .loop-test .taken)) (c .next-match2 .ensures) in
-    let n = share-next (nodesOf _ _ _) _ (entry .args .counts .now) _ _ _ (t .one) (c .before .count-match .ensures .1) in
-    (at-loop .inv .0, omega (arith, at-loop .inv .1, c .before .count-match .ensures .0, t .more), t .at, omega (arith, at-loop .inv .3, n))
+    let t = pass-next (entry .args .marks .now) (at-loop .k) _ (at-loop .inv .0) (c .before .before .loop-test .taken) (c .next-match2 .ensures) in
+    let n = share-next (nodesOf _ _ _) _ (entry .args .counts .now) _ _ _ (t .one) (c .before .count-match .ensures) in
+    (t .at, omega (arith, at-loop .inv .1, n), omega (arith, at-loop .inv .2, share-le (nodesOf _ _ _) _ _ _ (c .before .count-match .ensures), t .more))
 
 returns : tie.Need-returns Inv-loop μ-loop
 returns c =
     let entry = c .before .before .before .before .before .before .before .before in
-    share-end _ _ _ _ _ (c .before .loop .inv .3) (pass-end (entry .args .marks .now) (c .before .loop .k) (omega (arith, c .before .loop .inv .0, c .loop-test .left)))
+    share-end _ _ _ _ _ (c .before .loop .inv .1) (pass-end (entry .args .marks .now) (c .before .loop .k) (c .loop-test .left))
 
 pub count-all-spec : {M : Type 1} → statement M
 count-all-spec =
@@ -77,7 +72,6 @@ count-all-spec =
     (tie.spec
     Inv-loop
     μ-loop
-    mul-end
     next-match-requires
     loop-holds
     count-match-requires

@@ -2,7 +2,6 @@ use Rattle.clashing.proofs.PassTurns.{share-is}
 use Rattle.counting.specs.Counting.{matchOf}
 use mathlib.Core.Bool.{true, false}
 use mathlib.Core.Path.{sym, _∙_}
-use native.Mathlib.Omega.{arith}
 use borrow.Author.Needs.{needs}
 use Rattle.clashing.proofs.touches.count_match.Statement.{statement}
 use Rattle.clashing.proofs.touches.count_match.Tie as tie
@@ -22,12 +21,12 @@ is-shared-requires c κs = search needs
 returns : tie.Need-returns
 returns c =
     let entry = c .before .before .before .before .before .before .before in
-    (omega arith, sym (share-is _ _ _ (matchOf (entry .args .k)) _ (c .before .before .words-of .ensures) _ true (sym (c .before .is-shared .ensures) ∙ c .if1 .taken)))
+    sym (share-is _ _ _ (matchOf (entry .args .k)) _ (c .before .before .words-of .ensures) _ true (sym (c .before .is-shared .ensures) ∙ c .if1 .taken))
 
 returns-2 : tie.Need-returns-2
 returns-2 c =
     let entry = c .before .before .before .before .before .before .before in
-    (omega arith, sym (share-is _ _ _ (matchOf (entry .args .k)) _ (c .before .before .words-of .ensures) _ false (sym (c .before .is-shared .ensures) ∙ c .if1 .left)))
+    sym (share-is _ _ _ (matchOf (entry .args .k)) _ (c .before .before .words-of .ensures) _ false (sym (c .before .is-shared .ensures) ∙ c .if1 .left))
 
 pub count-match-spec : {M : Type 1} → statement M
 count-match-spec =

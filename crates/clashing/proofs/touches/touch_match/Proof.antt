@@ -24,7 +24,8 @@ same-length c = search needs
 returns : tie.Need-returns
 returns c =
     let entry = c .before .before .before .before .before .before .before .before .before in
-    c .before .before .touch .ensures ∙ ap (λ xs. raises xs (entry .args .counts .now)) (nodes-are _ _ _ (matchOf (entry .args .k)) _ (c .before .before .before .before .words-of .ensures))
+    c .before .before .touch .ensures ∙ ap (λ xs. raises xs (entry .args .counts .now))
+    (nodes-are _ _ _ (matchOf (entry .args .k)) _ (c .before .before .before .before .words-of .ensures))
 
 pub touch-match-spec : {M : Type 1} → statement M
 touch-match-spec =

@@ -3,7 +3,6 @@ use Rattle.counting.specs.Counting.{total}
 use Rattle.counting.specs.declared.Counted.the-variants.{Number}
 use mathlib.Core.Path.{ap, sym, _∙_}
 use native.Mathlib.Omega.{arith}
-use lib.ListN.{length-take}
 use borrow.Author.Needs.{needs}
 use Rattle.counting.proofs.marks.matches.Statement.{statement}
 use Rattle.counting.proofs.marks.matches.Tie as tie
@@ -34,7 +33,8 @@ returns c = sym (unlooked _ _ _ _ (λ ms. Number (total ms)) _ (sym (c .before .
 
 returns-2 : tie.Need-returns-2
 returns-2 c = ap Number (c .ones-of .ensures)
-    ∙ sym (looked _ _ _ _ _ (sym (c .before .before .before .before .before .looked-at .ensures) ∙ c .before .before .before .n .given .1) .counts (λ ms. Number (total ms)))
+    ∙ sym (looked _ _ _ _ _ (sym (c .before .before .before .before .before .looked-at .ensures) ∙ c .before .before .before .n .given .1) .counts
+    (λ ms. Number (total ms)))
 
 pub matches-spec : {M : Type 1} → statement M
 matches-spec =

@@ -10,7 +10,7 @@ use Rattle.counting.proofs.marks.ones_of.Statement.{statement}
 use Rattle.counting.proofs.marks.ones_of.Tie as tie
 
 abbrev Inv-loop : tie.InvT-loop
-Inv-loop marks sum₀ i₀ sum i = (i ≤ length marks) × (sum ≤ 16 * i) × (sum + total (drop i marks) ≡ total marks)
+Inv-loop marks sum₀ i₀ sum i = (i ≤ length marks) × (sum + total (drop i marks) ≡ total marks) × (sum ≤ 16 * i)
 
 abbrev μ-loop : tie.MeasureT-loop
 μ-loop marks sum₀ i₀ sum i = length marks - i

@@ -31,7 +31,8 @@ stands-requires : tie.Need-stands-requires Inv-loop μ-loop
 stands-requires c κs = search needs
 
 returns : tie.Need-returns Inv-loop μ-loop
-returns c = sym (c .before .before .before .before .loop .inv .1 ∙ falls-not _ _ _ _ _ _ (c .before .before .before .loop-test .taken) (sym (c .before .stands .ensures) ∙ of-not _ (c .if1 .taken)))
+returns c = sym (c .before .before .before .before .loop .inv .1
+    ∙ falls-not _ _ _ _ _ _ (c .before .before .before .loop-test .taken) (sym (c .before .stands .ensures) ∙ of-not _ (c .if1 .taken)))
 
 size-requires : tie.Need-size-requires Inv-loop μ-loop
 size-requires c κs = search needs
@@ -52,7 +53,8 @@ loop-again c =
     let at-shared-slice-known3 = c .before .before .before .before .before .before .before .shared-slice-known3 in
     let at-loop = c .before .before .before .before .before .loop in (
       next-in _ _ _ _ _ _ (λ y. at-shared-slice-known3 .given y .fits) (at-loop .inv .0) (c .size .ensures),
-      at-loop .inv .1 ∙ falls-next _ _ _ _ _ _ _ (c .before .before .before .before .loop-test .taken) (sym (c .before .before .stands .ensures) ∙ of-not-false _ (c .before .if1 .left)) (c .size .ensures),
+      at-loop .inv .1 ∙ falls-next _ _ _ _ _ _ _ (c .before .before .before .before .loop-test .taken)
+          (sym (c .before .before .stands .ensures) ∙ of-not-false _ (c .before .if1 .left)) (c .size .ensures),
     )
 
 returns-2 : tie.Need-returns-2 Inv-loop μ-loop

@@ -41,7 +41,8 @@ part-requires c κs = search needs
 returns-2 : tie.Need-returns-2
 returns-2 c =
     let entry = c .before .before .before .before .before .before .before in
-    c .part .ensures ∙ ap (λ (e : ℕ). part (entry .args .words .now) (getD (entry .args .starts .now) (entry .args .shape .0) 0) e) (c .before .end-of .ensures) ∙ sym (words-are _ _ _ (c .before .before .before .if1 .left))
+    c .part .ensures ∙ ap (λ (e : ℕ). part (entry .args .words .now) (getD (entry .args .starts .now) (entry .args .shape .0) 0) e)
+    (c .before .end-of .ensures) ∙ sym (words-are _ _ _ (c .before .before .before .if1 .left))
 
 pub words-of-spec : {M : Type 1} → statement M
 words-of-spec =

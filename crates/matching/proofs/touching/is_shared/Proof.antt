@@ -10,7 +10,8 @@ use Rattle.matching.proofs.touching.is_shared.Statement.{statement}
 use Rattle.matching.proofs.touching.is_shared.Tie as tie
 
 abbrev Inv-loop : tie.InvT-loop
-Inv-loop shape blank spans counts x₀ i₀ x i = (x ≤ length spans + 65536 + i) × (isShared counts (touched blank spans shape x₀) ≡ isShared counts (touched blank spans (drop i shape) x))
+Inv-loop shape blank spans counts x₀ i₀ x i = (x ≤ length spans + 65536 + i)
+    × (isShared counts (touched blank spans shape x₀) ≡ isShared counts (touched blank spans (drop i shape) x))
 
 abbrev μ-loop : tie.MeasureT-loop
 μ-loop shape blank spans counts x₀ i₀ x i = length shape - i
@@ -31,7 +32,8 @@ is-more-requires : tie.Need-is-more-requires Inv-loop μ-loop
 is-more-requires c κs = search needs
 
 returns : tie.Need-returns Inv-loop μ-loop
-returns c = sym (c .before .before .before .before .loop .inv .1 ∙ shared-here _ _ _ _ _ _ (c .before .before .before .loop-test .taken) (sym (c .before .is-more .ensures) ∙ c .if1 .taken))
+returns c = sym (c .before .before .before .before .loop .inv .1
+    ∙ shared-here _ _ _ _ _ _ (c .before .before .before .loop-test .taken) (sym (c .before .is-more .ensures) ∙ c .if1 .taken))
 
 size-requires : tie.Need-size-requires Inv-loop μ-loop
 size-requires c κs = search needs
@@ -52,7 +54,8 @@ loop-again c =
     let at-shared-slice-known2 = c .before .before .before .before .before .before .before .before .shared-slice-known2 in
     let at-loop = c .before .before .before .before .before .loop in (
       next-in _ _ _ _ _ _ (λ y. at-shared-slice-known2 .given y .fits) (at-loop .inv .0) (c .size .ensures),
-      at-loop .inv .1 ∙ shared-next _ _ _ _ _ _ _ (c .before .before .before .before .loop-test .taken) (sym (c .before .before .is-more .ensures) ∙ c .before .if1 .left) (c .size .ensures),
+      at-loop .inv .1 ∙ shared-next _ _ _ _ _ _ _ (c .before .before .before .before .loop-test .taken)
+          (sym (c .before .before .is-more .ensures) ∙ c .before .if1 .left) (c .size .ensures),
     )
 
 returns-2 : tie.Need-returns-2 Inv-loop μ-loop

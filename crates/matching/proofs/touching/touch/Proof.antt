@@ -10,7 +10,8 @@ use Rattle.matching.proofs.touching.touch.Statement.{statement}
 use Rattle.matching.proofs.touching.touch.Tie as tie
 
 abbrev Inv-loop : tie.InvT-loop
-Inv-loop shape blank spans counts₀ x₀ i₀ counts x i = (length counts ≡ length counts₀) × (x ≤ length spans + 65536 + i) × (raises (touched blank spans shape x₀) counts₀ ≡ raises (touched blank spans (drop i shape) x) counts)
+Inv-loop shape blank spans counts₀ x₀ i₀ counts x i = (length counts ≡ length counts₀) × (x ≤ length spans + 65536 + i)
+    × (raises (touched blank spans shape x₀) counts₀ ≡ raises (touched blank spans (drop i shape) x) counts)
 
 abbrev μ-loop : tie.MeasureT-loop
 μ-loop shape blank spans counts₀ x₀ i₀ counts x i = length shape - i
