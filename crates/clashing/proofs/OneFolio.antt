@@ -1,6 +1,6 @@
 -- Over one folio's tables: words say of matches and of the nodes that they touch what the terms say.
 --   shape-words               the words of shape j
---   matched-is is-matched clashes-same   a match by the tables is one by the terms; the clash number is the same by both
+--   match-of matched-is is-matched clashes-same   a match by the tables is one by the terms; the clash number is the same by both
 --   SaysOf says-of            the three together, for tables that are those of terms
 use Prim.Native.Nat.{ℕ, zero, suc, _+_, _-_, _<_}
 use mathlib.Core.Path.{_≡_, refl, ap, ap₂, sym, _∙_}
@@ -14,13 +14,14 @@ use lib.ListN.{length, getD, getElem?, length-append}
 use lib.Seq.{drop-at, take-at}
 use Rattle.kinds.specs.Lists.{gather}
 use Rattle.kinds.specs.Members.{_∈_}
+use Rattle.kinds.specs.Positions.{Pos}
 use Rattle.kinds.proofs.Bools.{and-l, and-r, both, is-ltb, ltb-is, ltb-suc}
 use Rattle.kinds.proofs.ListLaws.{any-same, filter-same}
 use Rattle.kinds.proofs.Members.{∈-left, ∈-append, in-none}
 use Rattle.kinds.proofs.Options.{none-not}
 use Rattle.kinds.proofs.Places.{at-in, at-below, at-some}
 use Rattle.term.specs.Terms.{Term, span, flatten, sizes, Fits}
-use Rattle.term.specs.Places.{place}
+use Rattle.term.specs.Places.{number, Matches}
 use Rattle.term.proofs.Numbers.{node-at, number-place}
 use Rattle.term.proofs.Sizes.{length-flatten}
 use Rattle.term.specs.Admitted.{AreShapes, IsScore}
@@ -65,6 +66,14 @@ shape-part (s ∷ ss) (suc j) ℓ at pre e h =
 pub shape-words : (ss : List Term) (j : ℕ) (ℓ : Term) → getElem? ss j ≡ some ℓ → shapeAt (gather flatten ss) (startsAt 0 ss) j ≡ flatten ℓ
 shape-words ss j ℓ h = let b = at-below ss j h in words-are (gather flatten ss) (startsAt 0 ss) j (rw (length-starts 0 ss) b) ∙ shape-part ss j ℓ 0 [] refl h
 
+-- a shape and a node that exist are a match if the shape matches there
+pub match-of : (ss : List Term) (t : Term) (m : Match) → m .shape < length ss → m .node < span t
+    → ((ℓ : Term) (p : Pos) → getElem? ss (m .shape) ≡ some ℓ → number t p ≡ some (m .node) → Matches ℓ t p) → IsMatch ss t m
+match-of ss t m a b c =
+    let s = at-some ss (m .shape) a in
+    let p = node-at t (m .node) b in
+    record { shape = s .0; place = p .0; has-shape = s .1; has-node = p .1; matches = c (s .0) (p .0) (s .1) (p .1) }
+
 -- ---- over a folio
 module _ (ar : List ℕ) (ss : List Term) (t : Term) (are : AreShapes ar ss) (score : IsScore ar t) where
   abbrev W : List ℕ
@@ -86,18 +95,10 @@ module _ (ar : List ℕ) (ss : List Term) (t : Term) (are : AreShapes ar ss) (sc
   unfolding matched
   matched-is m h e =
       let l = length-starts 0 ss in
-      let b : m .shape < length ss = let k = ltb-is (m .shape) (length A) (and-l _ e) in omega arith in
-      let s = at-some ss (m .shape) b in
-      let p = node-at t (m .node) h in
-      record {
-        shape = s .0;
-        place = p .0;
-        has-shape = s .1;
-        has-node = p .1;
-        matches = falls-matches ar 65535 65536 (s .0) t (shape-fits (m .shape) (s .1)) (score .fits) (score .whole)
-            (p .0) (m .node) (p .1)
-            (rw (shape-words ss (m .shape) (s .0) (s .1)) at (and-r (ltb (m .shape) (length A)) e));
-      }
+      let b = ltb-is (m .shape) (length A) (and-l _ e) in
+      match-of ss t m (omega arith) h λ ℓ p s n.
+      falls-matches ar 65535 65536 ℓ t (shape-fits (m .shape) s) (score .fits) (score .whole) p (m .node) n
+      (rw (shape-words ss (m .shape) ℓ s) at (and-r (ltb (m .shape) (length A)) e))
 
   module _ (m : Match) (is : IsMatch ss t m) where
     words : shapeAt W A (m .shape) ≡ flatten (is .shape)

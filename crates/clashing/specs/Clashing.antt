@@ -1,5 +1,5 @@
 -- "Counting clashes is now lent the shapes too. Refusals: 19, then 31 and 30 as before, then 35 if a bit is set where no such shape matches."
---   clashesIn        of marks for the score's nodes: 35, or the clash number
+--   clashesIn   of marks for the score's nodes: 35, or the clash number
 --   clashesOf   19, 31, 30, or that
 use mathlib.Core.List.{List}
 use mathlib.Core.Bool.{not}

@@ -32,7 +32,8 @@ pub fn clashes(
     }
 }
 
-// The same, where only the marks may be wrong: each match touches nodes of the score, once; then it clashes if one of them is touched more than once.
+// The same, where only the marks may be wrong. If each bit is a match, it touches nodes of the score, each once: so it clashes if one of them is touched
+// more than once.
 fn clashes_in(words: &[u16], starts: &[u16], score: &[u16], spans: &[u16], marks: &[u16]) -> Counted
     requires { ⌜ (length (now score) ≤ 4096) × (length (now marks) ≤ 4096) ⌝ }
     ensures { λ r. ⌜ r ≡ clashesIn (now (words .entry)) (now (starts .entry)) (now (score .entry)) (now (spans .entry)) (now (marks .entry)) ⌝ }

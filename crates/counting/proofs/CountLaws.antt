@@ -1,7 +1,7 @@
 -- Counting at each way through it.
 --   few-nodes                     a good score has at most 4,096 words
---   long-bad long-short long-is   how many marks are looked at: 31, 30, or one for each node
---   looked unlooked               what is counted in them then
+--   count-bad count-short count-on   31, 30, or what f says of the first n marks
+--   long-is looked unlooked       how many marks are looked at, and what is counted in them then
 --   total-next total-end          the ones, mark by mark
 use Prim.Native.Nat.{ℕ, _+_, _-_, _^_, _<_, _≤_}
 use mathlib.Core.Path.{_≡_, ap, ap₂, sym, _∙_}
@@ -44,6 +44,23 @@ few-nodes ar ws sp e =
     let w = whole-in ar ws (scoreLimits 0) scoreLevels 0 (t .met) (r .0) in
     omega (arith, w .few, r .1)
 
+module _ (f : List ℕ → Counted) (ar ws sp ms : List ℕ) where
+  pub count-bad : scoreGood ar ws sp ≡ false → counted f ar ws sp ms ≡ Refused BadScore
+  unfolding counted
+  count-bad e = rw e
+
+  pub count-short : scoreGood ar ws sp ≡ true → length ms < length ws → counted f ar ws sp ms ≡ Refused ShortBuffers
+  unfolding counted
+  count-short e h = rw (e, lt-leb _ _ h)
+
+  pub count-on : scoreGood ar ws sp ≡ true → length ws ≤ length ms → counted f ar ws sp ms ≡ f (take (length ws) ms)
+  unfolding counted
+  count-on e h = rw (e, le-leb _ _ h)
+
+-- how many marks are looked at
+abbrev long : List ℕ → Counted
+long ms = Number (length ms)
+
 pub record Looked (ar ws sp ms : List ℕ) (n : ℕ) : Type 0 where
   pub nodes : n ≡ length ws
   pub few : n ≤ 4096
@@ -52,26 +69,16 @@ pub record Looked (ar ws sp ms : List ℕ) (n : ℕ) : Type 0 where
   pub counts : (f : List ℕ → Counted) → counted f ar ws sp ms ≡ f (take (n - 0) ms)
 
 module _ (ar ws sp ms : List ℕ) where
-  pub long-bad : scoreGood ar ws sp ≡ false → longOf ar ws sp ms ≡ Refused BadScore
-  unfolding counted
-  long-bad e = rw e
-
-  pub long-short : scoreGood ar ws sp ≡ true → length ms < length ws → longOf ar ws sp ms ≡ Refused ShortBuffers
-  unfolding counted
-  long-short e h = rw (e, lt-leb _ _ h)
-
   pub long-is : scoreGood ar ws sp ≡ true → length ws ≤ length ms → longOf ar ws sp ms ≡ Number (length ws)
-  unfolding counted
-  long-is e h = rw (e, le-leb _ _ h) (ap Number (length-take-le (length ws) ms h))
+  long-is e h = count-on long ar ws sp ms e h ∙ ap Number (length-take-le (length ws) ms h)
 
   -- what is counted where so many marks are looked at, and what is refused where none is
   pub looked : (n : ℕ) → longOf ar ws sp ms ≡ Number n → Looked ar ws sp ms n
-  unfolding counted
   looked n e = go (test (scoreGood ar ws sp)) (decLt (length ms) (length ws))
     where
       go : (scoreGood ar ws sp ≡ true) ⊎ (scoreGood ar ws sp ≡ false) → Dec (length ms < length ws) → Looked ar ws sp ms n
-      go (inr g) d = absurd (number-not (sym e ∙ long-bad g))
-      go (inl g) (yes h) = absurd (number-not (sym e ∙ long-short g h))
+      go (inr g) d = absurd (number-not (sym e ∙ count-bad long ar ws sp ms g))
+      go (inl g) (yes h) = absurd (number-not (sym e ∙ count-short long ar ws sp ms g h))
       go (inl g) (no h) =
           let l : length ws ≤ length ms = omega arith in
           let same : n ≡ length ws = number-is (sym e ∙ long-is g l) in
@@ -80,16 +87,15 @@ module _ (ar ws sp ms : List ℕ) where
             few = let w = few-nodes ar ws sp g in omega arith;
             inside = omega arith;
             short = let w = few-nodes ar ws sp g in omega (arith, length-take-le (n - 0) ms (omega arith));
-            counts = λ f. rw (g, le-leb (length ws) (length ms) l) (ap (λ (m : ℕ). f (take m ms)) (sym same ∙ sym (sub-zero n)));
+            counts = λ f. count-on f ar ws sp ms g l ∙ ap (λ (m : ℕ). f (take m ms)) (sym same ∙ sym (sub-zero n));
           }
 
   pub unlooked : (f : List ℕ → Counted) (r : Reason) → longOf ar ws sp ms ≡ Refused r → counted f ar ws sp ms ≡ Refused r
-  unfolding counted
   unlooked f r e = go (test (scoreGood ar ws sp)) (decLt (length ms) (length ws))
     where
       go : (scoreGood ar ws sp ≡ true) ⊎ (scoreGood ar ws sp ≡ false) → Dec (length ms < length ws) → counted f ar ws sp ms ≡ Refused r
-      go (inr g) d = rw g (sym (long-bad g) ∙ e)
-      go (inl g) (yes h) = rw (g, lt-leb (length ws) (length ms) h) (sym (long-short g h) ∙ e)
+      go (inr g) d = count-bad f ar ws sp ms g ∙ sym (count-bad long ar ws sp ms g) ∙ e
+      go (inl g) (yes h) = count-short f ar ws sp ms g h ∙ sym (count-short long ar ws sp ms g h) ∙ e
       go (inl g) (no h) = absurd (number-not (sym (long-is g (omega arith)) ∙ e))
 
 pub total-next : (ms : List ℕ) (i : ℕ) → i < length ms → getD ms i 0 < 2 ^ 16 → total (drop i ms) ≡ ones (getD ms i 0) + total (drop (i + 1) ms)

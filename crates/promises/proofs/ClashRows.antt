@@ -18,6 +18,7 @@ use Rattle.folio.proofs.Accepted.{shape-terms, score-term}
 use Rattle.counting.specs.Counting.{Match, counted, countedSays}
 use Rattle.counting.specs.declared.Counted.{Counted}
 use Rattle.counting.specs.declared.Counted.the-variants as count
+use Rattle.counting.proofs.CountLaws.{count-bad, count-short, count-on}
 use Rattle.counting.proofs.FoundLaws.{in-found}
 use Rattle.clashing.specs.Clashes.{clashNumber, nodesIn}
 use Rattle.clashing.specs.Strays.{matched, strays}
@@ -26,10 +27,10 @@ use Rattle.clashing.proofs.ClashLaws.{strays-none, on-stray, matched-all}
 use Rattle.clashing.proofs.OneFolio.{SaysOf, says-of}
 use Rattle.clashing.proofs.Telling.{in-stray, in-is, clashes-bad, clashes-go}
 use Rattle.promises.specs.Demand1 as rows
-use Rattle.promises.specs.Demand1.{GoodShapes, Good, ClashRow, marked, Stands}
+use Rattle.promises.specs.Demand1.{GoodShapes, Good, ClashRow, heldIn, IsThere}
 use Rattle.promises.specs.Told.{By}
 use Rattle.promises.proofs.BuildRows.{good-or-not, is-bad, is-good}
-use Rattle.promises.proofs.WalkRows.{score-or-not, score-bad, score-fine, counted-bad, counted-short, counted-on}
+use Rattle.promises.proofs.WalkRows.{score-or-not, score-bad, score-fine}
 
 -- the tables say what the terms that they hold say
 says-so : (ar ws st score spans : List ℕ) → GoodShapes ar ws st → Good ar score spans → SaysOf ws st score spans (shapeTerms ar ws) (scoreTerm ar score)
@@ -43,10 +44,10 @@ module _ (ar ws st score spans marks : List ℕ) (small : Below 65536 score) whe
   outcome = clashesOf ar ws st score spans marks
 
   abbrev all : List Match
-  all = marked ar ws st score spans marks
+  all = heldIn ar ws st score spans marks
 
   abbrev IsOne : Match → Type 0
-  IsOne = Stands ar ws st score spans marks
+  IsOne = IsThere ar ws st score spans marks
 
   -- ---- 19, 31, 30
   said-19 : (GoodShapes ar ws st → ⊥) → outcome ≡ count.Refused BadShapes
@@ -57,11 +58,11 @@ module _ (ar ws st score spans marks : List ℕ) (small : Below 65536 score) whe
     goes = clashes-go ar ws st score spans marks (is-good ar ws st s)
 
     said-31 : (Good ar score spans → ⊥) → outcome ≡ count.Refused BadScore
-    said-31 n = goes ∙ counted-bad ar score spans small (clashesIn ws st score spans) marks (score-bad ar score spans small n)
+    said-31 n = goes ∙ count-bad (clashesIn ws st score spans) ar score spans marks (score-bad ar score spans small n)
 
     module _ (g : Good ar score spans) where
       said-30 : length marks < length score → outcome ≡ count.Refused ShortBuffers
-      said-30 h = goes ∙ counted-short ar score spans small (clashesIn ws st score spans) marks (score-fine ar score spans small g) h
+      said-30 h = goes ∙ count-short (clashesIn ws st score spans) ar score spans marks (score-fine ar score spans small g) h
 
       -- ---- 35, or the number
       module _ (h : length score ≤ length marks) where
@@ -69,7 +70,7 @@ module _ (ar ws st score spans marks : List ℕ) (small : Below 65536 score) whe
         so = says-so ar ws st score spans s g
 
         here : outcome ≡ clashesIn ws st score spans (take (length score) marks)
-        here = goes ∙ counted-on ar score spans small (clashesIn ws st score spans) marks (score-fine ar score spans small g) h
+        here = goes ∙ count-on (clashesIn ws st score spans) ar score spans marks (score-fine ar score spans small g) h
 
         stands : (m : Match) → m ∈ all → matched ws st score spans m ≡ true → IsOne m
         stands m i e =

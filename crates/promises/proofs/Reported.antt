@@ -19,17 +19,17 @@ use Rattle.kinds.specs.Positions.{Pos}
 use Rattle.kinds.proofs.Bools.{false-true}
 use Rattle.kinds.proofs.ListLaws.{map-append, gather-append, gather-map, gather-same, range-append}
 use Rattle.kinds.proofs.Members.{∈-append, in-one, in-none, in-range}
-use Rattle.kinds.proofs.Places.{at-some, on-mapAt}
+use Rattle.kinds.proofs.Places.{on-mapAt}
 use Rattle.term.specs.Terms.{Term, span, depth, sizes}
 use Rattle.term.specs.Places.{dom, number}
-use Rattle.term.proofs.Numbers.{number-below, node-at, dom-number}
+use Rattle.term.proofs.Numbers.{number-below, dom-number}
 use Rattle.term.proofs.Sizes.{length-sizes}
 use Rattle.term.proofs.Subterms.{length-dom}
 use Rattle.counting.specs.Counting.{Match, matchAt, found, foundIn, total}
 use Rattle.counting.proofs.FoundLaws.{one, foundOne, foundAt, found-nodes, in-found, total-found}
 use Rattle.clashing.specs.Clashes.{clashNumber, nodesIn, nodesOf}
 use Rattle.clashing.specs.Strays.{IsMatch}
-use Rattle.clashing.proofs.OneFolio.{SaysOf}
+use Rattle.clashing.proofs.OneFolio.{match-of, SaysOf}
 use Rattle.report.specs.Paths.{pathOf}
 use Rattle.report.specs.Text.{matchLine, line, textOf, firstLine, lines, report}
 use Rattle.promises.specs.Reported.{MatchIn, matchOne, matchesAt, matchesIn, totalsIn, reportIn, totalsOf}
@@ -109,23 +109,17 @@ module _ (test : Term → Pos → Bool) (shapes : List Term) (t : Term) (ms : Li
 
   -- each match that the marks hold is one
   is-match : Says test t → (m : Match) → m ∈ foundIn ms → IsMatch shapes t m
-  is-match says m i =
-      let f = in-found ms m i in
-      let h : m .node < span t = omega (arith, f .0, right .long) in
-      let p = node-at t (m .node) h in
-      go p (decLt (m .shape) (length shapes)) (f .2)
+  is-match says m i = go (decLt (m .shape) (length shapes))
     where
-      go : (p : Pos) × (number t p ≡ some (m .node)) → Dec (m .shape < length shapes) → found ms m ≡ true → IsMatch shapes t m
-      go p (yes l) f =
-          let s = at-some shapes (m .shape) l in
-          record {
-            shape = s .0;
-            place = p .0;
-            has-shape = s .1;
-            has-node = p .1;
-            matches = says (s .0) (p .0) .0 (sym (right .exactly (m .shape) (s .0) (s .1) (m .node) (p .0) (p .1)) ∙ f);
-          }
-      go p (no l) f = false-true (sym (right .no-other (m .shape) (m .node) (number-below (p .0) t (m .node) (p .1)) (omega arith)) ∙ f)
+      f : (m .node < length ms) × (m .shape < 16) × (found ms m ≡ true)
+      f = in-found ms m i
+
+      h : m .node < span t
+      h = omega (arith, f .0, right .long)
+
+      go : Dec (m .shape < length shapes) → IsMatch shapes t m
+      go (yes l) = match-of shapes t m l h λ ℓ p s n. says ℓ p .0 (sym (right .exactly (m .shape) ℓ s (m .node) p n) ∙ f .2)
+      go (no l) = false-true (sym (right .no-other (m .shape) (m .node) h (omega arith)) ∙ f .2)
 
   module _ (paths : (p : Pos) (n : ℕ) → number t p ≡ some n → pathOf (sizes t) n ≡ some p) where
     lines-are : lines (sizes t) ms ≡ gather (λ m. matchLine (m .match) (m .place)) all

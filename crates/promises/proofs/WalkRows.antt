@@ -6,9 +6,9 @@ use mathlib.Core.List.{List}
 use Prim.Native.Nat.{ℕ, _*_, _<_, _≤_}
 use native.Mathlib.Omega.{arith}
 use native.Mathlib.Decide.{decLt}
-use borrow.Author.Tests.{le-leb, lt-leb, leb-true}
+use borrow.Author.Tests.{le-leb, leb-true}
 use lib.Dec.{leb}
-use lib.ListN.{length, take}
+use lib.ListN.{length}
 use Rattle.kinds.specs.declared.Reason.the-variants.{BadScore, ShortBuffers}
 use Rattle.kinds.proofs.Bools.{test, both, and-l, and-r, false-true}
 use Rattle.kinds.specs.Members.{Below}
@@ -16,6 +16,7 @@ use Rattle.checks.specs.Again.{scoreGood}
 use Rattle.folio.proofs.GoodTables.{score-good-scored, scored-good}
 use Rattle.walk.specs.Starting.{Walk, goOn, begun, roomFor, started, refuseWalk}
 use Rattle.counting.specs.Counting.{total, counted, countedSays}
+use Rattle.counting.proofs.CountLaws.{count-bad, count-short, count-on}
 use Rattle.counting.specs.declared.Counted.{Counted}
 use Rattle.counting.specs.declared.Counted.the-variants as count
 use Rattle.promises.specs.Demand1 as rows
@@ -90,19 +91,6 @@ module _ (ar score spans : List ℕ) (small : Below 65536 score) where
     pub by-start : By (StartRow ar score spans w) (walkTold (started ar score spans w))
     by-start = (start-row, start-only)
 
-  module _ (f : List ℕ → Counted) (marks : List ℕ) where
-    pub counted-bad : scoreGood ar score spans ≡ false → counted f ar score spans marks ≡ count.Refused BadScore
-    unfolding counted
-    counted-bad e = rw e refl
-
-    pub counted-short : scoreGood ar score spans ≡ true → length marks < length score → counted f ar score spans marks ≡ count.Refused ShortBuffers
-    unfolding counted
-    counted-short e h = rw (e, lt-leb (length score) (length marks) h) refl
-
-    pub counted-on : scoreGood ar score spans ≡ true → length score ≤ length marks → counted f ar score spans marks ≡ f (take (length score) marks)
-    unfolding counted
-    counted-on e h = rw (e, le-leb (length score) (length marks) h) refl
-
   module _ (marks : List ℕ) where
     abbrev all : List ℕ → Counted
     all ms = count.Number (total ms)
@@ -112,14 +100,14 @@ module _ (ar score spans : List ℕ) (small : Below 65536 score) where
       where
         go : Good ar score spans ⊎ (Good ar score spans → ⊥) → Dec (length marks < length score)
             → CountRow ar score spans marks (countedSays (counted all ar score spans marks))
-        go (inr n) d = rw (counted-bad all marks (score-bad n)) (rows.count-31 n)
-        go (inl g) (yes h) = rw (counted-short all marks (score-fine g) h) (rows.count-30 g h)
-        go (inl g) (no h) = let k : length score ≤ length marks = omega arith in rw (counted-on all marks (score-fine g) k) (rows.counts g k)
+        go (inr n) d = rw (count-bad all ar score spans marks (score-bad n)) (rows.count-31 n)
+        go (inl g) (yes h) = rw (count-short all ar score spans marks (score-fine g) h) (rows.count-30 g h)
+        go (inl g) (no h) = let k : length score ≤ length marks = omega arith in rw (count-on all ar score spans marks (score-fine g) k) (rows.counts g k)
 
     count-only : (o : Says) → CountRow ar score spans marks o → countedSays (counted all ar score spans marks) ≡ o
-    count-only _ (rows.count-31 n) = ap countedSays (counted-bad all marks (score-bad n))
-    count-only _ (rows.count-30 g h) = ap countedSays (counted-short all marks (score-fine g) h)
-    count-only _ (rows.counts g h) = ap countedSays (counted-on all marks (score-fine g) h)
+    count-only _ (rows.count-31 n) = ap countedSays (count-bad all ar score spans marks (score-bad n))
+    count-only _ (rows.count-30 g h) = ap countedSays (count-short all ar score spans marks (score-fine g) h)
+    count-only _ (rows.counts g h) = ap countedSays (count-on all ar score spans marks (score-fine g) h)
 
     pub by-count : By (CountRow ar score spans marks) (countedSays (counted all ar score spans marks))
     by-count = (count-row, count-only)

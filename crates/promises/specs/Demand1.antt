@@ -124,20 +124,20 @@ module _ (ar score spans : List ℕ) where
 -- ---- counting clashes
 module _ (ar ws st score spans marks : List ℕ) where
   -- the matches that the first n marks hold, and whether one is a match of the shapes in the score
-  abbrev pub marked : List Match
-  marked = foundIn (take (length score) marks)
+  abbrev pub heldIn : List Match
+  heldIn = foundIn (take (length score) marks)
 
-  abbrev pub Stands : Match → Type 0
-  Stands = IsMatch (shapeTerms ar ws) (scoreTerm ar score)
+  abbrev pub IsThere : Match → Type 0
+  IsThere = IsMatch (shapeTerms ar ws) (scoreTerm ar score)
 
   pub data ClashRow : Says → Type 0 where
     clash-19 : (GoodShapes ar ws st → ⊥) → ClashRow (refusal 19 0)
     clash-31 : GoodShapes ar ws st → (Good ar score spans → ⊥) → ClashRow (refusal 31 0)
     clash-30 : GoodShapes ar ws st → Good ar score spans → length marks < length score → ClashRow (refusal 30 0)
-    clash-35 : GoodShapes ar ws st → Good ar score spans → length score ≤ length marks → (m : Match) → m ∈ marked → (Stands m → ⊥)
+    clash-35 : GoodShapes ar ws st → Good ar score spans → length score ≤ length marks → (m : Match) → m ∈ heldIn → (IsThere m → ⊥)
         → ClashRow (refusal 35 0)
-    clashes : GoodShapes ar ws st → Good ar score spans → length score ≤ length marks → ((m : Match) → m ∈ marked → Stands m)
-        → ClashRow (gives (clashNumber (nodesIn (shapeTerms ar ws) (scoreTerm ar score)) marked ∷ []))
+    clashes : GoodShapes ar ws st → Good ar score spans → length score ≤ length marks → ((m : Match) → m ∈ heldIn → IsThere m)
+        → ClashRow (gives (clashNumber (nodesIn (shapeTerms ar ws) (scoreTerm ar score)) heldIn ∷ []))
 
 -- ---- stepping
 pub data StepRow (plan score spans : List ℕ) (i : ℕ) (w : Walk) : Told Walk → Type 0 where
