@@ -1,5 +1,6 @@
 -- A match clashes with another exactly if it touches a node that all matches together touch more than once.
---   Others found-others     the matches that marks hold differ from each other
+--   Other found-others      the matches that marks hold differ from each other
+--   same-share              what two matches share depends on their nodes alone
 --   clash-number            the second pass counts the clashing matches
 --   strays-none on-stray matched-all   no bit strays exactly if each set bit is a match
 --   clashes-are             the number that the passes find, where no bit strays
@@ -29,7 +30,7 @@ use Rattle.clashing.specs.Passes.{sharing}
 use Rattle.clashing.proofs.Times.{times, times-append, in-times, times-in, more-is, touched-once, falls-inside}
 
 -- ---- matches that differ
-abbrev pub Other : Match → Match → Type 0
+abbrev Other : Match → Match → Type 0
 Other m o = other m o ≡ true
 
 same-other : (m o : Match) → m ≡ o → Other m o → ⊥
@@ -53,7 +54,7 @@ numbers-other i j h = go (ℕ-discrete (i / 16) (j / 16)) (ℕ-discrete (i % 16)
     go (yes e) (no d) = rw (eq-eqb (i / 16) (j / 16) e, ne-eqb (i % 16) (j % 16) d)
     go (no e) d = rw (ne-eqb (i / 16) (j / 16) e)
 
-pub found-others : (ms : List ℕ) → Pairwise Other (foundIn ms)
+found-others : (ms : List ℕ) → Pairwise Other (foundIn ms)
 unfolding foundFrom
 found-others ms =
     let all = range 0 (16 * length ms) in
@@ -132,7 +133,7 @@ module _ (N : Match → List ℕ) (all : List Match) (n : ℕ) (once : (m : Matc
         on-two N y (λ o. once o y) all differ m i (ltb-is 1 (times y (gather N all)) (sym (more y (inside m y i a)) ∙ f)) λ o k d b.
         any-of (λ o. other m o && clash N m o) k (both {a = other m o} d (share-of (N m) (N o) y a b))
 
-  pub clash-number : clashNumber N all ≡ sharing N counts all
+  clash-number : clashNumber N all ≡ sharing N counts all
   unfolding clashNumber sharing
   clash-number = ap length (filter-same (clashing N all) (λ m. isShared counts (N m)) all (λ m i. bool-ext _ _ (clash-shared m i) (shared-clash m i)))
 

@@ -61,7 +61,7 @@ more-is (x ∷ xs) cs y h = more-is xs (set cs x (raise (getD cs x 0))) y (rw (l
 
 -- ---- what one shape touches
 module _ (bl : ℕ) (spans : List ℕ) where
-  pub touched-low : (ws : List ℕ) (x y : ℕ) → y < x → times y (touched bl spans ws x) ≡ 0
+  touched-low : (ws : List ℕ) (x y : ℕ) → y < x → times y (touched bl spans ws x) ≡ 0
   unfolding touched
   touched-low [] x y h = refl
   touched-low (w ∷ ws) x y h = times-append y (falling bl w x) _ ∙ go (decLt w bl) (touched-low ws (x + size bl spans w x) y (omega arith))

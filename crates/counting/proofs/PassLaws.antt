@@ -139,8 +139,10 @@ module _ (ms : List ℕ) where
       )
 
   pub pass-start : (k : ℕ) → k ≡ nextOf ms 0 (16 * length ms - 0) → At k × (foundIn ms ≡ restFrom k)
-  pass-start k e = let a = at-next 0 k (omega arith) e in let z : 16 * length ms - 0
-      ≡ 16 * length ms = omega arith in (a .0, ap (foundFrom ms 0) (sym z) ∙ a .2)
+  pass-start k e =
+      let a = at-next 0 k (omega arith) e in
+      let z : 16 * length ms - 0 ≡ 16 * length ms = omega arith in
+      (a .0, ap (foundFrom ms 0) (sym z) ∙ a .2)
 
   pub record Turn (k r : ℕ) : Type 0 where
     pub at : At r

@@ -135,7 +135,7 @@ prefix-is [] q e = record { by = q; eq = refl }
 prefix-is (i ∷ r) [] e = absurd (false≢true e)
 prefix-is (i ∷ r) (j ∷ q) e = ≼-cons (eqb-is i j (and-l _ e)) (prefix-is r q (and-r (eqb i j) e))
 
-pub is-prefix : (r b : Pos) → prefix r (r ++ b) ≡ true
+is-prefix : (r b : Pos) → prefix r (r ++ b) ≡ true
 is-prefix [] b = refl
 is-prefix (i ∷ r) b = both (is-eqb i i refl) (is-prefix r b)
 
