@@ -9,7 +9,7 @@ ghost use Rattle.automaton.specs.Classes.{leads};
 ghost use Rattle.goals.specs.GoalWords.{flat};
 ghost use Rattle.classes.specs.Squares.{IsSquare, ClassRoom};
 ghost use Rattle.deriving.specs.Orders.{classAt};
-ghost use Rattle.deriving.specs.Passes.{PutsFirst};
+ghost use Rattle.deriving.specs.Passes.{Puts};
 
 // Is the first yes of row i at its own place?
 pub fn leader(dep: &[[bool; 96]; 96], i: usize) -> bool
@@ -26,12 +26,19 @@ pub fn leader(dep: &[[bool; 96]; 96], i: usize) -> bool
     dep[i][i]
 }
 
-// The goals of row i, of n goals, into `out`; answers the words written.
-pub fn put_class(dep: &[[bool; 96]; 96], i: usize, ws: &[u16], n: usize, out: &mut [u16]) -> usize
-    requires { ⌜ ClassRoom (now ws) n (now dep) i (now out) ⌝ }
-    ensures { λ r. ⌜ PutsFirst (flat (classAt (now (dep .entry)) (now (ws .entry)) n i)) r (now (out .entry)) (now (out .exit)) ⌝ }
+// The goals of row i, of n goals, into `out` from `to` on; answers the place after them.
+pub fn put_class(
+    dep: &[[bool; 96]; 96],
+    i: usize,
+    ws: &[u16],
+    n: usize,
+    out: &mut [u16],
+    to: usize,
+) -> usize
+    requires { ⌜ ClassRoom (now ws) n (now dep) i (now out) to ⌝ }
+    ensures { λ r. ⌜ Puts (flat (classAt (now (dep .entry)) (now (ws .entry)) n i)) to r (now (out .entry)) (now (out .exit)) ⌝ }
 {
-    let mut next = 0;
+    let mut next = to;
     let mut here = 0;
     let mut j = 0;
     while j < n {

@@ -2,9 +2,6 @@ use goals::Goal;
 use goals::words::goal_at;
 ghost use mathlib.Core.Path.{_≡_};
 ghost use mathlib.Core.Bool.{true, false};
-ghost use Prim.Native.Nat.{_+_, _<_, _≤_};
-ghost use lib.ListN.{length, take, drop};
-ghost use lib.Seq.{sets};
 ghost use Rattle.goals.specs.GoalWords.{goalsFrom, GoalsIn};
 ghost use Rattle.goals.specs.GoalKinds.{asWords};
 ghost use Rattle.goals.specs.WordStages.{sameW, amongW, withinW, sameStateW};
@@ -56,29 +53,13 @@ fn within(ws: &[u16], from: usize, n: usize, vs: &[u16], at: usize, k: usize) ->
     true
 }
 
-// The words from `at` on, as many as `out` has, into `out`.
-fn copy_words(ws: &[u16], at: usize, n: usize, out: &mut [u16])
-    requires { ⌜ (at + n ≤ length (now ws)) × (n ≤ length (now out)) ⌝ }
-    ensures { λ r. ⌜ now (out .exit) ≡ sets (now (out .entry)) 0 (take n (drop at (now (ws .entry)))) ⌝ }
-{
-    let mut i = 0;
-    while i < n {
-        out[i] = ws[at + i];
-        i += 1;
-    }
-}
-
 // Are two states of at most 32 goals the same set of goals?
 pub fn same_state(ws: &[u16], from: usize, n: usize, vs: &[u16], at: usize, k: usize) -> bool
     requires { ⌜ GoalsIn 32 (now ws) from n × GoalsIn 32 (now vs) at k ⌝ }
     ensures { λ r. ⌜ r ≡ sameStateW (goalsFrom (now (ws .entry)) from n) (goalsFrom (now (vs .entry)) at k) ⌝ }
 {
-    let mut xs = [0u16; 96];
-    let mut ys = [0u16; 96];
-    copy_words(ws, from, 3 * n, &mut xs);
-    copy_words(vs, at, 3 * k, &mut ys);
-    if within(&xs, 0, n, &ys, 0, k) {
-        return within(&ys, 0, k, &xs, 0, n);
+    if within(ws, from, n, vs, at, k) {
+        return within(vs, at, k, ws, from, n);
     }
     false
 }

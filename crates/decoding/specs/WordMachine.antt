@@ -1,7 +1,8 @@
 -- Inside: the construction on words, as numbering and layout take it; and the states met, as scratch holds them.
 --   announcementW   a goal's announcement
 --   words           for tables and n shapes
---   placeIn         the states in scratch: 128 counts of goals, then 96 words a state; statesWords: of all
+--   placeIn         the states in scratch: 128 counts of goals, then 96 words a state; behind the last of them the class that is looked up
+--   usedWords       of all
 --   stateIn         state i of scratch
 --   statesIn        the first m states
 --   Kept            what code asks of scratch that holds m states
@@ -30,13 +31,13 @@ words tab n = record {
   same = sameStateW;
 }
 
--- where state i begins
+-- where state i begins, or what lies behind i states
 abbrev pub placeIn : ℕ → ℕ
 placeIn i = 128 + 96 * i
 
--- the words of 128 counts and as many states
-abbrev pub statesWords : ℕ
-statesWords = 12416
+-- the words of 128 counts, as many states, and a class of 96 goals
+abbrev pub usedWords : ℕ
+usedWords = 12704
 
 abbrev pub stateIn : List ℕ → ℕ → List GoalWords
 stateIn sc i = goalsFrom sc (placeIn i) (getD sc i 0)
@@ -45,6 +46,6 @@ unfoldable pub statesIn : List ℕ → ℕ → List (List GoalWords)
 statesIn sc m = map (stateIn sc) (range 0 m)
 
 pub record Kept (sc : List ℕ) (m : ℕ) : Type 0 where
-  pub long : statesWords ≤ length sc
+  pub long : usedWords ≤ length sc
   pub few : m ≤ 128
   pub counts : (i : ℕ) → i < m → getD sc i 0 ≤ 32

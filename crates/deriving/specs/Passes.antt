@@ -4,7 +4,7 @@
 --   PutsFirst  words are put at the start: the answer is how many
 --   Bearable   what code asks where it puts what is born: positions that are codes, and room for the goals
 --   Derivable  the same where it derives
---   Lifts      a class is put at the start, lifted: the answer is its displacement
+--   Lifts      a class is put from a place on, lifted: the answer is its displacement
 --   Arranged   numbers are put at the start, in ascending order: the answer is how many
 use mathlib.Core.Path.{_≡_}
 use mathlib.Core.List.{List}
@@ -37,8 +37,8 @@ pub record Derivable (tab : List ℕ) (n c f k : ℕ) (gs : List GoalWords) (out
   pub codes : 5 * c + k ≤ 65535
   pub room : length (flat (derivW tab n c f k gs)) ≤ length out
 
-abbrev pub Lifts : List GoalWords → ℕ → List ℕ → List ℕ → Type 0
-Lifts gs top old new = (top ≡ displacementW gs) × (new ≡ sets old 0 (flat (liftedW gs)))
+abbrev pub Lifts : List GoalWords → ℕ → ℕ → List ℕ → List ℕ → Type 0
+Lifts gs to top old new = (top ≡ displacementW gs) × (new ≡ sets old to (flat (liftedW gs)))
 
 abbrev pub Arranged : List ℕ → ℕ → List ℕ → List ℕ → Type 0
 Arranged xs k old new = (k ≡ length xs) × (new ≡ sets old 0 (sort ltb xs))

@@ -1,24 +1,19 @@
-use goals::Goal;
 use goals::NOWHERE;
-use goals::words::goal_at;
-use goals::words::put_goal;
 use kinds::Position;
 ghost use mathlib.Core.Path.{_≡_};
 ghost use mathlib.Core.List.{map};
-ghost use Prim.Native.Nat.{_*_, _<_, _≤_};
-ghost use lib.ListN.{length};
 ghost use lib.Seq.{sets};
 ghost use Rattle.goals.specs.GoalWords.{goalsFrom, flat, GoalsIn};
 ghost use Rattle.goals.specs.WordStages.{leastCode, underCode, liftW};
 ghost use Rattle.deriving.specs.Passes.{Lifts};
 
-// A class of k goals, lifted by its displacement, into `lifted`; answers the displacement.
-pub fn lift_class(class: &[u16], k: usize, lifted: &mut [u16]) -> Position
-    requires { ⌜ GoalsIn 96 (now class) 0 k × (3 * k ≤ length (now lifted)) ⌝ }
-    ensures { λ r. ⌜ Lifts (goalsFrom (now (class .entry)) 0 k) (r .0) (now (lifted .entry)) (now (lifted .exit)) ⌝ }
+// A class of k goals from `at` on, lifted by its displacement where it stands; answers the displacement.
+pub fn lift_class(ws: &mut [u16], at: usize, k: usize) -> Position
+    requires { ⌜ GoalsIn 96 (now ws) at k ⌝ }
+    ensures { λ r. ⌜ Lifts (goalsFrom (now (ws .entry)) at k) at (r .0) (now (ws .entry)) (now (ws .exit)) ⌝ }
 {
-    let top = least(class, 0, k, NOWHERE);
-    put_lifted(class, 0, k, top, lifted);
+    let top = least(ws, at, k, NOWHERE);
+    lift_goals(ws, at, k, top);
     top
 }
 
@@ -58,29 +53,16 @@ fn under(top: Position, place: Position) -> Position
     Position((place.0 as u32 % weight) as u16)
 }
 
-// A class of n goals from `at` on, lifted by a position, into `out`.
-fn put_lifted(ws: &[u16], at: usize, n: usize, top: Position, out: &mut [u16])
-    requires { ⌜ GoalsIn 96 (now ws) at n × (3 * n ≤ length (now out)) ⌝ }
-    ensures { λ r. ⌜ now (out .exit) ≡ sets (now (out .entry)) 0 (flat (map (liftW (top .0)) (goalsFrom (now (ws .entry)) at n))) ⌝ }
+// The n goals from `at` on, lifted by a position where they stand.
+fn lift_goals(ws: &mut [u16], at: usize, n: usize, top: Position)
+    requires { ⌜ GoalsIn 96 (now ws) at n ⌝ }
+    ensures { λ r. ⌜ now (ws .exit) ≡ sets (now (ws .entry)) at (flat (map (liftW (top .0)) (goalsFrom (now (ws .entry)) at n))) ⌝ }
 {
-    let mut next = 0;
     let mut here = at;
     let mut left = n;
     while 0 < left {
-        let g = goal_at(ws, here);
-        let shape = g.shape;
-        let place = g.at;
-        let at = under(top, place);
-        put_goal(
-            out,
-            next,
-            Goal {
-                shape: shape,
-                at: at,
-                mask: g.mask,
-            },
-        );
-        next += 3;
+        let place = under(top, Position(ws[here + 1]));
+        ws[here + 1] = place.0;
         here += 3;
         left -= 1;
     }

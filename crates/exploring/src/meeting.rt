@@ -1,6 +1,4 @@
-use classes::members::put_class;
 use deriving::derivative::put_fresh;
-use deriving::lift::lift_class;
 use goals::obligations::label;
 use kinds::Position;
 use kinds::Reason;
@@ -9,16 +7,16 @@ use kinds::Symbol;
 use states::DERIVED_WORDS;
 use states::Explored;
 use states::Going;
-use states::STATE_WORDS;
 use states::STATES;
-use states::keeping::add_state;
 use states::keeping::find_state;
+use states::keeping::lift_behind;
+use states::keeping::place_in;
 use states::parting::part;
 ghost use mathlib.Core.List.{List, []};
 ghost use Prim.Native.Nat.{_<_, _≤_};
 ghost use lib.ListN.{length};
 ghost use Rattle.automaton.specs.Exploring.{Block, meet as meets-one, meets, row, explored};
-ghost use Rattle.decoding.specs.WordMachine.{words as machine, stateIn, statesIn, statesWords, Kept};
+ghost use Rattle.decoding.specs.WordMachine.{words as machine, stateIn, statesIn, usedWords, Kept};
 ghost use Rattle.decoding.specs.GoodStates.{Ready};
 ghost use Rattle.deriving.specs.Orders.{classAt};
 ghost use Rattle.states.specs.Meeting.{Held, Behind, ClassMeetable, ClassesMeetable, MetIs, SymbolIs, RowIs, ExploredIs};
@@ -26,13 +24,12 @@ ghost use Rattle.states.specs.Parting.{OnSymbol, classesBy};
 
 // Meets the states in the order of their numbers; scratch then holds them. Answers how many there are and how many words their blocks take.
 pub fn explore(tab: &[u16], symbols: &[u8], shapes: usize, scratch: &mut [u16]) -> Explored
-    requires { ⌜ Ready (now symbols) (now tab) shapes × (statesWords ≤ length (now scratch)) ⌝ }
+    requires { ⌜ Ready (now symbols) (now tab) shapes × (usedWords ≤ length (now scratch)) ⌝ }
     ensures is { λ r. ⌜ ExploredIs r (now (symbols .entry)) (now (tab .entry)) shapes (now (scratch .exit)) (explored (machine (now (tab .entry)) shapes) (now (symbols .entry))) ⌝ }
     ensures behind { λ r. ⌜ Behind (now (scratch .entry)) (now (scratch .exit)) ⌝ }
 {
-    let mut first = [0u16; STATE_WORDS];
-    put_fresh(&mut first, 0, shapes, Position::ROOT);
-    add_state(scratch, 0, &first, shapes);
+    put_fresh(scratch, place_in(0), shapes, Position::ROOT);
+    scratch[0] = shapes as u16;
     let mut m = 1;
     let mut words = 0;
     let mut i = 0;
@@ -66,7 +63,7 @@ fn explore_state(
 {
     let i = state.0 as usize;
     let n = scratch[i] as usize;
-    let c = label(tab, scratch, STATES + STATE_WORDS * i, n) as u16;
+    let c = label(tab, scratch, place_in(i), n) as u16;
     let mut states = m;
     let mut words = 0;
     let mut f = 0;
@@ -160,7 +157,7 @@ fn meet_all(
     Going::On(states, words)
 }
 
-// The class that row r begins: a state met before, or a new one.
+// The class that row r begins: a state met before, or a new one where it stands.
 fn meet(
     scratch: &mut [u16],
     m: usize,
@@ -173,19 +170,17 @@ fn meet(
     ensures is { λ a. ⌜ MetIs a (now (scratch .exit)) 0 (meets-one (machine [] 0) (statesIn (now (scratch .entry)) m) (classAt (now (dep .entry)) (now (goals .entry)) n r)) ⌝ }
     ensures behind { λ a. ⌜ Behind (now (scratch .entry)) (now (scratch .exit)) ⌝ }
 {
-    let mut class = [0u16; DERIVED_WORDS];
-    let k = put_class(dep, r, goals, n, &mut class) / 3;
+    let class = lift_behind(scratch, m, goals, n, dep, r);
+    let k = class.goals;
     if 32 < k {
         return Going::Stopped(Reason::ManyGoals);
     }
-    let mut lifted = [0u16; STATE_WORDS];
-    lift_class(&class, k, &mut lifted);
-    if find_state(scratch, m, &lifted, k) < m {
+    if find_state(scratch, m, k) < m {
         return Going::On(m, 2);
     }
     if m == STATES {
         return Going::Stopped(Reason::ManyStates);
     }
-    add_state(scratch, m, &lifted, k);
+    scratch[m] = k as u16;
     Going::On(m + 1, 2)
 }

@@ -1,7 +1,7 @@
 -- The word definitions along a loop's turn.
-use native.Mathlib.Nat.{mul-le-mul, sub-zero, zero-add}
+use native.Mathlib.Nat.{mul-le-mul, sub-zero, zero-add, add-zero, add-assoc}
 use Prim.Native.Nat.{ℕ, zero, suc, _+_, _-_, _*_, _/_, _%_, _<_, _≤_}
-use mathlib.Core.Path.{_≡_, refl, ap, sym, _∙_}
+use mathlib.Core.Path.{_≡_, refl, ap, ap₂, sym, _∙_}
 use mathlib.Core.List.{List, [], _∷_, _++_, append-assoc}
 use mathlib.Core.Bool.{Bool, true, false, cond, _||_}
 use native.Mathlib.Omega.{arith}
@@ -131,6 +131,18 @@ goals-end ws at (suc k) h = absurd (omega arith)
 
 pub low-next : (ws : List ℕ) (at k : ℕ) → 0 < k → Low (goalsFrom ws at k) → (getD ws at 0 < 16) × Low (goalsFrom ws (at + 3) (k - 1))
 low-next ws at k h l = rw (goals-next ws at k h) at l
+
+-- goals read from words that agree
+pub goals-same : (xs ys : List ℕ) (a b k : ℕ) → ((i : ℕ) → i < 3 * k → getD xs (a + i) 0 ≡ getD ys (b + i) 0)
+    → goalsFrom xs a k ≡ goalsFrom ys b k
+unfolding goalsFrom
+goals-same xs ys a b zero h = refl
+goals-same xs ys a b (suc k) h =
+    let z : getD xs a 0 ≡ getD ys b 0 = ap (λ n. getD xs n 0) (sym (add-zero a)) ∙ h 0 (omega arith) ∙ ap (λ n. getD ys n 0) (add-zero b) in
+    ap₂ (λ g gs. g ∷ gs)
+    (λ i. record { sh = z i; an = h 1 (omega arith) i; mask = h 2 (omega arith) i })
+    (goals-same xs ys (a + 3) (b + 3) k (λ i l. ap (λ n. getD xs n 0) (add-assoc a 3 i) ∙ h (3 + i) (omega arith)
+    ∙ ap (λ n. getD ys n 0) (sym (add-assoc b 3 i))))
 
 -- goal a of k
 pub goals-length : (ws : List ℕ) (at k : ℕ) → length (goalsFrom ws at k) ≡ k

@@ -31,7 +31,7 @@ use Rattle.automaton.specs.FinalBlocks.{allBlocks, SmallOn}
 use Rattle.automaton.proofs.BlocksAgain.{blocks-again}
 use Rattle.goals.specs.GoalWords.{GoalWords}
 use Rattle.goals.specs.WordStages.{sameW, amongW, withinW, sameStateW}
-use Rattle.decoding.specs.WordMachine.{words, statesIn, statesWords}
+use Rattle.decoding.specs.WordMachine.{words, statesIn, usedWords}
 use Rattle.decoding.specs.GoodStates.{Ready}
 use Rattle.states.specs.Meeting.{Held, Behind, blocksLength, allMost, AllMade, ExploredIs}
 use Rattle.writing.specs.RowWords.{planIn, Writable}
@@ -78,7 +78,7 @@ onto-again k xs ys e =
 pub cleared-again : (xs ys : List ℕ) → Behind ys xs → cleared xs ≡ cleared ys
 unfolding cleared
 cleared-again xs ys e =
-    onto-again scratchWords xs ys (sym (drop-drop 20352 statesWords xs) ∙ ap (drop 20352) e ∙ drop-drop 20352 statesWords ys)
+    onto-again scratchWords xs ys (sym (drop-drop 20064 usedWords xs) ∙ ap (drop 20064) e ∙ drop-drop 20064 usedWords ys)
 
 -- ---- a state is the same as itself
 same-goal : (g : GoalWords) → sameW g g ≡ true
@@ -160,15 +160,15 @@ module _ (ar tab : List ℕ) (n : ℕ) where
           e .is (length plan) ∙ ap (λ t. cond t too-long (plan-of m P)) over in
           ap (out (built.Refused LongPlan) plan) (cleared-again sc scratch b) ∙ sym (ap (λ p. written p plan scratch) is)
 
-      pub made-plan : total ≤ length plan → total ≤ 65535 → (plan′ : List ℕ) → plan′ ≡ sets plan 0 P
-          → out (built.Plan (size m total)) plan′ (cleared sc) ≡ wanted
-      made-plan h g plan′ d =
+      pub made-plan : total ≤ length plan → total ≤ 65535 → (plan′ sc′ : List ℕ) → plan′ ≡ sets plan 0 P → Behind sc sc′
+          → out (built.Plan (size m total)) plan′ (cleared sc′) ≡ wanted
+      made-plan h g plan′ sc′ d b′ =
           let within : (ltb (length plan) (length P) || ltb 65535 (length P)) ≡ false =
           ap₂ (λ x y. x || y) (le-ltb (length plan) (length P) (rw (e .total) at h)) (le-ltb 65535 (length P) (rw (e .total) at g)) in
           let is : planned (words tab n) ar n (length plan) ≡ plan-of m P =
           e .is (length plan) ∙ ap (λ t. cond t too-long (plan-of m P)) within in
-          ap (λ k. out (built.Plan (size m k)) plan′ (cleared sc)) (e .total)
-          ∙ ap₂ (out (built.Plan (size m (length P)))) d (cleared-again sc scratch b)
+          ap (λ k. out (built.Plan (size m k)) plan′ (cleared sc′)) (e .total)
+          ∙ ap₂ (out (built.Plan (size m (length P)))) d (cleared-again sc′ scratch (b′ ∙ b))
           ∙ sym (ap (λ p. written p plan scratch) is)
 
       pub plan-writable : Ready ar tab n → total ≤ length plan → total ≤ 65535 → Writable ar tab n sc m total plan

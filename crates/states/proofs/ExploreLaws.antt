@@ -1,6 +1,6 @@
 -- Exploring, turn by turn.
---   class-… Lifting lifting             a class and the lifted class in arrays
---   met-known met-full met-new          the ways to meet a class in scratch
+--   class-… lifted-…                    a class lifted behind the states
+--   met-big met-known met-full met-new  the ways to meet a class in scratch
 --   Meeting meeting-…                   classes in turn
 --   symbol-…                            a state on a symbol, from its parts
 --   block-length words-more             how many words blocks take
@@ -15,29 +15,31 @@ use Prim.Native.Nat.{ℕ, suc, _+_, _-_, _*_, _/_, _%_, _<_, _≤_}
 use native.Mathlib.Omega.{arith}
 use native.Mathlib.Numerals.{add-one}
 use lib.Dec.{eqb, ltb}
-use lib.ListN.{length, getD, drop, replicate, length-append, length-map}
+use lib.ListN.{length, getD, drop, set, length-append, length-map}
 use lib.Seq.{sets, length-sets}
 use Rattle.kinds.specs.Lists.{gather, concat, range}
+use Rattle.kinds.specs.declared.Position.{Position}
 use Rattle.kinds.specs.declared.Reason.{Reason}
 use Rattle.kinds.specs.declared.Reason.the-variants.{ManyGoals, ManyStates}
 use Rattle.kinds.specs.Positions.{code}
 use Rattle.kinds.proofs.Members.{in-one, length-range, perm-length, sort-perm}
-use Rattle.kinds.proofs.ListLaws.{map-append, concat-append, from, from-end}
+use Rattle.kinds.proofs.ListLaws.{sets-over, map-append, concat-append, from, from-end}
 use Rattle.kinds.proofs.Places.{getElem-some, getD-ext, ext-length}
 use Rattle.automaton.specs.Exploring.{Succ, Block, Met, met, Made, refused, meet, meets, row, run, explored}
 use Rattle.automaton.specs.PlanWords.{blockWords}
 use Rattle.automaton.specs.FinalBlocks.{succOf}
 use Rattle.automaton.proofs.BlocksAgain.{meet-found, meets-found}
-use Rattle.goals.specs.GoalWords.{GoalWords, goalsFrom, flat, labelCode}
+use Rattle.goals.specs.GoalWords.{GoalWords, goalsFrom, flat, labelCode, GoalsIn}
 use Rattle.goals.specs.WordStages.{freshesW, freshW, liftW, reduct, annKey, announces, outputsW, displacementW, liftedW}
-use Rattle.decoding.specs.WordMachine.{words, announcementW, stateIn, statesIn, statesWords, Kept}
+use Rattle.decoding.specs.WordMachine.{words, announcementW, placeIn, stateIn, statesIn, usedWords, Kept}
 use Rattle.decoding.specs.GoodStates.{Ready, GoodState}
 use Rattle.deriving.specs.Orders.{classAt}
-use Rattle.deriving.specs.Passes.{PutsFirst, Lifts}
+use Rattle.deriving.specs.Passes.{Puts, Lifts}
 use Rattle.automaton.specs.Classes.{Square}
-use Rattle.states.specs.Meeting.{placeOf, Held, Behind, blocksLength, rowMost, ClassesMet, MetIs, SymbolIs, RowIs, ExploredIs}
+use Rattle.states.specs.Meeting.{placeOf, LiftsBehind, Held, Behind, Spared, blocksLength, rowMost, ClassesMet, ClassMeetable, MetIs, SymbolIs, RowIs, ExploredIs}
 use Rattle.states.specs.Parting.{derivedWords, OnSymbol, firsts, classesBy, Parted}
 use Rattle.classes.specs.Squares.{Squared}
+use Rattle.states.specs.declared.Class.{Class}
 use Rattle.states.specs.declared.Parts.{Parts}
 use Rattle.states.specs.declared.Going.{Going}
 use Rattle.states.specs.declared.Going.the-variants as going
@@ -46,103 +48,139 @@ use Rattle.decoding.proofs.Room.{flat-length}
 use Rattle.goals.proofs.GoalLaws.{goals-length}
 use Rattle.states.proofs.WordArrays.{flat-back, flat-thirds, picked-few}
 use Rattle.states.proofs.PartLaws.{held-good, on-symbol}
-use Rattle.states.proofs.StateLaws.{states-length, states-at, added, states-added, kept-added, added-behind}
+use Rattle.states.proofs.StateLaws.{states-length, states-at, spared-run, spared-states, spared-kept, states-more, kept-more, more-behind}
 use Rattle.states.proofs.MeetLaws.{meet-big, meet-known, meet-full, meet-new, onto, meets-begin, meets-stop, meets-on, meets-end, row-stop, row-on, run-stop, run-on, run-end}
 use Rattle.decoding.proofs.GoodLaws.{ready-few, good-start, good-next}
-
--- ---- one class
-module _ {goals : List ℕ} {n : ℕ} {dep : Square} (s : Squared goals n dep) (r : ℕ) where
-  class-few : length (classAt dep goals n r) ≤ 96
-  class-few = let a = picked-few (getD dep r []) (goalsFrom goals 0 n) in let b = goals-length goals 0 n in omega (arith, s .few)
-
-  pub class-room : length (flat (classAt dep goals n r)) ≤ derivedWords
-  class-room = let a = class-few in let b = flat-length (classAt dep goals n r) in omega arith
-
-pub record Lifting (K : List GoalWords) (lifted : List ℕ) (k top : ℕ) : Type 0 where
-  pub count : k ≡ length K
-  pub top-is : top ≡ displacementW K
-  pub up : goalsFrom lifted 0 k ≡ liftedW K
-
-pub lifting : (K : List GoalWords) (z class y lifted : List ℕ) (pk top : ℕ) → PutsFirst (flat K) pk z class → 3 * length K ≤ length z
-    → Lifts (goalsFrom class 0 (pk / 3)) top y lifted → 3 * length K ≤ length y → Lifting K lifted (pk / 3) top
-lifting K z class y lifted pk top a c d f =
-    let n : pk / 3 ≡ length K = flat-thirds K pk (a .0) in
-    let g : goalsFrom class 0 (pk / 3) ≡ K = flat-back z class K (pk / 3) (a .1) n c in
-    let w : lifted ≡ sets y 0 (flat (liftedW K)) = d .1 ∙ ap (λ l. sets y 0 (flat (liftedW l))) g in
-    let m : length (liftedW K) ≡ length K = length-map K (liftW (displacementW K)) in
-    record { count = n; top-is = d .0 ∙ ap displacementW g; up = flat-back y lifted (liftedW K) (pk / 3) w (n ∙ sym m) (rw m f) }
-
--- a class of the square, put in an array and lifted
-pub class-lifted : {goals : List ℕ} {n : ℕ} {dep : Square} → Squared goals n dep → (r : ℕ) (z class y lifted : List ℕ) (pk top : ℕ)
-    → PutsFirst (flat (classAt dep goals n r)) pk z class → length z ≡ derivedWords
-    → pk / 3 ≤ 32 → Lifts (goalsFrom class 0 (pk / 3)) top y lifted → length y ≡ 96 → Lifting (classAt dep goals n r) lifted (pk / 3) top
-class-lifted {goals} {n} {dep} s r z class y lifted pk top puts long few lifts wide =
-    let K = classAt dep goals n r in
-    let many = flat-thirds K pk (puts .0) in
-    let room = class-few s r in
-    lifting K z class y lifted pk top puts (omega arith) lifts (omega arith)
-
-pub class-count : {goals : List ℕ} {n : ℕ} {dep : Square} → Squared goals n dep → (r : ℕ) (z class : List ℕ) (pk : ℕ)
-    → PutsFirst (flat (classAt dep goals n r)) pk z class → pk / 3 ≡ length (classAt dep goals n r)
-class-count {goals} {n} {dep} s r z class pk puts = flat-thirds (classAt dep goals n r) pk (puts .0)
-
--- a class of too many goals
-pub class-big : {goals : List ℕ} {n : ℕ} {dep : Square} → Squared goals n dep → (r : ℕ) (z class : List ℕ) (pk : ℕ)
-    → PutsFirst (flat (classAt dep goals n r)) pk z class → (sc : List ℕ) (m : ℕ)
-    → 32 < pk / 3 → MetIs (going.Stopped ManyGoals) sc 0 (meet (words [] 0) (statesIn sc m) (classAt dep goals n r))
-class-big {goals} {n} {dep} s r z class pk puts sc m h =
-    let many = flat-thirds (classAt dep goals n r) pk (puts .0) in
-    meet-big (words [] 0) (statesIn sc m) (classAt dep goals n r) (omega arith)
 
 pub place-in : (tab : List ℕ) (n : ℕ) (ss : List (List GoalWords)) (K : List GoalWords)
     → placeOf ss (liftedW K) ≡ succOf (words tab n) ss K .to
 unfolding placeOf
 place-in tab n ss K = refl
 
-module _ {sc : List ℕ} {m : ℕ} (kept : Kept sc m) {K : List GoalWords} {lifted : List ℕ} {k top r : ℕ} (l : Lifting K lifted k top)
-    (few : k ≤ 32) (p : r ≡ placeOf (statesIn sc m) (goalsFrom lifted 0 k)) where
-  small : length K ≤ 32
-  small = let c = l .count in omega arith
+-- ---- one class
+module _ {goals : List ℕ} {n : ℕ} {dep : Square} (s : Squared goals n dep) (r : ℕ) where
+  class-few : length (classAt dep goals n r) ≤ 96
+  class-few = let a = picked-few (getD dep r []) (goalsFrom goals 0 n) in let b = goals-length goals 0 n in omega (arith, s .few)
 
-  place : r ≡ succOf (words [] 0) (statesIn sc m) K .to
-  place = p ∙ ap (placeOf (statesIn sc m)) (l .up) ∙ place-in [] 0 (statesIn sc m) K
+  class-words : length (flat (classAt dep goals n r)) ≤ derivedWords
+  class-words = let a = class-few in let b = flat-length (classAt dep goals n r) in omega arith
 
-  pub met-known : r < m → MetIs (going.On m 2) sc 0 (meet (words [] 0) (statesIn sc m) K)
-  met-known h =
-      let z = states-length sc m in
-      record {
-        kept = kept;
-        succs = succOf (words [] 0) (statesIn sc m) K ∷ [];
-        is = meet-known (words [] 0) (statesIn sc m) K small (omega (arith, place));
-        sum = refl;
-        few = omega arith;
-      }
+module _ {sc : List ℕ} {m : ℕ} {goals : List ℕ} {n : ℕ} {dep : Square} {r : ℕ} (c : ClassMeetable sc m goals n dep r) where
+  abbrev K : List GoalWords
+  K = classAt dep goals n r
 
-  pub met-full : m ≤ r → m ≡ 128 → MetIs (going.Stopped ManyStates) sc 0 (meet (words [] 0) (statesIn sc m) K)
-  met-full h e = let z = states-length sc m in meet-full (words [] 0) (statesIn sc m) K small (omega (arith, place)) (omega arith)
+  -- put at a place that is the one behind the states
+  module _ {at : ℕ} (e : at ≡ placeIn m) where
+    pub class-room : at + length (flat K) ≤ length sc
+    class-room = let a = class-words (c .squared) r in omega (arith, c .kept .few, c .kept .long)
 
-  pub met-new : m ≤ r → (m ≡ 128 → ⊥) → (sc′ : List ℕ) → sc′ ≡ added sc m lifted k → 3 * k ≤ length lifted
-      → MetIs (going.On (m + 1) 2) sc′ 0 (meet (words [] 0) (statesIn sc m) K) × (Behind sc sc′)
-  met-new h ne sc′ e have =
-      let z = states-length sc m in
-      let b = kept .few in
-      let lt : m < 128 = omega (arith, ne) in
-      let grown : statesIn sc′ (m + 1) ≡ statesIn sc m ++ (liftedW K ∷ []) =
-      ap (λ s. statesIn s (m + 1)) e
-      ∙ states-added sc m lifted k (kept .long) lt few have kept
-      ∙ ap (λ g. statesIn sc m ++ (g ∷ [])) (l .up) in
-      let is = meet-new (words [] 0) (statesIn sc m) K small (omega (arith, place)) (omega arith) in
-      let one : List Succ = record { to = length (statesIn sc m); by = words [] 0 .gcp K } ∷ [] in (
-        record {
-          kept = rw e (kept-added sc m lifted k (kept .long) lt few have kept);
-          succs = one;
-          is = is ∙ ap (λ ss. met ss one) (sym grown);
-          sum =
-              refl;
-          few = omega arith;
-        },
-        ap (drop statesWords) e ∙ added-behind sc m lifted k (kept .long) lt few have,
-      )
+    module _ {sc₁ : List ℕ} {end : ℕ} (p : Puts (flat K) at end sc sc₁) where
+      class-count : (end - at) / 3 ≡ length K
+      class-count = flat-thirds K (end - at) (omega (arith, p .0))
+
+      class-there : goalsFrom sc₁ at ((end - at) / 3) ≡ K
+      class-there =
+          let w = flat-length K in
+          let room = class-room in
+          flat-back sc sc₁ at K ((end - at) / 3) (p .1) class-count (omega arith)
+
+      -- what lifting it there asks, and what it gives
+      pub class-goals : GoalsIn 96 sc₁ at ((end - at) / 3)
+      class-goals =
+          let w = flat-length K in
+          let room = class-room in
+          record {
+            few = omega (arith, class-count, class-few (c .squared) r);
+            room = omega (arith, class-count, ap length (p .1), length-sets sc at (flat K));
+          }
+
+      pub class-lifted : {sc₂ : List ℕ} {top : Position} → Lifts (goalsFrom sc₁ at ((end - at) / 3)) at (top .0) sc₁ sc₂
+          → LiftsBehind K m (record { goals = (end - at) / 3; top = top }) sc sc₂
+      class-lifted {sc₂} {top} l =
+          let w = flat-length K in
+          let u = flat-length (liftedW K) in
+          let many = length-map K (liftW (displacementW K)) in
+          let room = class-room in (
+            class-count,
+            (
+              l .0 ∙ ap displacementW class-there,
+              l .1
+                  ∙ ap₂ (λ a gs. sets a at (flat (liftedW gs))) (p .1) class-there
+                  ∙ sets-over sc (flat K) (flat (liftedW K)) at at (omega arith) (omega arith) (omega arith)
+                  ∙ ap (λ a. sets sc a (flat (liftedW K))) e,
+            ),
+          )
+
+  -- the class lifted behind the states
+  module _ {k : Class} {new : List ℕ} (l : LiftsBehind K m k sc new) where
+    pub lifted-here : goalsFrom new (placeIn m) (k .goals) ≡ liftedW K
+    lifted-here =
+        let w = flat-length K in
+        let many = length-map K (liftW (displacementW K)) in
+        let room = class-room refl in
+        flat-back sc new (placeIn m) (liftedW K) (k .goals) (l .1 .1) (l .0 ∙ sym many) (omega arith)
+
+    pub lifted-spared : Spared m sc new
+    lifted-spared =
+        let w = flat-length (liftedW K) in
+        let many = length-map K (liftW (displacementW K)) in
+        let few = class-few (c .squared) r in
+        rw (l .1 .1) (spared-run m sc (flat (liftedW K)) (omega (arith, c .kept .few)))
+
+    pub lifted-kept : Kept new m
+    lifted-kept = spared-kept lifted-spared (c .kept)
+
+    -- a class of too many goals
+    pub met-big : 32 < k .goals → MetIs (going.Stopped ManyGoals) new 0 (meet (words [] 0) (statesIn sc m) K)
+    met-big h = meet-big (words [] 0) (statesIn sc m) K (omega (arith, l .0))
+
+    module _ {x : ℕ} (p : x ≡ placeOf (statesIn new m) (goalsFrom new (placeIn m) (k .goals))) where
+      pub lifted-place : x ≡ placeOf (statesIn sc m) (liftedW K)
+      lifted-place = p ∙ ap₂ placeOf (spared-states lifted-spared (c .kept)) lifted-here
+
+      module _ (few : k .goals ≤ 32) where
+        small : length K ≤ 32
+        small = omega (arith, l .0)
+
+        place : x ≡ succOf (words [] 0) (statesIn sc m) K .to
+        place = lifted-place ∙ place-in [] 0 (statesIn sc m) K
+
+        pub met-known : x < m → MetIs (going.On m 2) new 0 (meet (words [] 0) (statesIn sc m) K)
+        met-known h =
+            let z = states-length sc m in
+            let one : List Succ = succOf (words [] 0) (statesIn sc m) K ∷ [] in
+            record {
+              kept = lifted-kept;
+              succs = one;
+              is = meet-known (words [] 0) (statesIn sc m) K small (omega (arith, place))
+                  ∙ ap (λ ss. met ss one) (sym (spared-states lifted-spared (c .kept)));
+              sum = refl;
+              few = omega arith;
+            }
+
+        pub met-full : m ≤ x → m ≡ 128 → MetIs (going.Stopped ManyStates) new 0 (meet (words [] 0) (statesIn sc m) K)
+        met-full h e = let z = states-length sc m in meet-full (words [] 0) (statesIn sc m) K small (omega (arith, place)) (omega arith)
+
+        pub met-new : m ≤ x → (m ≡ 128 → ⊥)
+            → MetIs (going.On (m + 1) 2) (set new m (k .goals)) 0 (meet (words [] 0) (statesIn sc m) K) × (Behind sc (set new m (k .goals)))
+        met-new h ne =
+            let z = states-length sc m in
+            let b = c .kept .few in
+            let lt : m < 128 = omega (arith, ne) in
+            let grown : statesIn (set new m (k .goals)) (m + 1) ≡ statesIn sc m ++ (liftedW K ∷ []) =
+            states-more lifted-kept lt (k .goals)
+            ∙ ap₂ (λ ss g. ss ++ (g ∷ [])) (spared-states lifted-spared (c .kept)) lifted-here in
+            let is = meet-new (words [] 0) (statesIn sc m) K small (omega (arith, place)) (omega arith) in
+            let one : List Succ = record { to = length (statesIn sc m); by = words [] 0 .gcp K } ∷ [] in (
+              record {
+                kept = kept-more lifted-kept lt (k .goals) few;
+                succs = one;
+                is = is ∙ ap (λ ss. met ss one) (sym grown);
+                sum = refl;
+                few = omega arith;
+              },
+              more-behind lifted-kept lt (k .goals) ∙ lifted-spared .behind,
+            )
 
 -- one class has one successor
 meets-one-length : (ss : List (List GoalWords)) (K : List GoalWords) (ss′ : List (List GoalWords)) (ys : List Succ)
@@ -394,8 +432,12 @@ module _ {ar tab : List ℕ} {n : ℕ} {sc₀ : List ℕ} {m i : ℕ} where
         small = omega arith;
       }
 
-pub fresh-room : (n : ℕ) → n ≤ 16 → 0 + length (flat (freshesW n 0)) ≤ 96
-fresh-room n h = let a = length-map (range 0 n) (freshW 0) in let b = length-range 0 n in let c = flat-length (freshesW n 0) in omega arith
+pub fresh-room : (sc : List ℕ) (n : ℕ) {at : ℕ} → usedWords ≤ length sc → n ≤ 16 → at ≡ placeIn 0 → at + length (flat (freshesW n 0)) ≤ length sc
+fresh-room sc n long h e =
+    let a = length-map (range 0 n) (freshW 0) in
+    let b = length-range 0 n in
+    let c = flat-length (freshesW n 0) in
+    omega arith
 
 no-state : (sc : List ℕ) → statesIn sc 0 ≡ []
 unfolding statesIn
@@ -413,24 +455,24 @@ pub record Running (ar tab : List ℕ) (n : ℕ) (sc₀ sc : List ℕ) (m count 
   pub is : explored (words tab n) ar ≡ run (words tab n) ar (128 - i) i (statesIn sc m) blocks
 
 module _ {ar tab : List ℕ} {n : ℕ} (sc₀ : List ℕ) where
-  pub running-begin : Ready ar tab n → statesWords ≤ length sc₀ → (first sc : List ℕ)
-      → first ≡ sets (replicate 96 0) 0 (flat (freshesW n 0)) → sc ≡ added sc₀ 0 first n → Running ar tab n sc sc 1 0 0 × (Behind sc₀ sc)
-  running-begin ready long first sc e d =
+  pub running-begin : Ready ar tab n → usedWords ≤ length sc₀ → {at : ℕ} → at ≡ placeIn 0 → (sc : List ℕ)
+      → sc ≡ sets sc₀ at (flat (freshesW n 0)) → Running ar tab n (set sc 0 n) (set sc 0 n) 1 0 0 × (Behind sc₀ (set sc 0 n))
+  running-begin ready long first sc there =
+      let e : sc ≡ sets sc₀ (placeIn 0) (flat (freshesW n 0)) = there ∙ ap (λ a. sets sc₀ a (flat (freshesW n 0))) first in
       let few = ready-few ready in
       let many : length (freshesW n 0) ≡ n = length-map (range 0 n) (freshW 0) ∙ length-range 0 n in
-      let wide : length first ≡ 96 = ap length e ∙ length-sets (replicate 96 0) 0 (flat (freshesW n 0)) in
-      let is : goalsFrom first 0 n ≡ freshesW n 0 =
-      flat-back (replicate 96 0) first (freshesW n 0) n e (sym many) (rw many (omega arith)) in
+      let size = flat-length (freshesW n 0) in
       let none : Kept sc₀ 0 = record { long = long; few = omega arith; counts = λ j l. absurd (omega arith) } in
-      let states : statesIn sc 1 ≡ freshesW n 0 ∷ [] =
-      ap (λ s. statesIn s 1) d
-      ∙ states-added sc₀ 0 first n long (omega arith) (omega arith) (omega arith) none
-      ∙ ap (λ g. statesIn sc₀ 0 ++ (g ∷ [])) is
-      ∙ ap (λ ss. ss ++ (freshesW n 0 ∷ [])) (no-state sc₀) in (
+      let apart : Spared 0 sc₀ sc = rw e (spared-run 0 sc₀ (flat (freshesW n 0)) (omega arith)) in
+      let kept : Kept sc 0 = spared-kept apart none in
+      let is : goalsFrom sc (placeIn 0) n ≡ freshesW n 0 = flat-back sc₀ sc (placeIn 0) (freshesW n 0) n e (sym many) (omega arith) in
+      let states : statesIn (set sc 0 n) 1 ≡ freshesW n 0 ∷ [] =
+      states-more kept (omega arith) n
+      ∙ ap₂ (λ ss g. ss ++ (g ∷ [])) (no-state sc) is in (
         record {
           below = omega arith;
           held = record {
-            kept = rw d (kept-added sc₀ 0 first n long (omega arith) (omega arith) (omega arith) none);
+            kept = kept-more kept (omega arith) n (omega arith);
             good = λ s j. rw (in-one (rw states at j)) (good-start ready);
           };
           long = refl;
@@ -440,7 +482,7 @@ module _ {ar tab : List ℕ} {n : ℕ} (sc₀ : List ℕ) where
           many = refl;
           is = ap (λ ss. run (words tab n) ar 128 0 ss []) (sym states);
         },
-        ap (drop statesWords) d ∙ added-behind sc₀ 0 first n long (omega arith) (omega arith) (omega arith),
+        more-behind kept (omega arith) n ∙ apart .behind,
       )
 
 module _ {ar tab : List ℕ} {n : ℕ} {sc₀ : List ℕ} where

@@ -1,5 +1,7 @@
 -- A state on a symbol, in arrays.
---   state-in held-good on-symbol   a state of those that scratch holds
+--   state-in held-… on-symbol      a state of those that scratch holds
+--   label-there                    its label
+--   spared-held                    words written behind the states
 --   state-stored derivable         what announcing and deriving ask
 --   Derived derived                the derivative in an array
 --   parted                         the whole
@@ -29,9 +31,9 @@ use Rattle.decoding.specs.WordMachine.{words, placeIn, stateIn, statesIn}
 use Rattle.decoding.specs.GoodStates.{GoodState}
 use Rattle.decoding.proofs.Room.{flat-length}
 use Rattle.decoding.proofs.GoodLaws.{ready-few, good-low, good-label, deriv-low, deriv-room}
-use Rattle.states.specs.Meeting.{Held}
+use Rattle.states.specs.Meeting.{Held, Spared}
 use Rattle.states.specs.Parting.{derivedWords, OnSymbol, firsts, Named, goalsBy, classesBy, Lent, Parted}
-use Rattle.states.proofs.StateLaws.{states-length, states-at}
+use Rattle.states.proofs.StateLaws.{states-length, states-at, spared-states, spared-kept}
 use Rattle.states.proofs.WordArrays.{flat-back, flat-thirds}
 use Rattle.states.proofs.InOrder.{classes-in-order, outputs-in-order, items-low}
 
@@ -51,12 +53,20 @@ module _ {ar tab : List ℕ} {n : ℕ} {sc : List ℕ} {m i : ℕ} (held : Held 
   pub on-symbol : (c f : ℕ) → c ≡ labelCode tab (stateIn sc i) → f < length ar → OnSymbol ar tab n sc i c f
   on-symbol c f e l = record { long = held .kept .long; number = held-number; count = held-count; good = held-good; label = e; symbol = l }
 
-  pub held-stored : Stored tab sc (placeIn i) (getD sc i 0)
-  held-stored =
+  pub held-stored : {at : ℕ} → at ≡ placeIn i → Stored tab sc at (getD sc i 0)
+  held-stored {at} e =
       let count = held-count in
       let number = held-number in
       let long = held .kept .long in
-      record { tabled = held-good .ready .tabled; few = omega arith; room = omega arith; low = good-low held-good }
+      record { tabled = held-good .ready .tabled; few = omega arith; room = omega arith; low = rw e (good-low held-good) }
+
+-- a label that was taken at a state's place
+pub label-there : (tab sc : List ℕ) (i : ℕ) {at c : ℕ} → at ≡ placeIn i → c ≡ labelCode tab (goalsFrom sc at (getD sc i 0))
+    → c ≡ labelCode tab (stateIn sc i)
+label-there tab sc i e h = h ∙ ap (λ a. labelCode tab (goalsFrom sc a (getD sc i 0))) e
+
+pub spared-held : {ar tab : List ℕ} {n m : ℕ} {sc new : List ℕ} → Spared m sc new → Held ar tab n sc m → Held ar tab n new m
+spared-held s held = record { kept = spared-kept s (held .kept); good = rw (spared-states s (held .kept)) (held .good) }
 
 -- ---- ordered places in an array, read again
 module _ (p : ℕ → Bool) (key : ℕ → ℕ) (n : ℕ) (few : n ≤ 96) (k : ℕ) (old new : List ℕ) (room : n ≤ length old)
@@ -99,13 +109,18 @@ module _ {ar tab : List ℕ} {n : ℕ} {sc : List ℕ} {i c f : ℕ} (o : OnSymb
   children : getElem? ar f ≡ some k
   children = getElem-some ar f (o .symbol)
 
-  pub state-room : placeIn i + 96 ≤ length sc
-  state-room = omega (arith, o .number, o .long)
+  -- at a place that is the state's
+  module _ {at : ℕ} (e : at ≡ placeIn i) where
+    pub state-room : at + 96 ≤ length sc
+    state-room = omega (arith, o .number, o .long)
 
-  pub state-stored : Stored tab sc (placeIn i) (getD sc i 0)
-  state-stored =
-      let room = state-room in
-      record { tabled = o .good .ready .tabled; few = omega (arith, o .count); room = omega (arith, o .count); low = good-low (o .good) }
+    pub state-stored : Stored tab sc at (getD sc i 0)
+    state-stored =
+        let room = state-room in
+        record { tabled = o .good .ready .tabled; few = omega (arith, o .count); room = omega (arith, o .count); low = rw e (good-low (o .good)) }
+
+    state-there : goalsFrom sc at (getD sc i 0) ≡ gs
+    state-there = ap (λ a. goalsFrom sc a (getD sc i 0)) e
 
   few-derived : length D ≤ 96
   few-derived = rw (o .label) (deriv-room (o .good) f k children)
@@ -114,18 +129,24 @@ module _ {ar tab : List ℕ} {n : ℕ} {sc : List ℕ} {i c f : ℕ} (o : OnSymb
   low-derived = rw (o .label) (deriv-low (o .good) f k children)
 
   -- what deriving asks
-  pub derivable : (out : List ℕ) → derivedWords ≤ length out → Derivable tab n c f k gs out
-  derivable out room =
+  pub derivable : {at : ℕ} → at ≡ placeIn i → (out : List ℕ) → derivedWords ≤ length out
+      → Derivable tab n c f k (goalsFrom sc at (getD sc i 0)) out
+  derivable e out room =
       let label = good-label (o .good) in
       let few = o .good .ready .limits .symbols .children f k children in
       let words = flat-length D in
-      record { shapes = ready-few (o .good .ready); codes = omega (arith, o .label); room = omega (arith, few-derived) }
+      rw (state-there e) (record { shapes = ready-few (o .good .ready); codes = omega (arith, o .label); room = omega (arith, few-derived) })
 
-  pub derived : (old goals : List ℕ) (r : ℕ) → PutsFirst (flat D) r old goals → derivedWords ≤ length old → Derived tab goals (r / 3) D
-  derived old goals r puts room =
+  abbrev Puts-derived : ℕ → ℕ → List ℕ → List ℕ → Type 0
+  Puts-derived at r old goals = PutsFirst (flat (derivW tab n c f k (goalsFrom sc at (getD sc i 0)))) r old goals
+
+  pub derived : {at : ℕ} → at ≡ placeIn i → (old goals : List ℕ) (r : ℕ) → Puts-derived at r old goals → derivedWords ≤ length old
+      → Derived tab goals (r / 3) D
+  derived e old goals r there room =
+      let puts : PutsFirst (flat D) r old goals = rw (state-there e) at there in
       let few = few-derived in
       let many : r / 3 ≡ length D = flat-thirds D r (puts .0) in
-      let back : goalsFrom goals 0 (r / 3) ≡ D = flat-back old goals D (r / 3) (puts .1) many (omega arith) in
+      let back : goalsFrom goals 0 (r / 3) ≡ D = flat-back old goals 0 D (r / 3) (puts .1) many (omega arith) in
       let long : length goals ≡ length old = ap length (puts .1) ∙ length-sets old 0 (flat D) in
       record {
         stored = record { tabled = o .good .ready .tabled; few = omega arith; room = omega arith; low = rw back low-derived };
@@ -135,18 +156,19 @@ module _ {ar tab : List ℕ} {n : ℕ} {sc : List ℕ} {i c f : ℕ} (o : OnSymb
   abbrev outKey : ℕ → ℕ
   outKey x = annKey (goalOn sc (placeIn i) x)
 
-  pub parted : {out₀ goals₀ order₀ : List ℕ} {dep₀ : Square} → Lent out₀ goals₀ dep₀ order₀
+  pub parted : {at : ℕ} → at ≡ placeIn i → {out₀ goals₀ order₀ : List ℕ} {dep₀ : Square} → Lent out₀ goals₀ dep₀ order₀
       → (out goals order : List ℕ) (dep : Square) (outs r classes : ℕ)
-      → Arranged (outItems tab sc (placeIn i) c f (getD sc i 0)) outs out₀ out → PutsFirst (flat D) r goals₀ goals
+      → Arranged (outItems tab sc at c f (getD sc i 0)) outs out₀ out → Puts-derived at r goals₀ goals
       → Closes (r / 3) (Yes (shares tab goals)) dep
       → Arranged (leadItems tab dep goals (r / 3)) classes order₀ order
       → Parted tab n sc i f k (record { announced = outs; goals = r / 3; classes = classes }) out goals dep order
-  parted {out₀} {goals₀} {order₀} lent out goals order dep outs r classes announced puts closes ordered =
+  parted e {out₀} {goals₀} {order₀} lent out goals order dep outs r classes there puts closes ordered =
+      let announced : Arranged (outItems tab sc (placeIn i) c f (getD sc i 0)) outs out₀ out = rw e at there in
       let count = o .count in
       let few96 : getD sc i 0 ≤ 96 = omega arith in
       let p = goesOut tab sc (placeIn i) c f in
       let room : getD sc i 0 ≤ length out₀ = omega (arith, lent .outs) in
-      let d = derived goals₀ goals r puts (lent .room) in
+      let d = derived e goals₀ goals r puts (lent .room) in
       let few = d .stored .few in
       let b = begins dep in
       let key : ℕ → ℕ = λ x. classKey tab (classAt dep goals (r / 3) x) in

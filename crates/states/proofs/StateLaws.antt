@@ -1,32 +1,38 @@
 -- The states that scratch holds.
 --   states-length states-at                       how many; each by its number
 --   place-all place-here place-next place-end     the first that is equal to one
---   store-next store-end                          a state's words stored one by one
---   added states-added kept-added                 one more state
+--   sets-in                                       a run, read again
+--   spared-…                                      words written behind the states: these stay
+--   states-more kept-more more-behind             one more state
 use mathlib.Core.Path.{_≡_, refl, ap, ap₂, sym, _∙_}
 use mathlib.Core.List.{List, [], _∷_, _++_, map}
-use mathlib.Core.Bool.{true, false}
+use mathlib.Core.Bool.{Bool, true, false}
 use Prim.Native.Nat.{ℕ, zero, suc, _+_, _-_, _*_, _<_, _≤_}
 use native.Mathlib.Omega.{arith}
 use native.Mathlib.Nat.{sub-zero, zero-add, add-zero}
 use native.Mathlib.Numerals.{add-one}
 use native.Mathlib.Decide.{ℕ-discrete}
-use lib.ListN.{length, getD, take, drop, set, length-set, length-map}
-use lib.Seq.{sets, length-sets, length-take-le, drop-cons, drop-set-lt, getD-set-same, getD-set-other, getD-take}
+use lib.ListN.{length, getD, set, length-set, length-map}
+use lib.Seq.{sets, length-sets, drop-set-lt, getD-set-same, getD-set-other, getD-take}
 use Rattle.kinds.specs.Lists.{find, range, orElse}
 use Rattle.kinds.proofs.Members.{length-range, in-range}
-use Rattle.kinds.proofs.ListLaws.{map-append, map-same, range-next, sets-at, sets-behind}
+use Rattle.kinds.proofs.ListLaws.{map-append, map-same, range-next, sets-at, sets-before, sets-behind}
 use Rattle.goals.specs.GoalWords.{GoalWords, goalsFrom}
 use Rattle.goals.specs.WordStages.{sameStateW}
-use Rattle.decoding.specs.WordMachine.{placeIn, statesWords, stateIn, statesIn, Kept}
-use Rattle.states.specs.Meeting.{Behind, placeOf}
-use Rattle.classes.proofs.SameLaws.{goals-same}
+use Rattle.decoding.specs.WordMachine.{placeIn, usedWords, stateIn, statesIn, Kept}
+use Rattle.states.specs.Meeting.{Behind, Spared, placeOf}
+use Rattle.goals.proofs.GoalLaws.{goals-same}
 
 pub states-length : (sc : List ℕ) (m : ℕ) → length (statesIn sc m) ≡ m
 unfolding statesIn
 states-length sc m = length-map (range 0 m) (stateIn sc) ∙ length-range 0 m
 
 -- ---- the first that is equal to one
+-- the test at places that are these two states'
+pub same-there : (sc : List ℕ) (a b p q k n : ℕ) → p ≡ a → q ≡ b → (t : Bool) → t ≡ sameStateW (goalsFrom sc p k) (goalsFrom sc q n)
+    → t ≡ sameStateW (goalsFrom sc a k) (goalsFrom sc b n)
+same-there sc a b p q k n e d t h = h ∙ ap₂ (λ x y. sameStateW (goalsFrom sc x k) (goalsFrom sc y n)) e d
+
 abbrev pub placeFrom : List GoalWords → List ℕ → ℕ → ℕ → ℕ
 placeFrom k sc m i = orElse (find (sameStateW k) (map (stateIn sc) (range i (m - i))) i) m
 
@@ -47,17 +53,6 @@ module _ (k : List GoalWords) (sc : List ℕ) (m : ℕ) where
     pub place-end : m ≤ i → placeFrom k sc m i ≡ m
     place-end h = let d : m - i ≡ 0 = omega arith in rw d refl
 
--- ---- a state's words stored one by one
-pub store-next : (sc ws : List ℕ) (b k i : ℕ) → i < k → k ≤ length ws
-    → sets sc (b + i) (take (k - i) (drop i ws)) ≡ sets (set sc (b + i) (getD ws i 0)) (b + (i + 1)) (take (k - (i + 1)) (drop (i + 1) ws))
-store-next sc ws b k i h l =
-    let e : k - i ≡ suc (k - (i + 1)) = omega arith in
-    let d : b + (i + 1) ≡ suc (b + i) = omega arith in
-    ap₂ (λ x y. sets sc (b + i) (take x y)) e (drop-cons ws i 0 (omega arith)) ∙ rw (d, add-one i) refl
-
-pub store-end : (sc ws : List ℕ) (b k i : ℕ) → k ≤ i → sets sc (b + i) (take (k - i) (drop i ws)) ≡ sc
-store-end sc ws b k i h = let e : k - i ≡ 0 = omega arith in rw e refl
-
 pub sets-in : (vs l : List ℕ) (i x : ℕ) → i + length vs ≤ length l → x < length vs → getD (sets l i vs) (i + x) 0 ≡ getD vs x 0
 sets-in [] l i x h g = absurd (omega arith)
 sets-in (v ∷ vs) l i zero h g =
@@ -70,61 +65,80 @@ sets-in (v ∷ vs) l i (suc x) h g =
     ap (λ n. getD (sets (set l i v) (suc i) vs) n 0) e
     ∙ sets-in vs (set l i v) (suc i) x (rw (length-set l i v) (omega arith)) (omega arith)
 
--- ---- one more state
-abbrev pub added : List ℕ → ℕ → List ℕ → ℕ → List ℕ
-added sc m ws n = sets (set sc m n) (placeIn m) (take (3 * n) ws)
+-- ---- words written behind the states
+pub spared-self : (m : ℕ) (sc : List ℕ) → Spared m sc sc
+spared-self m sc = record { long = refl; states = refl; behind = refl }
 
-module _ (sc : List ℕ) (m : ℕ) (ws : List ℕ) (n : ℕ) (long : statesWords ≤ length sc) (room : m < 128) (few : n ≤ 32)
-    (have : 3 * n ≤ length ws) where
-  run-length : length (take (3 * n) ws) ≡ 3 * n
-  run-length = length-take-le (3 * n) ws have
+pub spared-on : {m : ℕ} {a b c : List ℕ} → Spared m a b → Spared m b c → Spared m a c
+spared-on s t = record { long = t .long ∙ s .long; states = t .states ∙ s .states; behind = t .behind ∙ s .behind }
 
-  early : (x : ℕ) → x < placeIn m → (x ≡ m → ⊥) → getD (added sc m ws n) x 0 ≡ getD sc x 0
-  early x h d = sets-at (take (3 * n) ws) (set sc m n) (placeIn m) x h ∙ getD-set-other sc m x n 0 d
+pub spared-run : (m : ℕ) (sc xs : List ℕ) → placeIn m + length xs ≤ usedWords → Spared m sc (sets sc (placeIn m) xs)
+spared-run m sc xs h = record {
+  long = length-sets sc (placeIn m) xs;
+  states = sets-before xs sc (placeIn m) (placeIn m) (omega arith);
+  behind = sets-behind xs sc (placeIn m) usedWords h;
+}
 
-  pub added-count : getD (added sc m ws n) m 0 ≡ n
-  added-count = sets-at (take (3 * n) ws) (set sc m n) (placeIn m) m (omega arith) ∙ getD-set-same sc m n 0 (omega arith)
+module _ {m : ℕ} {old new : List ℕ} (s : Spared m old new) (kept : Kept old m) where
+  spared-word : (x : ℕ) → x < placeIn m → getD new x 0 ≡ getD old x 0
+  spared-word x h = sym (getD-take (placeIn m) new x 0 h) ∙ ap (λ l. getD l x 0) (s .states) ∙ getD-take (placeIn m) old x 0 h
 
-  pub added-here : stateIn (added sc m ws n) m ≡ goalsFrom ws 0 n
-  added-here =
-      ap (goalsFrom (added sc m ws n) (placeIn m)) added-count
-      ∙ goals-same (added sc m ws n) ws (placeIn m) 0 n (λ x h.
-      sets-in (take (3 * n) ws) (set sc m n) (placeIn m) x (rw (length-set sc m n, run-length) (omega arith)) (rw run-length h)
-      ∙ getD-take (3 * n) ws x 0 h ∙ ap (λ y. getD ws y 0) (sym (zero-add x)))
+  pub spared-state : (i : ℕ) → i < m → stateIn new i ≡ stateIn old i
+  spared-state i h =
+      let few = kept .few in
+      let count = kept .counts i h in
+      ap (goalsFrom new (placeIn i)) (spared-word i (omega arith))
+      ∙ goals-same new old (placeIn i) (placeIn i) (getD old i 0) (λ x g. spared-word (placeIn i + x) (omega arith))
 
-  pub added-before : (i : ℕ) → i < m → getD sc i 0 ≤ 32 → stateIn (added sc m ws n) i ≡ stateIn sc i
-  added-before i h l =
-      ap (goalsFrom (added sc m ws n) (placeIn i)) (early i (omega arith) (λ e. omega arith))
-      ∙ goals-same (added sc m ws n) sc (placeIn i) (placeIn i) (getD sc i 0)
-      (λ x g. early (placeIn i + x) (omega arith) (λ e. omega arith))
-
-  pub states-added : Kept sc m → statesIn (added sc m ws n) (m + 1) ≡ statesIn sc m ++ (goalsFrom ws 0 n ∷ [])
+  pub spared-states : statesIn new m ≡ statesIn old m
   unfolding statesIn
-  states-added kept =
-      ap (λ k. map (stateIn (added sc m ws n)) (range 0 k)) (add-one m)
-      ∙ ap (map (stateIn (added sc m ws n))) (range-next 0 m)
-      ∙ map-append (stateIn (added sc m ws n)) (range 0 m) ((0 + m) ∷ [])
-      ∙ ap₂ (λ a b. a ++ (b ∷ []))
-      (map-same (stateIn (added sc m ws n)) (stateIn sc) (range 0 m)
-      (λ i j. let h = in-range m 0 i j in let l : i < m = omega arith in added-before i l (kept .counts i l)))
-      (ap (stateIn (added sc m ws n)) (zero-add m) ∙ added-here)
+  spared-states = map-same (stateIn new) (stateIn old) (range 0 m) (λ i j. let h = in-range m 0 i j in spared-state i (omega arith))
 
-  pub kept-added : Kept sc m → Kept (added sc m ws n) (m + 1)
-  kept-added kept = record {
-    long = rw (length-sets (set sc m n) (placeIn m) (take (3 * n) ws), length-set sc m n) long;
+  pub spared-kept : Kept new m
+  spared-kept = record {
+    long = rw (s .long) (kept .long);
+    few = kept .few;
+    counts = λ i h. let few = kept .few in rw (spared-word i (omega arith)) (kept .counts i h);
+  }
+
+-- ---- one more state: its words are there, and its count is stored
+module _ {sc : List ℕ} {m : ℕ} (kept : Kept sc m) (room : m < 128) (k : ℕ) where
+  past-count : (x : ℕ) → (x ≡ m → ⊥) → getD (set sc m k) x 0 ≡ getD sc x 0
+  past-count x d = getD-set-other sc m x k 0 d
+
+  count-here : getD (set sc m k) m 0 ≡ k
+  count-here = let long = kept .long in getD-set-same sc m k 0 (omega arith)
+
+  goals-stay : (i n : ℕ) → goalsFrom (set sc m k) (placeIn i) n ≡ goalsFrom sc (placeIn i) n
+  goals-stay i n = goals-same (set sc m k) sc (placeIn i) (placeIn i) n (λ x h. past-count (placeIn i + x) (λ e. omega arith))
+
+  pub states-more : statesIn (set sc m k) (m + 1) ≡ statesIn sc m ++ (goalsFrom sc (placeIn m) k ∷ [])
+  unfolding statesIn
+  states-more =
+      ap (λ n. map (stateIn (set sc m k)) (range 0 n)) (add-one m)
+      ∙ ap (map (stateIn (set sc m k))) (range-next 0 m)
+      ∙ map-append (stateIn (set sc m k)) (range 0 m) ((0 + m) ∷ [])
+      ∙ ap₂ (λ a b. a ++ (b ∷ []))
+      (map-same (stateIn (set sc m k)) (stateIn sc) (range 0 m) (λ i j. let h = in-range m 0 i j in before i (omega arith)))
+      (ap (stateIn (set sc m k)) (zero-add m) ∙ ap (goalsFrom (set sc m k) (placeIn m)) count-here ∙ goals-stay m k)
+    where
+      before : (i : ℕ) → i < m → stateIn (set sc m k) i ≡ stateIn sc i
+      before i h = ap (goalsFrom (set sc m k) (placeIn i)) (past-count i (λ e. omega arith)) ∙ goals-stay i (getD sc i 0)
+
+  pub kept-more : k ≤ 32 → Kept (set sc m k) (m + 1)
+  kept-more few = record {
+    long = rw (length-set sc m k) (kept .long);
     few = omega arith;
     counts = λ i h. go i h (ℕ-discrete i m);
   }
     where
-      go : (i : ℕ) → i < m + 1 → Dec (i ≡ m) → getD (added sc m ws n) i 0 ≤ 32
-      go i h (yes e) = rw (e, added-count) few
-      go i h (no e) = rw (early i (omega arith) e) (kept .counts i (omega (arith, e)))
+      go : (i : ℕ) → i < m + 1 → Dec (i ≡ m) → getD (set sc m k) i 0 ≤ 32
+      go i h (yes e) = rw (e, count-here) few
+      go i h (no e) = rw (past-count i e) (kept .counts i (omega (arith, e)))
 
-  -- what lies behind the states stays
-  pub added-behind : Behind sc (added sc m ws n)
-  added-behind =
-      sets-behind (take (3 * n) ws) (set sc m n) (placeIn m) statesWords (rw run-length (omega arith))
-      ∙ drop-set-lt statesWords sc m n (omega arith)
+  -- what lies behind the used words stays
+  pub more-behind : Behind sc (set sc m k)
+  more-behind = drop-set-lt usedWords sc m k (omega arith)
 
 pub states-at : (sc : List ℕ) (m i : ℕ) (d : List GoalWords) → i < m → getD (statesIn sc m) i d ≡ stateIn sc i
 unfolding statesIn

@@ -1,8 +1,8 @@
 -- Goals written as words, and read again.
---   flat-back         goals written at the start, read again
+--   flat-back         goals written from a place on, read again
 --   flat-thirds       how many, from how many words
 --   picked-few        a row picks no more than there are
-use mathlib.Core.Path.{_≡_, refl, ap, sym, _∙_}
+use mathlib.Core.Path.{_≡_, refl, ap, ap₂, sym, _∙_}
 use mathlib.Core.List.{List, [], _∷_}
 use mathlib.Core.Bool.{Bool, true, false, cond}
 use Prim.Native.Nat.{ℕ, suc, _+_, _*_, _/_, _≤_}
@@ -13,7 +13,7 @@ use lib.Seq.{sets}
 use Rattle.goals.specs.GoalWords.{GoalWords, goalsFrom, flat}
 use Rattle.goals.specs.WordStages.{pickedW}
 use Rattle.decoding.proofs.Room.{flat-length}
-use Rattle.classes.proofs.SameLaws.{goals-same}
+use Rattle.goals.proofs.GoalLaws.{goals-same}
 use Rattle.states.proofs.StateLaws.{sets-in}
 
 goals-shift : (x : ℕ) (ws : List ℕ) (at k : ℕ) → goalsFrom (x ∷ ws) (suc at) k ≡ goalsFrom ws at k
@@ -30,13 +30,12 @@ flat-goals (g ∷ gs) =
     ∙ goals-shift (g .mask) (flat gs) 0 (length gs)
     ∙ flat-goals gs)
 
-pub flat-back : (l ws : List ℕ) (gs : List GoalWords) (k : ℕ) → ws ≡ sets l 0 (flat gs) → k ≡ length gs → 3 * length gs ≤ length l
-    → goalsFrom ws 0 k ≡ gs
-flat-back l ws gs k e d h =
-    ap (λ v. goalsFrom v 0 k) e ∙ ap (goalsFrom (sets l 0 (flat gs)) 0) d
-    ∙ goals-same (sets l 0 (flat gs)) (flat gs) 0 0 (length gs)
-    (λ i g. let z = flat-length gs in ap (λ n. getD (sets l 0 (flat gs)) n 0) refl ∙ sets-in (flat gs) l 0 i (omega arith) (omega arith)
-    ∙ ap (λ n. getD (flat gs) n 0) (sym (zero-add i)))
+pub flat-back : (l ws : List ℕ) (at : ℕ) (gs : List GoalWords) (k : ℕ) → ws ≡ sets l at (flat gs) → k ≡ length gs
+    → at + 3 * length gs ≤ length l → goalsFrom ws at k ≡ gs
+flat-back l ws at gs k e d h =
+    ap₂ (λ v n. goalsFrom v at n) e d
+    ∙ goals-same (sets l at (flat gs)) (flat gs) at 0 (length gs)
+    (λ i g. let z = flat-length gs in sets-in (flat gs) l at i (omega arith) (omega arith) ∙ ap (λ n. getD (flat gs) n 0) (sym (zero-add i)))
     ∙ flat-goals gs
 
 pub flat-thirds : (gs : List GoalWords) (k : ℕ) → k ≡ length (flat gs) → k / 3 ≡ length gs

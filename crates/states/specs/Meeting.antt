@@ -1,9 +1,10 @@
 -- Inside: states met before, and what the code that meets them answers.
 --   placeOf       the number of the first state that is equal to one, their count where none is
---   Addable       what code asks where it adds a state
+--   LiftsBehind   a class is put behind the states, lifted
 --   AllGood       each state is good
 --   Held          scratch holds m states, each good
---   Behind        scratch past its states is as it was
+--   Behind        scratch past its used words is as it was
+--   Spared        and so are the states
 --   blocksLength  how many words blocks take; rowMost, allMost: at most, of one state and of all
 --   ClassesMet    the states are in scratch, with two words counted for each successor
 --   ClassMeetable what meeting a class asks; ClassesMeetable: several
@@ -16,18 +17,20 @@
 use mathlib.Core.Path.{_≡_}
 use mathlib.Core.List.{List, _++_, map}
 use Prim.Native.Nat.{ℕ, _+_, _*_, _<_, _≤_}
-use lib.ListN.{length, getD, drop}
+use lib.ListN.{length, getD, take, drop}
 use Rattle.kinds.specs.Lists.{find, concat, orElse}
 use Rattle.kinds.specs.Members.{_∈_}
 use Rattle.automaton.specs.Exploring.{Succ, Block, Met, stopped, met, Made, refused, made, meets}
 use Rattle.automaton.specs.PlanWords.{blockWords}
 use Rattle.automaton.specs.Classes.{Square}
-use Rattle.goals.specs.GoalWords.{GoalWords, GoalsIn}
+use Rattle.goals.specs.GoalWords.{GoalWords}
 use Rattle.goals.specs.WordStages.{sameStateW}
+use Rattle.deriving.specs.Passes.{Lifts}
 use Rattle.classes.specs.Squares.{Squared}
-use Rattle.decoding.specs.WordMachine.{words, stateIn, statesIn, statesWords, Kept}
+use Rattle.decoding.specs.WordMachine.{words, placeIn, stateIn, statesIn, usedWords, Kept}
 use Rattle.decoding.specs.GoodStates.{GoodState}
 use Rattle.states.specs.Parting.{Named}
+use Rattle.states.specs.declared.Class.{Class}
 use Rattle.states.specs.declared.Going.{Going}
 use Rattle.states.specs.declared.Going.the-variants as going
 use Rattle.states.specs.declared.Explored.{Explored}
@@ -36,11 +39,9 @@ use Rattle.states.specs.declared.Explored.the-variants as explored
 unfoldable pub placeOf : List (List GoalWords) → List GoalWords → ℕ
 placeOf ss k = orElse (find (sameStateW k) ss 0) (length ss)
 
--- as state m, the n goals at the start of ws
-pub record Addable (sc : List ℕ) (m : ℕ) (ws : List ℕ) (n : ℕ) : Type 0 where
-  pub long : statesWords ≤ length sc
-  pub number : m < 128
-  pub goals : GoalsIn 32 ws 0 n
+-- the goals of a class, behind m states
+abbrev pub LiftsBehind : List GoalWords → ℕ → Class → List ℕ → List ℕ → Type 0
+LiftsBehind K m c old new = (c .goals ≡ length K) × Lifts K (placeIn m) (c .top .0) old new
 
 abbrev pub AllGood : List ℕ → List ℕ → ℕ → List (List GoalWords) → Type 0
 AllGood ar tab n ss = (s : List GoalWords) → s ∈ ss → GoodState ar tab n s
@@ -50,7 +51,13 @@ pub record Held (ar tab : List ℕ) (n : ℕ) (sc : List ℕ) (m : ℕ) : Type 0
   pub good : AllGood ar tab n (statesIn sc m)
 
 abbrev pub Behind : List ℕ → List ℕ → Type 0
-Behind old new = drop statesWords new ≡ drop statesWords old
+Behind old new = drop usedWords new ≡ drop usedWords old
+
+-- of m states
+pub record Spared (m : ℕ) (old new : List ℕ) : Type 0 where
+  pub long : length new ≡ length old
+  pub states : take (placeIn m) new ≡ take (placeIn m) old
+  pub behind : Behind old new
 
 abbrev pub blocksLength : List Block → ℕ
 blocksLength bs = length (concat (map blockWords bs))

@@ -16,7 +16,7 @@ use Rattle.goals.specs.GoalWords.{GoalWords, labelCode}
 use Rattle.goals.specs.WordStages.{outputsW}
 use Rattle.deriving.specs.Orders.{classAt, goalOn}
 use Rattle.classes.specs.Squares.{IsSquare, Squared}
-use Rattle.decoding.specs.WordMachine.{words, placeIn, statesWords, stateIn}
+use Rattle.decoding.specs.WordMachine.{words, placeIn, usedWords, stateIn}
 use Rattle.decoding.specs.GoodStates.{GoodState}
 use Rattle.states.specs.declared.Parts.{Parts}
 
@@ -25,7 +25,7 @@ derivedWords = 288
 
 -- state i, the code of its label, symbol f
 pub record OnSymbol (ar tab : List ℕ) (n : ℕ) (sc : List ℕ) (i c f : ℕ) : Type 0 where
-  pub long : statesWords ≤ length sc
+  pub long : usedWords ≤ length sc
   pub number : i < 128
   pub count : getD sc i 0 ≤ 32
   pub good : GoodState ar tab n (stateIn sc i)

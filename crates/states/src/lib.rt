@@ -1,7 +1,8 @@
+use kinds::Position;
 use kinds::Reason;
 use kinds::State;
 
-pub mod keeping; // the states met, in scratch
+pub mod keeping; // the states met, in scratch, and the class that is looked up among them
 pub mod parting; // a state on a symbol, parted into classes
 
 // As many states there are at most, and as many counts of goals stand first in scratch.
@@ -18,6 +19,12 @@ pub struct Parts {
     pub announced: usize,
     pub goals: usize,
     pub classes: usize,
+}
+
+// How many goals a class has, and its displacement.
+pub struct Class {
+    pub goals: usize,
+    pub top: Position,
 }
 
 // How many states there are now, and how many words the blocks made take.

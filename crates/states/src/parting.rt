@@ -1,6 +1,5 @@
 use crate::Parts;
-use crate::STATE_WORDS;
-use crate::STATES;
+use crate::keeping::place_in;
 use classes::order::class_order;
 use classes::square::dependency;
 use deriving::announce::outputs;
@@ -31,7 +30,7 @@ pub fn part(
 {
     let i = state.0 as usize;
     let k = symbols[symbol.0 as usize] as u16;
-    let at = STATES + STATE_WORDS * i;
+    let at = place_in(i);
     let n = scratch[i] as usize;
     let announced = outputs(tab, scratch, at, n, root, symbol, out);
     let d = derive(tab, scratch, at, n, shapes, root, symbol, k, goals) / 3;

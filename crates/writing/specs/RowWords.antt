@@ -28,7 +28,7 @@ use Rattle.deriving.specs.Orders.{classAt, goalOn}
 use Rattle.classes.specs.Squares.{Squared}
 use Rattle.decoding.specs.WordMachine.{words, stateIn, statesIn, Kept}
 use Rattle.decoding.specs.GoodStates.{Ready}
-use Rattle.states.specs.Meeting.{placeOf, Held}
+use Rattle.states.specs.Meeting.{placeOf, Held, ClassMeetable}
 use Rattle.states.specs.Parting.{OnSymbol, Named}
 
 -- for tables and n shapes, scratch and m states in it
@@ -62,9 +62,7 @@ startsAt ar m i = 4 + m + i * length ar
 
 -- beside the m states in sc, the class that row r of n goals begins, of at most 32 goals; two words from `at` on
 pub record SuccessorWritable (sc : List ℕ) (m : ℕ) (goals : List ℕ) (n : ℕ) (dep : Square) (r at : ℕ) (plan : List ℕ) : Type 0 where
-  pub kept : Kept sc m
-  pub squared : Squared goals n dep
-  pub row : r < 96
+  pub class : ClassMeetable sc m goals n dep r
   pub small : length (classAt dep goals n r) ≤ 32
   pub room : at + 2 ≤ length plan
 

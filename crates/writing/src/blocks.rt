@@ -1,13 +1,11 @@
-use classes::members::put_class;
-use deriving::lift::lift_class;
 use goals::obligations::label;
 use kinds::Position;
 use kinds::State;
 use kinds::Symbol;
 use states::DERIVED_WORDS;
-use states::STATE_WORDS;
-use states::STATES;
 use states::keeping::find_state;
+use states::keeping::lift_behind;
+use states::keeping::place_in;
 use states::parting::part;
 ghost use mathlib.Core.Path.{_≡_};
 ghost use mathlib.Core.List.{[], _∷_};
@@ -16,7 +14,7 @@ ghost use Rattle.goals.specs.WordStages.{displacementW, liftedW};
 ghost use Rattle.deriving.specs.Orders.{classAt};
 ghost use Rattle.deriving.specs.Passes.{Puts};
 ghost use Rattle.decoding.specs.WordMachine.{statesIn};
-ghost use Rattle.states.specs.Meeting.{placeOf};
+ghost use Rattle.states.specs.Meeting.{placeOf, Spared};
 ghost use Rattle.writing.specs.RowWords.{blockIn, planIn, outWords, succWords, SuccessorWritable, SuccessorsWritable, OutputsWritable, BlockWritable, RowWritable, RowWritten, Writable};
 
 // The plan of the m states in scratch, of `total` words.
@@ -24,13 +22,14 @@ pub fn write_plan(
     tab: &[u16],
     symbols: &[u8],
     shapes: usize,
-    scratch: &[u16],
+    scratch: &mut [u16],
     m: usize,
     total: usize,
     plan: &mut [u16],
 )
     requires { ⌜ Writable (now symbols) (now tab) shapes (now scratch) m total (now plan) ⌝ }
-    ensures { λ r. ⌜ now (plan .exit) ≡ sets (now (plan .entry)) 0 (planIn (now (symbols .entry)) (now (tab .entry)) shapes (now (scratch .entry)) m) ⌝ }
+    ensures is { λ r. ⌜ now (plan .exit) ≡ sets (now (plan .entry)) 0 (planIn (now (symbols .entry)) (now (tab .entry)) shapes (now (scratch .entry)) m) ⌝ }
+    ensures spared { λ u. ⌜ Spared m (now (scratch .entry)) (now (scratch .exit)) ⌝ }
 {
     let k = symbols.len();
     plan[0] = m as u16;
@@ -40,7 +39,7 @@ pub fn write_plan(
     let mut at = 4 + m + m * k;
     let mut i = 0;
     while i < m {
-        let c = label(tab, scratch, STATES + STATE_WORDS * i, scratch[i] as usize) as u16;
+        let c = label(tab, scratch, place_in(i), scratch[i] as usize) as u16;
         plan[4 + i] = c;
         at = write_row(
             tab,
@@ -62,7 +61,7 @@ fn write_row(
     tab: &[u16],
     symbols: &[u8],
     shapes: usize,
-    scratch: &[u16],
+    scratch: &mut [u16],
     m: usize,
     state: State,
     root: Position,
@@ -70,7 +69,8 @@ fn write_row(
     plan: &mut [u16],
 ) -> usize
     requires { ⌜ RowWritable (now symbols) (now tab) shapes (now scratch) m (state .0) (root .0) at (now plan) ⌝ }
-    ensures { λ r. ⌜ RowWritten (now (symbols .entry)) (now (tab .entry)) shapes (now (scratch .entry)) m (state .0) at r (now (plan .entry)) (now (plan .exit)) ⌝ }
+    ensures is { λ r. ⌜ RowWritten (now (symbols .entry)) (now (tab .entry)) shapes (now (scratch .entry)) m (state .0) at r (now (plan .entry)) (now (plan .exit)) ⌝ }
+    ensures spared { λ u. ⌜ Spared m (now (scratch .entry)) (now (scratch .exit)) ⌝ }
 {
     let starts = 4 + m + state.0 as usize * symbols.len();
     let mut here = at;
@@ -99,7 +99,7 @@ fn write_block(
     tab: &[u16],
     symbols: &[u8],
     shapes: usize,
-    scratch: &[u16],
+    scratch: &mut [u16],
     m: usize,
     state: State,
     root: Position,
@@ -108,7 +108,8 @@ fn write_block(
     plan: &mut [u16],
 ) -> usize
     requires { ⌜ BlockWritable (now symbols) (now tab) shapes (now scratch) m (state .0) (root .0) (symbol .0) at (now plan) ⌝ }
-    ensures { λ r. ⌜ Puts (blockIn (now (symbols .entry)) (now (tab .entry)) shapes (now (scratch .entry)) m (state .0) (symbol .0)) at r (now (plan .entry)) (now (plan .exit)) ⌝ }
+    ensures is { λ r. ⌜ Puts (blockIn (now (symbols .entry)) (now (tab .entry)) shapes (now (scratch .entry)) m (state .0) (symbol .0)) at r (now (plan .entry)) (now (plan .exit)) ⌝ }
+    ensures spared { λ u. ⌜ Spared m (now (scratch .entry)) (now (scratch .exit)) ⌝ }
 {
     let mut out = [0u32; 96];
     let mut goals = [0u16; DERIVED_WORDS];
@@ -130,7 +131,7 @@ fn write_block(
     let announced = parts.announced;
     let n = parts.goals;
     let classes = parts.classes;
-    let from = STATES + STATE_WORDS * state.0 as usize;
+    let from = place_in(state.0 as usize);
     let next = write_outputs(scratch, from, &out[0..announced], at, plan);
     write_successors(scratch, m, &goals, n, &dep, &order[0..classes], next, plan)
 }
@@ -155,7 +156,7 @@ fn write_outputs(scratch: &[u16], from: usize, out: &[u32], at: usize, plan: &mu
 
 // A count and the successors of the classes in their order; answers the place after them.
 fn write_successors(
-    scratch: &[u16],
+    scratch: &mut [u16],
     m: usize,
     goals: &[u16],
     n: usize,
@@ -165,7 +166,8 @@ fn write_successors(
     plan: &mut [u16],
 ) -> usize
     requires { ⌜ SuccessorsWritable (now scratch) m (now goals) n (now dep) (now order) at (now plan) ⌝ }
-    ensures { λ r. ⌜ Puts (succWords (now (dep .entry)) (now (goals .entry)) n (statesIn (now (scratch .entry)) m) (now (order .entry))) at r (now (plan .entry)) (now (plan .exit)) ⌝ }
+    ensures is { λ r. ⌜ Puts (succWords (now (dep .entry)) (now (goals .entry)) n (statesIn (now (scratch .entry)) m) (now (order .entry))) at r (now (plan .entry)) (now (plan .exit)) ⌝ }
+    ensures spared { λ u. ⌜ Spared m (now (scratch .entry)) (now (scratch .exit)) ⌝ }
 {
     plan[at] = order.len() as u16;
     let mut here = at + 1;
@@ -189,7 +191,7 @@ fn write_successors(
 
 // The number of the state that the class of row r lifts to, and the displacement.
 fn write_successor(
-    scratch: &[u16],
+    scratch: &mut [u16],
     m: usize,
     goals: &[u16],
     n: usize,
@@ -199,12 +201,10 @@ fn write_successor(
     plan: &mut [u16],
 )
     requires { ⌜ SuccessorWritable (now scratch) m (now goals) n (now dep) r at (now plan) ⌝ }
-    ensures { λ u. ⌜ now (plan .exit) ≡ sets (now (plan .entry)) at (placeOf (statesIn (now (scratch .entry)) m) (liftedW (classAt (now (dep .entry)) (now (goals .entry)) n r)) ∷ displacementW (classAt (now (dep .entry)) (now (goals .entry)) n r) ∷ []) ⌝ }
+    ensures is { λ u. ⌜ now (plan .exit) ≡ sets (now (plan .entry)) at (placeOf (statesIn (now (scratch .entry)) m) (liftedW (classAt (now (dep .entry)) (now (goals .entry)) n r)) ∷ displacementW (classAt (now (dep .entry)) (now (goals .entry)) n r) ∷ []) ⌝ }
+    ensures spared { λ u. ⌜ Spared m (now (scratch .entry)) (now (scratch .exit)) ⌝ }
 {
-    let mut class = [0u16; DERIVED_WORDS];
-    let k = put_class(dep, r, goals, n, &mut class) / 3;
-    let mut lifted = [0u16; STATE_WORDS];
-    let top = lift_class(&class, k, &mut lifted);
-    plan[at] = find_state(scratch, m, &lifted, k) as u16;
-    plan[at + 1] = top.0;
+    let class = lift_behind(scratch, m, goals, n, dep, r);
+    plan[at] = find_state(scratch, m, class.goals) as u16;
+    plan[at + 1] = class.top.0;
 }

@@ -18,19 +18,19 @@ use Rattle.goals.proofs.words.goal_at.Reads as goal-at-reads
 use Rattle.goals.proofs.words.put_goal.Reads as put-goal-reads
 
 abbrev Inv-loop : tie.InvT-loop
-Inv-loop dep i ws n out₀ next₀ here₀ j₀ out next here j =
+Inv-loop dep i ws n out₀ to next₀ here₀ j₀ out next here j =
     (j ≤ n) × (here ≡ 3 * j) × (length out ≡ length out₀)
-    × (next + length (Left (getD dep i []) ws here n j) ≡ length (flat (pickedW (getD dep i []) (goalsFrom ws 0 n))))
-    × (sets out₀ 0 (flat (pickedW (getD dep i []) (goalsFrom ws 0 n))) ≡ sets out next (Left (getD dep i []) ws here n j))
+    × (next + length (Left (getD dep i []) ws here n j) ≡ to + length (flat (pickedW (getD dep i []) (goalsFrom ws 0 n))))
+    × (sets out₀ to (flat (pickedW (getD dep i []) (goalsFrom ws 0 n))) ≡ sets out next (Left (getD dep i []) ws here n j))
 
 abbrev μ-loop : tie.MeasureT-loop
-μ-loop dep i ws n out₀ next₀ here₀ j₀ out next here j = n - j
+μ-loop dep i ws n out₀ to next₀ here₀ j₀ out next here j = n - j
 
 loop-holds : tie.Need-loop-holds Inv-loop μ-loop
 loop-holds c =
     let a = c .before .before .args in
     let e = pick-all (getD (a .dep .now) (a .i) []) (a .ws .now) (a .n) in
-    (omega arith, refl, refl, omega (arith, ap length e), ap (sets (a .out .now) 0) e)
+    (omega arith, refl, refl, omega (arith, ap length e), ap (sets (a .out .now) (a .to)) e)
 
 mul-if1 : tie.Need-mul-if1 Inv-loop μ-loop
 mul-if1 c = search needs

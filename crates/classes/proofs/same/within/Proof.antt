@@ -17,7 +17,7 @@ use Rattle.goals.proofs.words.goal_at.Reads as goal-at-reads
 
 abbrev Inv-loop : tie.InvT-loop
 Inv-loop ws from n vs at k here₀ left₀ here left =
-    (here + 3 * left ≡ from + 3 * n) × (withinW (goalsFrom ws from n) (goalsFrom vs at k) ≡ withinW (goalsFrom ws here left) (goalsFrom vs at k))
+    (withinW (goalsFrom ws from n) (goalsFrom vs at k) ≡ withinW (goalsFrom ws here left) (goalsFrom vs at k)) × (here + 3 * left ≡ from + 3 * n)
 
 abbrev μ-loop : tie.MeasureT-loop
 μ-loop ws from n vs at k here₀ left₀ here left = left
@@ -45,11 +45,11 @@ loop-again c =
     let entry = c .before .before .before .before .before .before .before in
     let a = entry .args in
     let l = c .before .before .before .before .loop in (
-      omega arith,
-      l .inv .1
+      l .inv .0
           ∙ within-on (goalsFrom (a .vs .now) (a .at) (a .k)) (a .ws .now) (l .here) (l .left) (c .before .before .before .loop-test .taken)
           (sym (c .before .among .ensures
           ∙ ap (λ (x : Goal). amongW (asWords x) (goalsFrom (a .vs .now) (a .at) (a .k))) (c .before .before .goal-at .ensures)) ∙ c .if1 .taken),
+      omega arith,
     )
 
 returns : tie.Need-returns Inv-loop μ-loop
@@ -57,7 +57,7 @@ returns c =
     let entry = c .before .before .before .before .before .before .before in
     let a = entry .args in
     let l = c .before .before .before .before .loop in
-    sym (l .inv .1 ∙ within-off (goalsFrom (a .vs .now) (a .at) (a .k)) (a .ws .now) (l .here) (l .left) (c .before .before .before .loop-test .taken)
+    sym (l .inv .0 ∙ within-off (goalsFrom (a .vs .now) (a .at) (a .k)) (a .ws .now) (l .here) (l .left) (c .before .before .before .loop-test .taken)
     (sym (c .before .among .ensures ∙ ap (λ (x : Goal). amongW (asWords x) (goalsFrom (a .vs .now) (a .at) (a .k)))
     (c .before .before .goal-at .ensures)) ∙ c .if1 .left))
 
@@ -65,7 +65,7 @@ returns-2 : tie.Need-returns-2 Inv-loop μ-loop
 returns-2 c =
     let a = c .before .before .before .before .args in
     let l = c .before .loop in
-    sym (l .inv .1 ∙ within-end (goalsFrom (a .vs .now) (a .at) (a .k)) (a .ws .now) (l .here) (l .left) (c .loop-test .left))
+    sym (l .inv .0 ∙ within-end (goalsFrom (a .vs .now) (a .at) (a .k)) (a .ws .now) (l .here) (l .left) (c .loop-test .left))
 
 pub within-spec : {M : Type 1} → statement M
 within-spec =

@@ -1,6 +1,7 @@
 use Rattle.states.proofs.ExploreLaws.{Running, running-begin, running-on, running-stop, running-end, fresh-room}
 use Rattle.decoding.proofs.GoodLaws.{ready-few}
 use Prim.Native.Nat.{_-_}
+use lib.ListN.{length-set}
 use mathlib.Core.Path.{_∙_}
 use native.Mathlib.Omega.{arith}
 use borrow.Author.Needs.{needs}
@@ -10,7 +11,7 @@ use Rattle.exploring.proofs.meeting.explore.Reads as reads
 use Rattle.exploring.proofs.meeting.explore.Lts as lts
 use Rattle.deriving.proofs.derivative.put_fresh.Reads as put-fresh-reads
 use Rattle.exploring.proofs.meeting.explore_state.Reads as explore-state-reads
-use Rattle.states.proofs.keeping.add_state.Reads as add-state-reads
+use Rattle.states.proofs.keeping.place_in.Reads as place-in-reads
 
 abbrev Inv-loop : tie.InvT-loop
 Inv-loop tab symbols shapes scratch₀ m₀ words₀ i₀ scratch m words i = Running symbols tab shapes scratch₀ scratch m words i
@@ -18,29 +19,33 @@ Inv-loop tab symbols shapes scratch₀ m₀ words₀ i₀ scratch m words i = Ru
 abbrev μ-loop : tie.MeasureT-loop
 μ-loop tab symbols shapes scratch₀ m₀ words₀ i₀ scratch m words i = 128 - i
 
-slice-aggregate-put-fresh : tie.Need-slice-aggregate-put-fresh Inv-loop μ-loop
-slice-aggregate-put-fresh c = search needs
+place-in-requires : tie.Need-place-in-requires Inv-loop μ-loop
+place-in-requires c κs = search needs
 
 put-fresh-requires : tie.Need-put-fresh-requires Inv-loop μ-loop
 put-fresh-requires c κs =
-    let entry = c .before .before .before .before in
-    (ready-few (entry .pre .0), fresh-room (entry .args .shapes) (ready-few (entry .pre .0)))
+    let entry = c .before .before .before .before .before in (
+      ready-few (entry .pre .0),
+      fresh-room (entry .args .scratch .now) (entry .args .shapes) (entry .pre .1) (ready-few (entry .pre .0))
+          (c .place-in .ensures),
+    )
 
-slice-aggregate-add-state : tie.Need-slice-aggregate-add-state Inv-loop μ-loop
-slice-aggregate-add-state c = search needs
+cast-scratch : tie.Need-cast-scratch Inv-loop μ-loop
+cast-scratch c =
+    let entry = c .before .before .before .before .before .before .before .before in
+    omega (arith, ready-few (entry .pre .0))
 
-add-state-requires : tie.Need-add-state-requires Inv-loop μ-loop
-add-state-requires c κs = search needs
+slice-write-scratch : tie.Need-slice-write-scratch Inv-loop μ-loop
+slice-write-scratch c = search needs
 
 loop-holds : tie.Need-loop-holds Inv-loop μ-loop
 loop-holds c =
-    let entry = c .before .before .before .before .before .before .before .before .before .before .before in
-    let at-put-fresh = c .before .before .before .before .before .before .put-fresh in
-    (running-begin (entry .args .scratch .now) (entry .pre .0) (entry .pre .1) _ _ (at-put-fresh .ensures .1)
-    (c .before .before .add-state .ensures)) .0
+    let entry = c .before .before .before .before .before .before .before .before in
+    running-begin (entry .args .scratch .now) (entry .pre .0) (entry .pre .1) (c .before .before .before .place-in .ensures) _
+    (c .before .before .put-fresh .ensures .1) .0
 
-cast-t25 : tie.Need-cast-t25 Inv-loop μ-loop
-cast-t25 c = omega (arith, c .before .loop-test .taken, c .before .before .loop .inv .held .kept .few)
+cast-t22 : tie.Need-cast-t22 Inv-loop μ-loop
+cast-t22 c = omega (arith, c .before .loop-test .taken, c .before .before .loop .inv .held .kept .few)
 
 explore-state-requires : tie.Need-explore-state-requires Inv-loop μ-loop
 explore-state-requires c κs = (c .before .before .loop .inv .held, c .before .loop-test .taken)
@@ -50,8 +55,6 @@ enum-known-states c = search needs
 
 add-words : tie.Need-add-words Inv-loop μ-loop
 add-words c =
-    let entry =
-    c .before .before .before .before .before .before .before .before .before .before .before .before .before .before .before .before .before .before .before .before in
     let at-loop = c .before .before .before .before .before .before .before .before .loop in
     let at-loop-test = c .before .before .before .before .before .before .before .loop-test in
     let at-explore-state = c .before .before .before .before .before .explore-state in
@@ -63,25 +66,27 @@ add-words c =
 enum-known-reason : tie.Need-enum-known-reason Inv-loop μ-loop
 enum-known-reason c = search needs
 
-cast-t27 : tie.Need-cast-t27 Inv-loop μ-loop
-cast-t27 c =
+cast-t24 : tie.Need-cast-t24 Inv-loop μ-loop
+cast-t24 c =
     let at-loop = c .before .before .before .before .before .before .before .before .loop in
     let at-loop-test = c .before .before .before .before .before .before .before .loop-test in
     omega (arith, at-loop-test .taken, at-loop .inv .held .kept .few)
 
 same-length : tie.Need-same-length Inv-loop μ-loop
 same-length c =
-    let at-add-state = c .before .before .before .before .before .before .before .before .before .before .before .add-state in
+    let entry =
+    c .before .before .before .before .before .before .before .before .before .before .before .before .before .before .before .before .before in
+    let at-put-fresh = c .before .before .before .before .before .before .before .before .before .before .before .put-fresh in
     let at-loop = c .before .before .before .before .before .before .before .before .loop in
-    c .before .before .before .before .before .explore-state .kept .1 .1 .1 .0 ∙ at-loop .inv .long ∙ at-add-state .kept .0
+    c .before .before .before .before .before .explore-state .kept .1 .1 .1 .0 ∙ at-loop .inv .long ∙ length-set (at-put-fresh .last .0) 0
+    (entry .args .shapes) ∙ at-put-fresh .kept .0
 
 returns : tie.Need-returns Inv-loop μ-loop
 returns c =
     let entry =
-    c .before .before .before .before .before .before .before .before .before .before .before .before .before .before .before .before .before .before .before .before in
-    let at-put-fresh =
-    c .before .before .before .before .before .before .before .before .before .before .before .before .before .before .before .put-fresh in
-    let at-add-state = c .before .before .before .before .before .before .before .before .before .before .before .add-state in
+    c .before .before .before .before .before .before .before .before .before .before .before .before .before .before .before .before .before in
+    let at-place-in = c .before .before .before .before .before .before .before .before .before .before .before .before .place-in in
+    let at-put-fresh = c .before .before .before .before .before .before .before .before .before .before .before .put-fresh in
     let at-loop = c .before .before .before .before .before .before .before .before .loop in
     let at-loop-test = c .before .before .before .before .before .before .before .loop-test in
     let at-explore-state = c .before .before .before .before .before .explore-state in (
@@ -89,7 +94,7 @@ returns c =
           (at-explore-state .ensures .0),
       at-explore-state .ensures .1
           ∙ at-loop .inv .behind
-          ∙ (running-begin (entry .args .scratch .now) (entry .pre .0) (entry .pre .1) _ _ (at-put-fresh .ensures .1) (at-add-state .ensures)) .1,
+          ∙ running-begin (entry .args .scratch .now) (entry .pre .0) (entry .pre .1) (at-place-in .ensures) _ (at-put-fresh .ensures .1) .1,
     )
 
 add-i : tie.Need-add-i Inv-loop μ-loop
@@ -106,8 +111,6 @@ loop-less c =
 
 loop-again : tie.Need-loop-again Inv-loop μ-loop
 loop-again c =
-    let entry =
-    c .before .before .before .before .before .before .before .before .before .before .before .before .before .before .before .before .before .before .before .before in
     let at-loop = c .before .before .before .before .before .before .before .before .loop in
     let at-loop-test = c .before .before .before .before .before .before .before .loop-test in
     let at-explore-state = c .before .before .before .before .before .explore-state in
@@ -115,16 +118,18 @@ loop-again c =
     (at-explore-state .ensures .1) (at-explore-state .kept .1 .1 .1 .0))
 
 same-length-2 : tie.Need-same-length-2 Inv-loop μ-loop
-same-length-2 c = c .before .loop .inv .long ∙ c .before .before .before .before .add-state .kept .0
+same-length-2 c =
+    let entry = c .before .before .before .before .before .before .before .before .before .before in
+    let at-put-fresh = c .before .before .before .before .put-fresh in
+    c .before .loop .inv .long ∙ length-set (at-put-fresh .last .0) 0 (entry .args .shapes) ∙ at-put-fresh .kept .0
 
 returns-2 : tie.Need-returns-2 Inv-loop μ-loop
 returns-2 c =
-    let entry = c .before .before .before .before .before .before .before .before .before .before .before .before .before in
-    let at-put-fresh = c .before .before .before .before .before .before .before .before .put-fresh in (
+    let entry = c .before .before .before .before .before .before .before .before .before .before in (
       running-end (c .before .loop .inv) (c .loop-test .left),
       c .before .loop .inv .behind
-          ∙ (running-begin (entry .args .scratch .now) (entry .pre .0) (entry .pre .1) _ _ (at-put-fresh .ensures .1)
-          (c .before .before .before .before .add-state .ensures)) .1,
+          ∙ running-begin (entry .args .scratch .now) (entry .pre .0) (entry .pre .1)
+          (c .before .before .before .before .before .place-in .ensures) _ (c .before .before .before .before .put-fresh .ensures .1) .1,
     )
 
 pub explore-spec : {M : Type 1} → statement M
@@ -133,17 +138,17 @@ explore-spec =
     (tie.spec
     Inv-loop
     μ-loop
-    slice-aggregate-put-fresh
+    place-in-requires
     put-fresh-requires
-    slice-aggregate-add-state
-    add-state-requires
+    cast-scratch
+    slice-write-scratch
     loop-holds
-    cast-t25
+    cast-t22
     explore-state-requires
     enum-known-states
     add-words
     enum-known-reason
-    cast-t27
+    cast-t24
     same-length
     returns
     add-i

@@ -1,5 +1,5 @@
 use Rattle.states.proofs.ExploreLaws.{Rowing, rowing-begin, rowing-symbol, rowing-on, rowing-stop, rowing-end}
-use Rattle.states.proofs.PartLaws.{held-good, held-count, held-number, held-stored}
+use Rattle.states.proofs.PartLaws.{held-good, held-count, held-number, held-stored, label-there}
 use Rattle.decoding.proofs.GoodLaws.{good-label}
 use lib.ListN.{length}
 use Prim.Native.Nat.{_-_}
@@ -12,6 +12,7 @@ use Rattle.exploring.proofs.meeting.explore_state.Reads as reads
 use Rattle.exploring.proofs.meeting.explore_state.Lts as lts
 use Rattle.exploring.proofs.meeting.explore_symbol.Reads as explore-symbol-reads
 use Rattle.goals.proofs.obligations.label.Reads as label-reads
+use Rattle.states.proofs.keeping.place_in.Reads as place-in-reads
 
 abbrev Inv-loop : tie.InvT-loop
 Inv-loop tab symbols shapes scratch₀ m state i n c states₀ words₀ f₀ scratch states words f =
@@ -19,6 +20,9 @@ Inv-loop tab symbols shapes scratch₀ m state i n c states₀ words₀ f₀ scr
 
 abbrev μ-loop : tie.MeasureT-loop
 μ-loop tab symbols shapes scratch₀ m state i n c states₀ words₀ f₀ scratch states words f = length symbols - f
+
+cast-i : tie.Need-cast-i Inv-loop μ-loop
+cast-i c = search needs
 
 mul-n : tie.Need-mul-n Inv-loop μ-loop
 mul-n c =
@@ -35,35 +39,45 @@ cast-n c =
     let entry = c .before .before .before .before .before in
     omega (arith, held-count (entry .pre .0) (entry .pre .1))
 
-mul-label : tie.Need-mul-label Inv-loop μ-loop
-mul-label c =
-    let entry = c .before .before .before .before .before .before in
-    omega (arith, held-number (entry .pre .0) (entry .pre .1))
-
-add-label : tie.Need-add-label Inv-loop μ-loop
-add-label c =
+place-in-requires : tie.Need-place-in-requires Inv-loop μ-loop
+place-in-requires c κs =
     let entry = c .before .before .before .before .before .before in
     omega (arith, held-number (entry .pre .0) (entry .pre .1))
 
 label-requires : tie.Need-label-requires Inv-loop μ-loop
 label-requires c κs =
-    let entry = c .before .before .before .before .before .before in
-    held-stored (entry .pre .0) (entry .pre .1)
+    let entry = c .before .before .before .before .before .before .before in
+    held-stored (entry .pre .0) (entry .pre .1) (c .place-in .ensures)
 
 cast-c : tie.Need-cast-c Inv-loop μ-loop
 cast-c c =
-    let entry = c .before .before .before .before .before .before .before in
-    omega (arith, c .label .ensures, good-label (held-good (entry .pre .0) (entry .pre .1)))
+    let entry = c .before .before .before .before .before .before .before .before in
+    omega (
+      arith,
+      label-there (entry .args .tab .now) (entry .args .scratch .now) (entry .args .state .0) (c .before .place-in .ensures)
+          (c .label .ensures),
+      good-label (held-good (entry .pre .0) (entry .pre .1)),
+    )
 
 loop-holds : tie.Need-loop-holds Inv-loop μ-loop
 loop-holds c =
-    let entry = c .before .before .before .before .before .before .before in
+    let entry = c .before .before .before .before .before .before .before .before in
     rowing-begin (entry .pre .0) (entry .pre .1)
+
+cast-t28 : tie.Need-cast-t28 Inv-loop μ-loop
+cast-t28 c =
+    let entry = c .before .before .before .before .before .before .before .before .before .before .before in
+    omega (arith, c .before .loop-test .taken, held-good (entry .pre .0) (entry .pre .1) .ready .limits .symbols .few-symbols)
 
 explore-symbol-requires : tie.Need-explore-symbol-requires Inv-loop μ-loop
 explore-symbol-requires c κs =
-    let at-loop = c .before .before .loop in
-    (at-loop .inv .held .kept, rowing-symbol (at-loop .inv) (c .before .loop-test .taken) _ (c .before .before .before .label .ensures))
+    let entry = c .before .before .before .before .before .before .before .before .before .before .before in
+    let at-loop = c .before .before .loop in (
+      at-loop .inv .held .kept,
+      rowing-symbol (at-loop .inv) (c .before .loop-test .taken) _
+          (label-there (entry .args .tab .now) (entry .args .scratch .now) (entry .args .state .0)
+          (c .before .before .before .before .place-in .ensures) (c .before .before .before .label .ensures)),
+    )
 
 enum-known-all : tie.Need-enum-known-all Inv-loop μ-loop
 enum-known-all c = search needs
@@ -71,7 +85,7 @@ enum-known-all c = search needs
 add-words : tie.Need-add-words Inv-loop μ-loop
 add-words c =
     let entry =
-    c .before .before .before .before .before .before .before .before .before .before .before .before .before .before .before .before in
+    c .before .before .before .before .before .before .before .before .before .before .before .before .before .before .before .before .before in
     let at-loop = c .before .before .before .before .before .before .before .before .loop in
     let at-loop-test = c .before .before .before .before .before .before .before .loop-test in
     let at-explore-symbol = c .before .before .before .before .before .explore-symbol in
@@ -90,8 +104,6 @@ same-length c =
 
 returns : tie.Need-returns Inv-loop μ-loop
 returns c =
-    let entry =
-    c .before .before .before .before .before .before .before .before .before .before .before .before .before .before .before .before in
     let at-loop = c .before .before .before .before .before .before .before .before .loop in
     let at-loop-test = c .before .before .before .before .before .before .before .loop-test in
     let at-explore-symbol = c .before .before .before .before .before .explore-symbol in (
@@ -108,8 +120,6 @@ loop-less c = search needs
 
 loop-again : tie.Need-loop-again Inv-loop μ-loop
 loop-again c =
-    let entry =
-    c .before .before .before .before .before .before .before .before .before .before .before .before .before .before .before .before in
     let at-loop = c .before .before .before .before .before .before .before .before .loop in
     let at-loop-test = c .before .before .before .before .before .before .before .loop-test in
     let at-explore-symbol = c .before .before .before .before .before .explore-symbol in
@@ -121,18 +131,10 @@ same-length-2 c = c .before .loop .inv .long
 
 returns-2 : tie.Need-returns-2 Inv-loop μ-loop
 returns-2 c =
-    let entry = c .before .before .before .before .before .before .before .before .before in (
+    let entry = c .before .before .before .before .before .before .before .before .before .before in (
       rowing-end (c .before .loop .inv) (c .loop-test .left) (held-good (entry .pre .0) (entry .pre .1) .ready .limits .symbols .few-symbols),
       c .before .loop .inv .behind,
     )
-
-cast-i : tie.Need-cast-i Inv-loop μ-loop
-cast-i c = search needs
-
-cast-t29 : tie.Need-cast-t29 Inv-loop μ-loop
-cast-t29 c =
-    let entry = c .before .before .before .before .before .before .before .before .before .before in
-    omega (arith, c .before .loop-test .taken, held-good (entry .pre .0) (entry .pre .1) .ready .limits .symbols .few-symbols)
 
 pub explore-state-spec : {M : Type 1} → statement M
 explore-state-spec =
@@ -144,12 +146,11 @@ explore-state-spec =
     mul-n
     slice-read-n
     cast-n
-    mul-label
-    add-label
+    place-in-requires
     label-requires
     cast-c
     loop-holds
-    cast-t29
+    cast-t28
     explore-symbol-requires
     enum-known-all
     add-words

@@ -113,15 +113,17 @@ same-length-5 c = search needs
 returns-4 : tie.Need-returns-4
 returns-4 c =
     let entry =
-    c .before .before .before .before .before .before .before .before .before .before .before .before .before .before .before .before .before .before in
-    let at-explore = c .before .before .before .before .before .before .before .before .before .before .before .before .explore in
-    let at-m = c .before .before .before .before .before .before .before .before .m in
-    let at-if1 = c .before .before .before .before .before .before .if1 in
+    c .before .before .before .before .before .before .before .before .before .before .before .before .before .before .before .before .before .before .before .before in
+    let at-explore = c .before .before .before .before .before .before .before .before .before .before .before .before .before .before .explore in
+    let at-m = c .before .before .before .before .before .before .before .before .before .before .m in
+    let at-if1 = c .before .before .before .before .before .before .before .before .if1 in
+    let at-if2 = c .before .before .before .before .before .before .before .if2 in
+    let at-write-plan = c .before .before .before .before .write-plan in
     let e =
     ended-is (entry .args .symbols .now) (entry .args .tab .now) (entry .args .shapes) (at-explore .result) _ _ _ (at-m .given .1)
     (at-explore .ensures .0) in
     made-plan _ _ _ (entry .args .plan .now) (entry .args .scratch .now) e (at-explore .ensures .1) (at-if1 .left)
-    (c .before .before .before .before .before .if2 .left) _ (c .before .before .write-plan .ensures)
+    (at-if2 .left) _ _ (at-write-plan .ensures .0) (at-write-plan .ensures .1 .behind)
 
 pub make-spec : {M : Type 1} → statement M
 make-spec =

@@ -1,4 +1,5 @@
-use Rattle.states.proofs.StateLaws.{placeFrom, place-all, place-here, place-next, place-end}
+use Rattle.states.proofs.StateLaws.{same-there, placeFrom, place-all, place-here, place-next, place-end}
+use Rattle.decoding.specs.WordMachine.{placeIn}
 use Rattle.goals.specs.GoalWords.{goalsFrom}
 use Prim.Native.Nat.{_≤_, _-_}
 use mathlib.Core.Path.{_≡_, refl, sym, _∙_}
@@ -9,57 +10,62 @@ use Rattle.states.proofs.keeping.find_state.Tie as tie
 use Rattle.states.proofs.keeping.find_state.Reads as reads
 use Rattle.states.proofs.keeping.find_state.Lts as lts
 use Rattle.classes.proofs.same.same_state.Reads as same-state-reads
+use Rattle.states.proofs.keeping.place_in.Reads as place-in-reads
 
 abbrev Inv-loop : tie.InvT-loop
-Inv-loop scratch m ws n i₀ i = (i ≤ m) × (placeFrom (goalsFrom ws 0 n) scratch m 0 ≡ placeFrom (goalsFrom ws 0 n) scratch m i)
+Inv-loop scratch m k class i₀ i = (i ≤ m)
+    × (placeFrom (goalsFrom scratch (placeIn m) k) scratch m 0 ≡ placeFrom (goalsFrom scratch (placeIn m) k) scratch m i)
 
 abbrev μ-loop : tie.MeasureT-loop
-μ-loop scratch m ws n i₀ i = m - i
+μ-loop scratch m k class i₀ i = m - i
+
+place-in-requires : tie.Need-place-in-requires Inv-loop μ-loop
+place-in-requires c κs = search needs
 
 loop-holds : tie.Need-loop-holds Inv-loop μ-loop
 loop-holds c = (omega arith, refl)
 
-mul-same-state : tie.Need-mul-same-state Inv-loop μ-loop
-mul-same-state c =
-    let entry = c .before .before .before .before in
-    omega (arith, entry .pre .0 .long, entry .pre .0 .few)
+mul-n : tie.Need-mul-n Inv-loop μ-loop
+mul-n c = search needs
 
-add-same-state : tie.Need-add-same-state Inv-loop μ-loop
-add-same-state c =
-    let entry = c .before .before .before .before in
-    omega (arith, entry .pre .0 .long, entry .pre .0 .few)
-
-mul-same-state-2 : tie.Need-mul-same-state-2 Inv-loop μ-loop
-mul-same-state-2 c =
-    let entry = c .before .before .before .before in
-    omega (arith, entry .pre .0 .long, entry .pre .0 .few)
-
-shared-slice-read-same-state : tie.Need-shared-slice-read-same-state Inv-loop μ-loop
-shared-slice-read-same-state c =
+shared-slice-read-n : tie.Need-shared-slice-read-n Inv-loop μ-loop
+shared-slice-read-n c =
     let entry = c .before .before .before .before .before in
     omega (arith, entry .pre .0 .long, entry .pre .0 .few)
 
-cast-same-state : tie.Need-cast-same-state Inv-loop μ-loop
-cast-same-state c =
-    omega (arith, c .before .before .before .before .before .pre .0 .counts (c .before .before .loop .i) (c .before .loop-test .taken))
+cast-n : tie.Need-cast-n Inv-loop μ-loop
+cast-n c = omega (arith, c .before .before .before .before .before .pre .0 .counts (c .before .before .loop .i) (c .before .loop-test .taken))
+
+place-in-requires-2 : tie.Need-place-in-requires-2 Inv-loop μ-loop
+place-in-requires-2 c κs = omega (arith, c .before .before .before .before .before .pre .0 .few, c .before .loop-test .taken)
 
 same-state-requires : tie.Need-same-state-requires Inv-loop μ-loop
 same-state-requires c κs =
-    let entry = c .before .before .before .before .before in
-    let k = entry .pre .0 .counts (c .before .before .loop .i) (c .before .loop-test .taken) in
-    let l = entry .pre .0 .long in let f = entry .pre .0 .few in (entry .pre .1, record { few = k; room = omega (arith, k, l, f) })
+    let entry = c .before .before .before .before .before .before in
+    let count = entry .pre .0 .counts (c .before .before .before .loop .i) (c .before .before .loop-test .taken) in
+    let l = entry .pre .0 .long in
+    let f = entry .pre .0 .few in (
+      record { few = entry .pre .1; room = omega (arith, entry .pre .1, l, f, c .before .before .before .before .place-in .ensures) },
+      record { few = count; room = omega (arith, count, l, f, c .place-in2 .ensures) },
+    )
 
 returns : tie.Need-returns Inv-loop μ-loop
 returns c =
-    let entry = c .before .before .before .before .before .before .before in
-    let at-loop = c .before .before .before .before .loop in
-    sym (place-all (goalsFrom (entry .args .ws .now) 0 (entry .args .n)) (entry .args .scratch .now) (entry .args .m) ∙ at-loop .inv .1
-    ∙ place-here (goalsFrom (entry .args .ws .now) 0 (entry .args .n)) (entry .args .scratch .now) (entry .args .m) (at-loop .i)
-    (c .before .before .before .loop-test .taken) (sym (c .before .same-state .ensures) ∙ c .if1 .taken))
+    let entry = c .before .before .before .before .before .before .before .before in
+    let at-place-in = c .before .before .before .before .before .before .place-in in
+    let at-loop = c .before .before .before .before .before .loop in
+    let sc = entry .args .scratch .now in
+    let m = entry .args .m in
+    let k = goalsFrom sc (placeIn m) (entry .args .k) in
+    let test =
+    same-there sc (placeIn m) (placeIn (at-loop .i)) _ _ (entry .args .k) _ (at-place-in .ensures) (c .before .before .place-in2 .ensures) _
+    (c .before .same-state .ensures) in
+    sym (place-all k sc m ∙ at-loop .inv .1 ∙ place-here k sc m (at-loop .i) (c .before .before .before .before .loop-test .taken)
+    (sym test ∙ c .if1 .taken))
 
 add-i : tie.Need-add-i Inv-loop μ-loop
 add-i c =
-    let entry = c .before .before .before .before .before .before .before in
+    let entry = c .before .before .before .before .before .before .before .before in
     omega (arith, entry .pre .0 .few)
 
 loop-less : tie.Need-loop-less Inv-loop μ-loop
@@ -67,20 +73,24 @@ loop-less c = search needs
 
 loop-again : tie.Need-loop-again Inv-loop μ-loop
 loop-again c =
-    let entry = c .before .before .before .before .before .before .before in
-    let at-loop = c .before .before .before .before .loop in (
-      omega arith,
-      at-loop .inv .1
-          ∙ place-next (goalsFrom (entry .args .ws .now) 0 (entry .args .n)) (entry .args .scratch .now) (entry .args .m) (at-loop .i)
-          (c .before .before .before .loop-test .taken) (sym (c .before .same-state .ensures) ∙ c .if1 .left),
-    )
+    let entry = c .before .before .before .before .before .before .before .before in
+    let at-place-in = c .before .before .before .before .before .before .place-in in
+    let at-loop = c .before .before .before .before .before .loop in
+    let sc = entry .args .scratch .now in
+    let m = entry .args .m in
+    let k = goalsFrom sc (placeIn m) (entry .args .k) in
+    let test =
+    same-there sc (placeIn m) (placeIn (at-loop .i)) _ _ (entry .args .k) _ (at-place-in .ensures) (c .before .before .place-in2 .ensures) _
+    (c .before .same-state .ensures) in
+    (omega arith, at-loop .inv .1 ∙ place-next k sc m (at-loop .i) (c .before .before .before .before .loop-test .taken) (sym test ∙ c .if1 .left))
 
 returns-2 : tie.Need-returns-2 Inv-loop μ-loop
 returns-2 c =
     let entry = c .before .before .before .before in
-    sym (place-all (goalsFrom (entry .args .ws .now) 0 (entry .args .n)) (entry .args .scratch .now) (entry .args .m) ∙ c .before .loop .inv .1
-    ∙ place-end (goalsFrom (entry .args .ws .now) 0 (entry .args .n)) (entry .args .scratch .now) (entry .args .m) (c .before .loop .i)
-    (c .loop-test .left))
+    let sc = entry .args .scratch .now in
+    let m = entry .args .m in
+    let k = goalsFrom sc (placeIn m) (entry .args .k) in
+    sym (place-all k sc m ∙ c .before .loop .inv .1 ∙ place-end k sc m (c .before .loop .i) (c .loop-test .left))
 
 pub find-state-spec : {M : Type 1} → statement M
 find-state-spec =
@@ -88,12 +98,12 @@ find-state-spec =
     (tie.spec
     Inv-loop
     μ-loop
+    place-in-requires
     loop-holds
-    mul-same-state
-    add-same-state
-    mul-same-state-2
-    shared-slice-read-same-state
-    cast-same-state
+    mul-n
+    shared-slice-read-n
+    cast-n
+    place-in-requires-2
     same-state-requires
     returns
     add-i

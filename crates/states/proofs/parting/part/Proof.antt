@@ -9,6 +9,7 @@ use Rattle.classes.proofs.order.class_order.Reads as class-order-reads
 use Rattle.classes.proofs.square.dependency.Reads as dependency-reads
 use Rattle.deriving.proofs.announce.outputs.Reads as outputs-reads
 use Rattle.deriving.proofs.derivative.derive.Reads as derive-reads
+use Rattle.states.proofs.keeping.place_in.Reads as place-in-reads
 
 cast-i : tie.Need-cast-i
 cast-i c = search needs
@@ -24,11 +25,8 @@ cast-k-2 c =
     let entry = c .before .before .before .before .before .before .before .before .before in
     omega (arith, c .shared-slice-known4 .given (entry .args .symbol .0))
 
-mul-at : tie.Need-mul-at
-mul-at c = search needs
-
-add-at : tie.Need-add-at
-add-at c = search needs
+place-in-requires : tie.Need-place-in-requires
+place-in-requires c κs = search needs
 
 mul-n : tie.Need-mul-n
 mul-n c = search needs
@@ -41,28 +39,35 @@ cast-n c = search needs
 
 outputs-requires : tie.Need-outputs-requires
 outputs-requires c κs =
-    let entry = c .before .before .before .before .before .before .before .before .before .before .before in
-    (state-stored (entry .pre .0), omega (arith, entry .pre .0 .count, entry .pre .1 .outs))
+    let entry = c .before .before .before .before .before .before .before .before .before .before .before .before in
+    (state-stored (entry .pre .0) (c .before .before .place-in .ensures), omega (arith, entry .pre .0 .count, entry .pre .1 .outs))
 
 derive-requires : tie.Need-derive-requires
 derive-requires c κs =
-    let entry = c .before .before .before .before .before .before .before .before .before .before .before .before .before .before .before in
-    (state-stored (entry .pre .0), derivable (entry .pre .0) (entry .args .goals .now) (entry .pre .1 .room))
+    let entry = c .before .before .before .before .before .before .before .before .before .before .before .before .before .before .before .before in
+    let at-place-in = c .before .before .before .before .before .before .place-in in (
+      state-stored (entry .pre .0) (at-place-in .ensures),
+      derivable (entry .pre .0) (at-place-in .ensures) (entry .args .goals .now)
+          (entry .pre .1 .room),
+    )
 
 dependency-requires : tie.Need-dependency-requires
 dependency-requires c κs =
     let entry =
-    c .before .before .before .before .before .before .before .before .before .before .before .before .before .before .before .before .before .before .before .before in (
-      derived (entry .pre .0) _ _ _ (c .before .before .before .before .derive .ensures) (entry .pre .1 .room) .stored,
+    c .before .before .before .before .before .before .before .before .before .before .before .before .before .before .before .before .before .before .before .before .before in
+    let at-place-in = c .before .before .before .before .before .before .before .before .before .before .before .place-in in (
+      derived (entry .pre .0) (at-place-in .ensures) _ _ _ (c .before .before .before .before .derive .ensures) (entry .pre .1 .room) .stored,
       entry .pre .1 .square,
     )
 
 class-order-requires : tie.Need-class-order-requires
 class-order-requires c κs =
     let entry =
-    c .before .before .before .before .before .before .before .before .before .before .before .before .before .before .before .before .before .before .before .before .before .before .before .before in
+    c .before .before .before .before .before .before .before .before .before .before .before .before .before .before .before .before .before .before .before .before .before .before .before .before .before in
+    let at-place-in =
+    c .before .before .before .before .before .before .before .before .before .before .before .before .before .before .before .place-in in
     let at-derive = c .before .before .before .before .before .before .before .before .derive in
-    let s = derived (entry .pre .0) _ _ _ (at-derive .ensures) (entry .pre .1 .room) .stored in
+    let s = derived (entry .pre .0) (at-place-in .ensures) _ _ _ (at-derive .ensures) (entry .pre .1 .room) .stored in
     record { stored = s; square = c .before .before .before .dependency .ensures .square; room = omega (arith, s .few, entry .pre .1 .rows) }
 
 same-length : tie.Need-same-length
@@ -77,12 +82,14 @@ same-length-3 c = search needs
 returns : tie.Need-returns
 returns c =
     let entry =
-    c .before .before .before .before .before .before .before .before .before .before .before .before .before .before .before .before .before .before .before .before .before .before .before .before .before .before .before in
+    c .before .before .before .before .before .before .before .before .before .before .before .before .before .before .before .before .before .before .before .before .before .before .before .before .before .before .before .before in
+    let at-place-in =
+    c .before .before .before .before .before .before .before .before .before .before .before .before .before .before .before .before .before .before .place-in in
     let at-outputs =
     c .before .before .before .before .before .before .before .before .before .before .before .before .before .before .before .outputs in
     let at-derive = c .before .before .before .before .before .before .before .before .before .before .before .derive in
     let at-dependency = c .before .before .before .before .before .before .dependency in
-    parted (entry .pre .0) (entry .pre .1) _ _ _ _ _ _ _ (at-outputs .ensures) (at-derive .ensures) (at-dependency .ensures)
+    parted (entry .pre .0) (at-place-in .ensures) (entry .pre .1) _ _ _ _ _ _ _ (at-outputs .ensures) (at-derive .ensures) (at-dependency .ensures)
     (c .before .before .class-order .ensures)
 
 pub part-spec : {M : Type 1} → statement M
@@ -93,8 +100,7 @@ part-spec =
     cast-k
     shared-slice-read-k
     cast-k-2
-    mul-at
-    add-at
+    place-in-requires
     mul-n
     shared-slice-read-n
     cast-n

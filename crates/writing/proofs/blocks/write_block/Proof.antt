@@ -7,6 +7,7 @@ use Rattle.writing.proofs.blocks.write_block.Statement.{statement}
 use Rattle.writing.proofs.blocks.write_block.Tie as tie
 use Rattle.writing.proofs.blocks.write_block.Reads as reads
 use Rattle.writing.proofs.blocks.write_block.Lts as lts
+use Rattle.states.proofs.keeping.place_in.Reads as place-in-reads
 use Rattle.states.proofs.parting.part.Reads as part-reads
 use Rattle.writing.proofs.blocks.write_outputs.Reads as write-outputs-reads
 use Rattle.writing.proofs.blocks.write_successors.Reads as write-successors-reads
@@ -22,17 +23,14 @@ slice-aggregate-part-3 c = search needs
 
 part-requires : tie.Need-part-requires
 part-requires c κs =
-    let entry = c .before .before .before .before .before .before .before .before in
+    let entry = c .before .before .before .before .before .before .before .before .before in
     (entry .pre .on, record { outs = omega arith; room = omega arith; square = empty-square; rows = omega arith })
 
-cast-from : tie.Need-cast-from
-cast-from c = search needs
+cast-place-in : tie.Need-cast-place-in
+cast-place-in c = search needs
 
-mul-from : tie.Need-mul-from
-mul-from c = search needs
-
-add-from : tie.Need-add-from
-add-from c = search needs
+place-in-requires : tie.Need-place-in-requires
+place-in-requires c κs = search needs
 
 sub-write-outputs : tie.Need-sub-write-outputs
 sub-write-outputs c = search needs
@@ -46,10 +44,11 @@ part-write-outputs-end c = search needs
 write-outputs-requires : tie.Need-write-outputs-requires
 write-outputs-requires c κs =
     let entry =
-    c .before .before .before .before .before .before .before .before .before .before .before .before .before .before .before .before in
-    let at-part = c .before .before .before .before .before .before .before .part in record {
+    c .before .before .before .before .before .before .before .before .before .before .before .before .before .before .before .before .before .before .before in
+    let at-part = c .before .before .before .before .before .before .before .before .before .part in
+    record {
       named = at-part .ensures .out-named;
-      state = state-room (entry .pre .on);
+      state = state-room (entry .pre .on) (c .before .before .before .before .place-in .ensures);
       room = out-room (entry .pre .on) (entry .args .m) (at-part .ensures) (entry .args .plan .now) (entry .args .at) (entry .pre .room);
     }
 
@@ -68,32 +67,42 @@ part-write-successors-end c = search needs
 write-successors-requires : tie.Need-write-successors-requires
 write-successors-requires c κs =
     let entry =
-    c .before .before .before .before .before .before .before .before .before .before .before .before .before .before .before .before .before .before .before .before .before .before .before .before in
+    c .before .before .before .before .before .before .before .before .before .before .before .before .before .before .before .before .before .before .before .before .before .before .before .before .before .before .before .before in
     let at-part =
-    c .before .before .before .before .before .before .before .before .before .before .before .before .before .before .before .part in
-    let at-write-outputs = c .before .before .before .before .before .before .before .write-outputs in
-    let room =
-    succ-room (entry .pre .on) (entry .args .m) (at-part .ensures) (entry .args .plan .now) (entry .args .at) (entry .pre .room) _ _
-    (at-write-outputs .ensures) in record {
+    c .before .before .before .before .before .before .before .before .before .before .before .before .before .before .before .before .before .before .part in
+    let at-place-in = c .before .before .before .before .before .before .before .before .before .before .before .before .before .place-in in
+    let at-write-outputs = c .before .before .before .before .before .before .before .before .write-outputs in
+    record {
       kept = entry .pre .kept;
       squared = at-part .ensures .squared;
       named = at-part .ensures .rows-named;
       small = class-small (entry .pre .on) (entry .args .m) (at-part .ensures) (entry .pre .small);
-      room = room;
+      room = succ-room (entry .pre .on) (entry .args .m) (at-part .ensures) (entry .args .plan .now) (entry .args .at) (entry .pre .room)
+          (at-place-in .ensures) _ _
+          (at-write-outputs .ensures);
     }
 
 same-length : tie.Need-same-length
 same-length c = search needs
 
+same-length-2 : tie.Need-same-length-2
+same-length-2 c = search needs
+
 returns : tie.Need-returns
 returns c =
     let entry =
-    c .before .before .before .before .before .before .before .before .before .before .before .before .before .before .before .before .before .before .before .before .before .before .before .before .before .before .before in
+    c .before .before .before .before .before .before .before .before .before .before .before .before .before .before .before .before .before .before .before .before .before .before .before .before .before .before .before .before .before .before .before .before .before in
     let at-part =
-    c .before .before .before .before .before .before .before .before .before .before .before .before .before .before .before .before .before .before .part in
-    let at-write-outputs = c .before .before .before .before .before .before .before .before .before .before .write-outputs in
-    block-put (entry .pre .on) (entry .args .m) (at-part .ensures) (entry .args .plan .now) (entry .args .at) (entry .pre .room) _ _
-    (at-write-outputs .ensures) _ _ (c .before .before .write-successors .ensures)
+    c .before .before .before .before .before .before .before .before .before .before .before .before .before .before .before .before .before .before .before .before .before .before .before .part in
+    let at-place-in =
+    c .before .before .before .before .before .before .before .before .before .before .before .before .before .before .before .before .before .before .place-in in
+    let at-write-outputs = c .before .before .before .before .before .before .before .before .before .before .before .before .before .write-outputs in
+    let at-write-successors = c .before .before .before .before .write-successors in (
+      block-put (entry .pre .on) (entry .args .m) (at-part .ensures) (entry .args .plan .now) (entry .args .at) (entry .pre .room)
+          (at-place-in .ensures) _ _ (at-write-outputs .ensures)
+          _ _ (at-write-successors .ensures .0),
+      at-write-successors .ensures .1,
+    )
 
 pub write-block-spec : {M : Type 1} → statement M
 write-block-spec =
@@ -103,9 +112,8 @@ write-block-spec =
     slice-aggregate-part-2
     slice-aggregate-part-3
     part-requires
-    cast-from
-    mul-from
-    add-from
+    cast-place-in
+    place-in-requires
     sub-write-outputs
     part-write-outputs-start
     part-write-outputs-end
@@ -116,4 +124,5 @@ write-block-spec =
     part-write-successors-end
     write-successors-requires
     same-length
+    same-length-2
     returns)

@@ -1,61 +1,35 @@
-use Rattle.states.proofs.ExploreLaws.{class-room, class-count}
-use Rattle.writing.proofs.WriteLaws.{two-stores, place-small, successor-is}
+use Rattle.states.proofs.ExploreLaws.{lifted-spared, lifted-kept, lifted-place}
+use Rattle.writing.proofs.WriteLaws.{two-stores, place-small}
 use lib.ListN.{length-set}
 use lib.Seq.{sets}
 use mathlib.Core.List.{[], _∷_}
-use mathlib.Core.Path.{refl, ap₂, _∙_}
+use mathlib.Core.Path.{ap₂, _∙_}
 use native.Mathlib.Omega.{arith}
 use borrow.Author.Needs.{needs}
 use Rattle.writing.proofs.blocks.write_successor.Statement.{statement}
 use Rattle.writing.proofs.blocks.write_successor.Tie as tie
 use Rattle.writing.proofs.blocks.write_successor.Reads as reads
 use Rattle.writing.proofs.blocks.write_successor.Lts as lts
-use Rattle.classes.proofs.members.put_class.Reads as put-class-reads
-use Rattle.deriving.proofs.lift.lift_class.Reads as lift-class-reads
 use Rattle.states.proofs.keeping.find_state.Reads as find-state-reads
+use Rattle.states.proofs.keeping.lift_behind.Reads as lift-behind-reads
 
-slice-aggregate-put-class : tie.Need-slice-aggregate-put-class
-slice-aggregate-put-class c = search needs
-
-put-class-requires : tie.Need-put-class-requires
-put-class-requires c κs =
-    let entry = c .before .before .before .before in
-    record { squared = entry .pre .squared; row = entry .pre .row; room = class-room (entry .pre .squared) (entry .args .r) }
-
-slice-aggregate-lift-class : tie.Need-slice-aggregate-lift-class
-slice-aggregate-lift-class c = search needs
-
-slice-aggregate-lift-class-2 : tie.Need-slice-aggregate-lift-class-2
-slice-aggregate-lift-class-2 c = search needs
-
-lift-class-requires : tie.Need-lift-class-requires
-lift-class-requires c κs =
-    let entry = c .before .before .before .before .before .before .before .before in
-    let at-put-class = c .before .before .before .put-class in
-    let count = class-count (entry .pre .squared) (entry .args .r) _ _ _ (at-put-class .ensures) in (
-      record { few = omega (arith, count, entry .pre .small); room = omega (arith, count, entry .pre .small, at-put-class .kept .1 .1 .1 .1 .0) },
-      omega (arith, count, entry .pre .small),
-    )
-
-slice-aggregate-find-state : tie.Need-slice-aggregate-find-state
-slice-aggregate-find-state c = search needs
+lift-behind-requires : tie.Need-lift-behind-requires
+lift-behind-requires c κs = c .before .before .before .before .pre .class
 
 find-state-requires : tie.Need-find-state-requires
 find-state-requires c κs =
-    let entry = c .before .before .before .before .before .before .before .before .before .before .before in
-    let at-put-class = c .before .before .before .before .before .before .put-class in
-    let count = class-count (entry .pre .squared) (entry .args .r) _ _ _ (at-put-class .ensures) in (
-      entry .pre .kept,
-      record {
-        few = omega (arith, count, entry .pre .small);
-        room = omega (arith, count, entry .pre .small, c .before .before .lift-class .kept .1 .1 .0);
-      },
-    )
+    let entry = c .before .before .before .before .before .before .before .before in
+    let at-lift-behind = c .before .before .before .lift-behind in
+    (lifted-kept (entry .pre .class) (at-lift-behind .ensures), omega (arith, at-lift-behind .ensures .0, entry .pre .small))
 
 cast-plan : tie.Need-cast-plan
 cast-plan c =
-    let entry = c .before .before .before .before .before .before .before .before .before .before .before .before in
-    omega (arith, place-small (entry .pre .kept) _ _ (c .find-state .ensures))
+    let entry = c .before .before .before .before .before .before .before .before .before in
+    omega (
+      arith,
+      place-small (lifted-kept (entry .pre .class) (c .before .before .before .before .lift-behind .ensures)) _ _
+          (c .find-state .ensures),
+    )
 
 mul-plan : tie.Need-mul-plan
 mul-plan c = search needs
@@ -71,32 +45,31 @@ mul-plan-2 c = search needs
 
 slice-write-plan-2 : tie.Need-slice-write-plan-2
 slice-write-plan-2 c =
-    let entry = c .before .before .before .before .before .before .before .before .before .before .before .before in
+    let entry = c .before .before .before .before .before .before .before .before .before in
     omega (arith, entry .pre .room, length-set (entry .args .plan .now) (entry .args .at) (c .find-state .result))
 
 same-length : tie.Need-same-length
 same-length c = search needs
 
+same-length-2 : tie.Need-same-length-2
+same-length-2 c = search needs
+
 returns : tie.Need-returns
 returns c =
-    let entry = c .before .before .before .before .before .before .before .before .before .before .before .before in
-    let at-put-class = c .before .before .before .before .before .before .before .put-class in
-    let w =
-    successor-is (entry .pre .squared) (entry .args .r) _ _ _ _ _ _ (at-put-class .ensures) refl (entry .pre .small)
-    (c .before .before .before .lift-class .ensures) refl (entry .args .scratch .now) (entry .args .m) _ (c .find-state .ensures) in
-    two-stores (entry .args .plan .now) (entry .args .at) _ _
-    ∙ ap₂ (λ x y. sets (entry .args .plan .now) (entry .args .at) (x ∷ y ∷ [])) (w .0) (w .1)
+    let entry = c .before .before .before .before .before .before .before .before .before in
+    let at-lift-behind = c .before .before .before .before .lift-behind in (
+      two-stores (entry .args .plan .now) (entry .args .at) _ _
+          ∙ ap₂ (λ x y. sets (entry .args .plan .now) (entry .args .at) (x ∷ y ∷ []))
+          (lifted-place (entry .pre .class) (at-lift-behind .ensures) (c .find-state .ensures))
+          (at-lift-behind .ensures .1 .0),
+      lifted-spared (entry .pre .class) (at-lift-behind .ensures),
+    )
 
 pub write-successor-spec : {M : Type 1} → statement M
 write-successor-spec =
     tie.close
     (tie.spec
-    slice-aggregate-put-class
-    put-class-requires
-    slice-aggregate-lift-class
-    slice-aggregate-lift-class-2
-    lift-class-requires
-    slice-aggregate-find-state
+    lift-behind-requires
     find-state-requires
     cast-plan
     mul-plan
@@ -105,4 +78,5 @@ write-successor-spec =
     mul-plan-2
     slice-write-plan-2
     same-length
+    same-length-2
     returns)
