@@ -104,7 +104,7 @@ fn explore_symbol(
     ensures is { λ r. ⌜ SymbolIs r (now (symbols .entry)) (now (tab .entry)) shapes (now (scratch .entry)) m (state .0) (symbol .0) (now (scratch .exit)) ⌝ }
     ensures behind { λ r. ⌜ Behind (now (scratch .entry)) (now (scratch .exit)) ⌝ }
 {
-    let mut out = [0u32; 96];
+    let mut out = [0u32; 32];
     let mut goals = [0u16; DERIVED_WORDS];
     let mut dep = [[false; 96]; 96];
     let mut order = [0u32; 96];

@@ -46,7 +46,7 @@ abbrev pub classesBy : Square → List ℕ → ℕ → List ℕ → List (List G
 classesBy d ws n xs = map (λ x. classAt d ws n (x % 128)) xs
 
 pub record Lent (out goals : List ℕ) (dep : Square) (order : List ℕ) : Type 0 where
-  pub outs : 96 ≤ length out
+  pub outs : 32 ≤ length out
   pub room : derivedWords ≤ length goals
   pub square : IsSquare 96 dep
   pub rows : 96 ≤ length order

@@ -1,5 +1,4 @@
 use crate::Class;
-use crate::STATE_WORDS;
 use crate::STATES;
 use classes::members::put_class;
 use classes::same::same_state;
@@ -10,6 +9,9 @@ ghost use Rattle.goals.specs.GoalWords.{goalsFrom};
 ghost use Rattle.deriving.specs.Orders.{classAt};
 ghost use Rattle.decoding.specs.WordMachine.{placeIn, statesIn, Kept};
 ghost use Rattle.states.specs.Meeting.{placeOf, ClassMeetable, LiftsBehind};
+
+// The words of a state of 32 goals.
+const STATE_WORDS: usize = 96;
 
 // Where state i begins in scratch, or what lies behind i states: the class that is looked up among them.
 pub fn place_in(i: usize) -> usize

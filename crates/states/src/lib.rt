@@ -8,9 +8,6 @@ pub mod parting; // a state on a symbol, parted into classes
 // As many states there are at most, and as many counts of goals stand first in scratch.
 pub const STATES: usize = 128;
 
-// The words of a state of 32 goals.
-pub const STATE_WORDS: usize = 96;
-
 // The words of a derivative of 96 goals.
 pub const DERIVED_WORDS: usize = 288;
 

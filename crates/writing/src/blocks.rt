@@ -111,7 +111,7 @@ fn write_block(
     ensures is { λ r. ⌜ Puts (blockIn (now (symbols .entry)) (now (tab .entry)) shapes (now (scratch .entry)) m (state .0) (symbol .0)) at r (now (plan .entry)) (now (plan .exit)) ⌝ }
     ensures spared { λ u. ⌜ Spared m (now (scratch .entry)) (now (scratch .exit)) ⌝ }
 {
-    let mut out = [0u32; 96];
+    let mut out = [0u32; 32];
     let mut goals = [0u16; DERIVED_WORDS];
     let mut dep = [[false; 96]; 96];
     let mut order = [0u32; 96];

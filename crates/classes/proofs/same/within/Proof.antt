@@ -1,11 +1,8 @@
-use Rattle.goals.specs.GoalKinds.{asWords}
-use Rattle.goals.specs.declared.Goal.{Goal}
-use Rattle.goals.specs.WordStages.{amongW}
-use Rattle.classes.proofs.SameLaws.{within-on, within-off, within-end}
-use Rattle.goals.specs.GoalWords.{goalsFrom}
+use Rattle.classes.proofs.SameLaws.{among-is, within-on, within-off, within-end}
+use Rattle.goals.specs.GoalWords.{goalAt, goalsFrom}
 use Rattle.goals.specs.WordStages.{withinW}
 use Prim.Native.Nat.{_+_, _*_}
-use mathlib.Core.Path.{_≡_, refl, ap, sym, _∙_}
+use mathlib.Core.Path.{_≡_, refl, sym, _∙_}
 use native.Mathlib.Omega.{arith}
 use borrow.Author.Needs.{needs}
 use Rattle.classes.proofs.same.within.Statement.{statement}
@@ -28,6 +25,24 @@ loop-holds c = (refl, refl)
 goal-at-requires : tie.Need-goal-at-requires Inv-loop μ-loop
 goal-at-requires c κs = search needs
 
+loop-again : tie.Need-loop-again Inv-loop μ-loop
+loop-again c =
+    let entry = c .before .before .before .before .before .before .before in
+    let l = c .before .before .before .before .loop in
+    let hs = goalsFrom (entry .args .vs .now) (entry .args .at) (entry .args .k) in (
+      l .inv .0 ∙ within-on hs (entry .args .ws .now) (l .here) (l .left) (c .before .before .before .loop-test .taken)
+          (among-is hs (goalAt (entry .args .ws .now) (l .here)) (c .before .among .ensures) (c .before .before .goal-at .ensures) (c .if1 .taken)),
+      omega arith,
+    )
+
+returns : tie.Need-returns Inv-loop μ-loop
+returns c =
+    let entry = c .before .before .before .before .before .before .before in
+    let l = c .before .before .before .before .loop in
+    let hs = goalsFrom (entry .args .vs .now) (entry .args .at) (entry .args .k) in
+    sym (l .inv .0 ∙ within-off hs (entry .args .ws .now) (l .here) (l .left) (c .before .before .before .loop-test .taken)
+    (among-is hs (goalAt (entry .args .ws .now) (l .here)) (c .before .among .ensures) (c .before .before .goal-at .ensures) (c .if1 .left)))
+
 among-requires : tie.Need-among-requires Inv-loop μ-loop
 among-requires c κs = search needs
 
@@ -39,27 +54,6 @@ sub-left c = search needs
 
 loop-less : tie.Need-loop-less Inv-loop μ-loop
 loop-less c = search needs
-
-loop-again : tie.Need-loop-again Inv-loop μ-loop
-loop-again c =
-    let entry = c .before .before .before .before .before .before .before in
-    let a = entry .args in
-    let l = c .before .before .before .before .loop in (
-      l .inv .0
-          ∙ within-on (goalsFrom (a .vs .now) (a .at) (a .k)) (a .ws .now) (l .here) (l .left) (c .before .before .before .loop-test .taken)
-          (sym (c .before .among .ensures
-          ∙ ap (λ (x : Goal). amongW (asWords x) (goalsFrom (a .vs .now) (a .at) (a .k))) (c .before .before .goal-at .ensures)) ∙ c .if1 .taken),
-      omega arith,
-    )
-
-returns : tie.Need-returns Inv-loop μ-loop
-returns c =
-    let entry = c .before .before .before .before .before .before .before in
-    let a = entry .args in
-    let l = c .before .before .before .before .loop in
-    sym (l .inv .0 ∙ within-off (goalsFrom (a .vs .now) (a .at) (a .k)) (a .ws .now) (l .here) (l .left) (c .before .before .before .loop-test .taken)
-    (sym (c .before .among .ensures ∙ ap (λ (x : Goal). amongW (asWords x) (goalsFrom (a .vs .now) (a .at) (a .k)))
-    (c .before .before .goal-at .ensures)) ∙ c .if1 .left))
 
 returns-2 : tie.Need-returns-2 Inv-loop μ-loop
 returns-2 c =

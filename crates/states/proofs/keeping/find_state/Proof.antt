@@ -13,8 +13,8 @@ use Rattle.classes.proofs.same.same_state.Reads as same-state-reads
 use Rattle.states.proofs.keeping.place_in.Reads as place-in-reads
 
 abbrev Inv-loop : tie.InvT-loop
-Inv-loop scratch m k class i₀ i = (i ≤ m)
-    × (placeFrom (goalsFrom scratch (placeIn m) k) scratch m 0 ≡ placeFrom (goalsFrom scratch (placeIn m) k) scratch m i)
+Inv-loop scratch m k class i₀ i =
+    (placeFrom (goalsFrom scratch (placeIn m) k) scratch m 0 ≡ placeFrom (goalsFrom scratch (placeIn m) k) scratch m i) × (i ≤ m)
 
 abbrev μ-loop : tie.MeasureT-loop
 μ-loop scratch m k class i₀ i = m - i
@@ -23,7 +23,7 @@ place-in-requires : tie.Need-place-in-requires Inv-loop μ-loop
 place-in-requires c κs = search needs
 
 loop-holds : tie.Need-loop-holds Inv-loop μ-loop
-loop-holds c = (omega arith, refl)
+loop-holds c = (refl, omega arith)
 
 mul-n : tie.Need-mul-n Inv-loop μ-loop
 mul-n c = search needs
@@ -60,7 +60,7 @@ returns c =
     let test =
     same-there sc (placeIn m) (placeIn (at-loop .i)) _ _ (entry .args .k) _ (at-place-in .ensures) (c .before .before .place-in2 .ensures) _
     (c .before .same-state .ensures) in
-    sym (place-all k sc m ∙ at-loop .inv .1 ∙ place-here k sc m (at-loop .i) (c .before .before .before .before .loop-test .taken)
+    sym (place-all k sc m ∙ at-loop .inv .0 ∙ place-here k sc m (at-loop .i) (c .before .before .before .before .loop-test .taken)
     (sym test ∙ c .if1 .taken))
 
 add-i : tie.Need-add-i Inv-loop μ-loop
@@ -82,7 +82,7 @@ loop-again c =
     let test =
     same-there sc (placeIn m) (placeIn (at-loop .i)) _ _ (entry .args .k) _ (at-place-in .ensures) (c .before .before .place-in2 .ensures) _
     (c .before .same-state .ensures) in
-    (omega arith, at-loop .inv .1 ∙ place-next k sc m (at-loop .i) (c .before .before .before .before .loop-test .taken) (sym test ∙ c .if1 .left))
+    (at-loop .inv .0 ∙ place-next k sc m (at-loop .i) (c .before .before .before .before .loop-test .taken) (sym test ∙ c .if1 .left), omega arith)
 
 returns-2 : tie.Need-returns-2 Inv-loop μ-loop
 returns-2 c =
@@ -90,7 +90,7 @@ returns-2 c =
     let sc = entry .args .scratch .now in
     let m = entry .args .m in
     let k = goalsFrom sc (placeIn m) (entry .args .k) in
-    sym (place-all k sc m ∙ c .before .loop .inv .1 ∙ place-end k sc m (c .before .loop .i) (c .loop-test .left))
+    sym (place-all k sc m ∙ c .before .loop .inv .0 ∙ place-end k sc m (c .before .loop .i) (c .loop-test .left))
 
 pub find-state-spec : {M : Type 1} → statement M
 find-state-spec =
