@@ -3,4 +3,5 @@ pub mod InOrder
 pub mod MeetLaws
 pub mod WordArrays
 pub mod PartLaws
+pub mod BehindLaws
 pub mod ExploreLaws

@@ -1,1 +1,2 @@
+pub mod SparedLaws
 pub mod WriteLaws

@@ -1,4 +1,4 @@
-use Rattle.states.proofs.ExploreLaws.{lifted-spared, lifted-kept, met-big, met-known, met-full, met-new}
+use Rattle.states.proofs.BehindLaws.{lifted-spared, lifted-kept, met-big, met-known, met-full, met-new}
 use native.Mathlib.Omega.{arith}
 use borrow.Author.Needs.{needs}
 use Rattle.exploring.proofs.meeting.meet.Statement.{statement}

@@ -1,4 +1,4 @@
-use Rattle.states.proofs.ExploreLaws.{class-room, class-goals, class-lifted}
+use Rattle.states.proofs.BehindLaws.{class-room, class-goals, class-lifted}
 use native.Mathlib.Omega.{arith}
 use borrow.Author.Needs.{needs}
 use Rattle.states.proofs.keeping.lift_behind.Statement.{statement}

@@ -1,4 +1,5 @@
-use Rattle.writing.proofs.WriteLaws.{head-length, Planned, planned-begin, planned-on, planned-end, plan-room, plan-word, row-writable, spared-label, spared-writable, spared-written}
+use Rattle.writing.proofs.WriteLaws.{head-length, Planned, planned-begin, planned-on, planned-end, plan-room, plan-word, row-writable}
+use Rattle.writing.proofs.SparedLaws.{spared-label, spared-writable, spared-written}
 use Rattle.states.proofs.StateLaws.{spared-self, spared-on}
 use Rattle.states.specs.Meeting.{Spared}
 use Rattle.states.proofs.PartLaws.{held-good, held-count, held-stored, spared-held}

@@ -1,4 +1,5 @@
-use Rattle.writing.proofs.WriteLaws.{Rowed, rowed-begin, rowed-room, rowed-fits, rowed-on, rowed-end, block-writable, spared-put}
+use Rattle.writing.proofs.WriteLaws.{Rowed, rowed-begin, rowed-room, rowed-fits, rowed-on, rowed-end}
+use Rattle.writing.proofs.SparedLaws.{block-writable, spared-put}
 use Rattle.states.proofs.StateLaws.{spared-self, spared-on}
 use Rattle.writing.specs.RowWords.{startsAt}
 use Rattle.states.specs.Meeting.{Spared}

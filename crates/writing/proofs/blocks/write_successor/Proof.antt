@@ -1,4 +1,4 @@
-use Rattle.states.proofs.ExploreLaws.{lifted-spared, lifted-kept, lifted-place}
+use Rattle.states.proofs.BehindLaws.{lifted-spared, lifted-kept, lifted-place}
 use Rattle.writing.proofs.WriteLaws.{two-stores, place-small}
 use lib.ListN.{length-set}
 use lib.Seq.{sets}

@@ -1,5 +1,6 @@
 use Rattle.states.proofs.StateLaws.{spared-self, spared-on, spared-kept}
-use Rattle.writing.proofs.WriteLaws.{Paired, paired-begin, paired-room, paired-on, paired-end, spared-successor}
+use Rattle.writing.proofs.WriteLaws.{Paired, paired-begin, paired-room, paired-on, paired-end}
+use Rattle.writing.proofs.SparedLaws.{spared-successor}
 use Rattle.states.specs.Meeting.{placeOf, Spared}
 use Rattle.goals.specs.WordStages.{displacementW, liftedW}
 use Rattle.decoding.specs.WordMachine.{statesIn}
