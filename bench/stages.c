@@ -1,8 +1,10 @@
-// Times the finder's calls on one folio: each stage 200 times over.
+// Times the finder's calls on one folio, each stage 200 times over, and measures the stack that building takes.
 #include <stdint.h>
 #include <stdio.h>
 #include <stdlib.h>
+#include <string.h>
 #include <time.h>
+#include <ucontext.h>
 
 #define BYTES(a, n) (const uint8_t *)(a), (size_t)(n)
 #define WORDS(a, n) (uint16_t *)(a), (size_t)(n)
@@ -16,16 +18,23 @@ size_t stage_step(const uint16_t *, size_t, const uint16_t *, size_t, const uint
 size_t stage_count(const uint8_t *, size_t, const uint16_t *, size_t, const uint16_t *, size_t, const uint16_t *, size_t, const uint16_t *, size_t,
                    const uint16_t *, size_t);
 
-enum { ROUNDS = 200 };
+enum { ROUNDS = 200, UNTOUCHED = 0xA5 };
 
 static uint8_t file[8745];
 static uint16_t words[256], starts[16], score[4096], spans[4096], plan[32768], scratch[32768], waiting[8192], logged[4096], marks[4096];
-static size_t length, symbols, shape_words, nodes, plan_words;
+static size_t length, symbols, shape_words, shapes, nodes, plan_words;
 
 static size_t open_file(void) { return stage_open(BYTES(file, length), WORDS(words, 256), WORDS(starts, 16), WORDS(score, 4096), WORDS(spans, 4096)); }
 
+// As many as starts ascend: opening writes no others.
+static size_t count_shapes(void) {
+    size_t n = 1;
+    while (n < 16 && starts[n] > starts[n - 1]) n++;
+    return n;
+}
+
 static size_t build_plan(void) {
-    return stage_build(BYTES(file, symbols), WORDS(words, shape_words), WORDS(starts, 16), WORDS(plan, 32768), WORDS(scratch, 32768));
+    return stage_build(BYTES(file, symbols), WORDS(words, shape_words), WORDS(starts, shapes), WORDS(plan, 32768), WORDS(scratch, 32768));
 }
 
 // The last item is taken each time, as in find.
@@ -41,7 +50,7 @@ static size_t walk_score(void) {
 }
 
 static size_t count_marks(void) {
-    return stage_count(BYTES(file, symbols), WORDS(words, shape_words), WORDS(starts, 16), WORDS(score, nodes), WORDS(spans, nodes), WORDS(marks, 4096));
+    return stage_count(BYTES(file, symbols), WORDS(words, shape_words), WORDS(starts, shapes), WORDS(score, nodes), WORDS(spans, nodes), WORDS(marks, 4096));
 }
 
 static double now(void) {
@@ -70,6 +79,26 @@ static size_t row(const char *name, size_t (*stage)(void), const char *what) {
     return answer;
 }
 
+// How many bytes of a stack of its own a call touches.
+static size_t touched(void (*call)(void)) {
+    static unsigned char stack[1 << 17];
+    static ucontext_t back, aside;
+    memset(stack, UNTOUCHED, sizeof stack);
+    getcontext(&aside);
+    aside.uc_stack.ss_sp = stack;
+    aside.uc_stack.ss_size = sizeof stack;
+    aside.uc_link = &back;
+    makecontext(&aside, call, 0);
+    swapcontext(&back, &aside);
+    size_t low = 0;
+    while (low < sizeof stack && stack[low] == UNTOUCHED) low++;
+    return sizeof stack - low;
+}
+
+static void nothing(void) {}
+
+static void build_alone(void) { build_plan(); }
+
 int main(void) {
     length = fread(file, 1, sizeof file, stdin);
     if (length < 8) return 1;
@@ -79,8 +108,10 @@ int main(void) {
     shape_words = (b - c) / 2;
     printf("%-6s %12s %12s   answer\n", "stage", "least us", "median us");
     nodes = row("open", open_file, "nodes");
+    shapes = count_shapes();
     plan_words = row("build", build_plan, "plan words");
     row("walk", walk_score, "steps");
     row("count", count_marks, "matches");
+    printf("build's stack: %zu bytes\n", touched(build_alone) - touched(nothing));
     return 0;
 }
