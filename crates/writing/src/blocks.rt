@@ -17,7 +17,7 @@ ghost use Rattle.decoding.specs.WordMachine.{statesIn};
 ghost use Rattle.states.specs.Meeting.{placeOf, Spared};
 ghost use Rattle.writing.specs.RowWords.{blockIn, planIn, outWords, succWords, SuccessorWritable, SuccessorsWritable, OutputsWritable, BlockWritable, RowWritable, RowWritten, Writable};
 
-// The plan of the m states in scratch, of `total` words.
+// The plan of the m states in scratch, of `total` words. Classes are looked up behind the states.
 pub fn write_plan(
     tab: &[u16],
     symbols: &[u8],
