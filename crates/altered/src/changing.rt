@@ -1,11 +1,11 @@
 // The changes of a table, each with a space behind it: TABLE@I=V, TABLE+V, TABLE-K. The marks are changed as a table with no name: I:V.
-use crate::texts::before;
-use crate::texts::begins;
-use crate::texts::behind;
-use crate::texts::ended;
-use crate::texts::has;
-use crate::texts::next_from;
-use crate::texts::value_of;
+use running::texts::before;
+use running::texts::begins;
+use running::texts::behind;
+use running::texts::ended;
+use running::texts::has;
+use running::texts::next_from;
+use running::texts::value_of;
 
 // A value at an index, a value behind the last, or so many of the last left out.
 enum Change {

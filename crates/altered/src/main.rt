@@ -14,17 +14,17 @@ use changing::change_symbols;
 use changing::change_words;
 use libc::STDIN_FILENO;
 use libc::STDOUT_FILENO;
-use texts::before;
-use texts::behind;
-use texts::ended;
-use texts::first;
-use texts::first_words;
-use texts::next_from;
-use texts::put_text;
-use texts::value_of;
+use running::files::read_folio;
+use running::showing::show;
+use running::texts::before;
+use running::texts::behind;
+use running::texts::ended;
+use running::texts::first;
+use running::texts::first_words;
+use running::texts::next_from;
+use running::texts::value_of;
 
 mod changing; // the changes of a table
-mod texts; // parts of a text, and its numbers
 
 // The words of room that a table has for changes, behind the longest that opens.
 const ROOM: usize = 4;
@@ -89,16 +89,6 @@ fn run_case(name: &[u8], fields: &[u8]) {
     }
 }
 
-fn read_folio(name: &[u8], file: &mut [u8]) -> usize {
-    let mut path = io::buffer();
-    let named = put_text(name, &mut path, 0);
-    let whole = put_text(b".folio", &mut path, named);
-    let fd = os::open_read(first(&path, whole));
-    let n = io::read_full(fd, file);
-    libc::close(fd);
-    n
-}
-
 fn count_marked(
     fields: &[u8],
     symbols: &[u8],
@@ -118,9 +108,4 @@ fn show_answer(answer: Counted) {
         Counted::Number(n) => show(b"", n),
         Counted::Refused(reason) => show(b"refused ", number(reason) as usize),
     }
-}
-
-fn show(text: &[u8], n: usize) {
-    io::write_all(STDOUT_FILENO, text);
-    io::print_decimal(STDOUT_FILENO, n as u64);
 }

@@ -53,7 +53,9 @@ pub use views::viewing::successor_at;
 pub use views::viewing::successor_in;
 pub use views::viewing::view;
 
-// A walk over the score, one step after the other.
+// A walk over the score, one step after the other, or by a list of choices.
+pub use listing::Listed;
+pub use listing::taking::steps;
 pub use walk::Record;
 pub use walk::Walked;
 pub use walk::starting::start;

@@ -1,6 +1,7 @@
 -- The refusal numbers of document 01's table and of document 02, and what an answer says in its numbers.
 --   numberOf   the number of each reason
---   Says       number 0 and the values answered (gives), or a refusal's number and its place (refusal; refuses: by its reason)
+--   Says       number 0 and the values answered (gives), or a refusal's number and its place (refusal; refuses: by its reason), and the values
+--              that a call answers with a refusal too (refusalWith)
 use Prim.Native.Nat.{ℕ}
 use mathlib.Core.List.{List, [], _∷_}
 use Rattle.kinds.specs.declared.Reason.{Reason}
@@ -46,6 +47,9 @@ gives vs = record { number = 0; values = vs }
 -- a refusal by its number in the table, and its place
 abbrev pub refusal : ℕ → ℕ → Says
 refusal n p = record { number = n; values = p ∷ [] }
+
+abbrev pub refusalWith : ℕ → ℕ → List ℕ → Says
+refusalWith n p vs = record { number = n; values = p ∷ vs }
 
 abbrev pub refuses : Reason → ℕ → Says
 refuses r p = refusal (numberOf r) p

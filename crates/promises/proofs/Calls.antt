@@ -19,6 +19,7 @@ use Rattle.kinds.specs.Members.{Below}
 use Rattle.kinds.specs.Kinds.{childSays}
 use Rattle.folio.specs.Opening.{lent, openedSays}
 use Rattle.walk.specs.Starting.{walkOf, counting, recordAfter, walkedSays}
+use Rattle.listing.specs.Listing.{recordIn, listedSays}
 use Rattle.counting.specs.Counting.{countedSays}
 use Rattle.readers.specs.BlockWords.{middle}
 use Rattle.readers.specs.PlanParts.{labelOf, labelSays, lengthsOf, blockSays, announcementOf, announcementSays, successorOf, successorSays}
@@ -36,6 +37,7 @@ use Rattle.plan.specs.Building.{builtSays}
 use Rattle.plan.proofs.building.build.Reads as build
 use Rattle.walk.proofs.starting.start.Reads as start
 use Rattle.walk.proofs.stepping.step.Reads as step
+use Rattle.listing.proofs.taking.steps.Reads as steps
 use Rattle.clashing.proofs.marks.clashes.Reads as clashes
 use Rattle.counting.proofs.marks.matches.Reads as matches
 use Rattle.checks.proofs.showing.subtree.Reads as subtree
@@ -58,7 +60,7 @@ use Rattle.kinds.proofs.Position.child.Reads as child
 use Rattle.following.proofs.positions.follow.Reads as follow
 use Rattle.promises.specs.Told.{told}
 use Rattle.promises.specs.Found.{FoundRow, partSays, pairValues, Standing, LabelFound, BlockFound, AnnouncementFound, SuccessorFound, ChildFound, Reaches}
-use Rattle.promises.specs.Demand1.{OpenRow, openTold, BuildRow, buildTold, StartRow, CountRow, ClashRow, StepRow, walkTold, LineRow, MatchRow, lineTold}
+use Rattle.promises.specs.Demand1.{OpenRow, openTold, BuildRow, buildTold, StartRow, CountRow, ClashRow, StepRow, walkTold, ListRow, listTold, LineRow, MatchRow, lineTold}
 use Rattle.promises.proofs.Demand1.{demand-1}
 
 pub open-call : (κs : _) (a : _) (r : _) (e : _) → open-folio.Learnt κs a r e → Below 256 (now (a .0))
@@ -88,6 +90,14 @@ pub step-call : (κs : _) (a : _) (r : _) (e : _) → step.Learnt κs a r e
 step-call κs a r e h = subst (StepRow (now (a .0)) (now (a .1 .0)) (now (a .1 .1 .0)) (a .1 .1 .1 .1 .1 .1 .1 .0)
     (walkOf (now (a .1 .1 .1 .0)) (now (a .1 .1 .1 .1 .0)) (now (a .1 .1 .1 .1 .1 .0)) (a .1 .1 .1 .1 .1 .1 .0))) (ap walkTold (sym h))
     (demand-1 .stepping _ _ _ _ _ .0)
+
+pub steps-call : (κs : _) (a : _) (r : _) (e : _) → steps.Learnt κs a r e
+    → ListRow (now (a .0)) (now (a .1 .0)) (now (a .1 .1 .0)) (now (a .1 .1 .1 .1 .1 .1 .1 .0))
+    (walkOf (now (a .1 .1 .1 .0)) (now (a .1 .1 .1 .1 .0)) (now (a .1 .1 .1 .1 .1 .0)) (a .1 .1 .1 .1 .1 .1 .0))
+    (told (listedSays r) (walkOf (now (e .1 .1 .1 .0)) (now (e .1 .1 .1 .1 .0)) (now (e .1 .1 .1 .1 .1 .0)) (recordIn r)))
+steps-call κs a r e h = subst (ListRow (now (a .0)) (now (a .1 .0)) (now (a .1 .1 .0)) (now (a .1 .1 .1 .1 .1 .1 .1 .0))
+    (walkOf (now (a .1 .1 .1 .0)) (now (a .1 .1 .1 .1 .0)) (now (a .1 .1 .1 .1 .1 .0)) (a .1 .1 .1 .1 .1 .1 .0))) (ap listTold (sym h))
+    (demand-1 .listing _ _ _ _ _ .0)
 
 pub matches-call : (κs : _) (a : _) (r : _) (e : _) → matches.Learnt κs a r e → Below 65536 (now (a .1 .0))
     → CountRow (now (a .0)) (now (a .1 .0)) (now (a .1 .1 .0)) (now (a .1 .1 .1 .0)) (countedSays r)

@@ -23,6 +23,7 @@ use Rattle.promises.proofs.BuildRows.{by-build}
 use Rattle.promises.proofs.WalkRows.{by-start, by-count}
 use Rattle.promises.proofs.ClashRows.{by-clash}
 use Rattle.promises.proofs.StepRows.{by-step}
+use Rattle.promises.proofs.ListRows.{by-list}
 
 -- ---- opening
 module _ (file : List ℕ) (l : Lent) (small : Below 256 file) where
@@ -57,6 +58,7 @@ demand-1 = record {
   building = by-build;
   starting = λ ar score spans w small. by-start ar score spans small w;
   stepping = by-step;
+  listing = by-list;
   matches = λ ar score spans marks small. by-count ar score spans small marks;
   clashes = by-clash;
   subtree = λ w ar shapes score small. by-subtree ar shapes score small w;

@@ -22,7 +22,7 @@ use Rattle.report.specs.Text.{firstLine, lines, report}
 use Rattle.walk.specs.Starting.{Walk, WalkOutcome, refuseWalk, walkedSays}
 use Rattle.kinds.specs.Reasons.{Says, gives, refusal}
 use Rattle.promises.specs.Told.{Told, told as telling}
-use Rattle.promises.specs.Demand1.{walkTold}
+use Rattle.promises.specs.Demand1.{walkTold, recorded}
 use Rattle.walk.specs.declared.Walked.the-variants.{On}
 use Rattle.walking.specs.OneFolio.{walkIn}
 use Rattle.walking.proofs.AnyWalk as any-walk
@@ -31,6 +31,7 @@ use Rattle.promises.specs.Reported.{totalsOf}
 use Rattle.promises.specs.Demand3.{Demand3}
 use Rattle.promises.proofs.Setting.{score-spans, told, same-shapes, same-score, same-words, same-starts, same-spans, same-depth, same-states}
 use Rattle.promises.proofs.Demand2.{demand-2, marks-long}
+use Rattle.promises.proofs.AnyLists as any-lists
 
 -- the first n entries, as a list and by place
 module _ (n : ℕ) (xs : List ℕ) (long : n ≤ length xs) where
@@ -75,8 +76,7 @@ module _ {file : List ℕ} (S : OneFile file) (choices : List ℕ) where
       ∙ ap (refuseWalk NoSuchItem) (sym is))
 
   taken : (i : ℕ) → i < after S choices .count .waiting
-      → (walkedSays (stepAfter S choices i .answer) ≡ gives
-      (stepAfter S choices i .walk .count .waiting ∷ stepAfter S choices i .walk .count .logged ∷ []))
+      → (walkedSays (stepAfter S choices i .answer) ≡ gives (recorded (stepAfter S choices i .walk)))
       × (stepAfter S choices i .walk .count .logged ≡ suc (after S choices .count .logged))
   taken i h =
       let d = told S .step-is choices i in
@@ -172,4 +172,9 @@ demand-3 S = record {
       (any-walk.waits-unread (told S .folio) (S .walk) (told S .lent) choices);
   same-marks = λ T c d. same-marks S T c d;
   same-text = λ T c d. same-text S T c d;
+  lists = any-lists.lists S;
+  lists-accepted = any-lists.lists-accepted S;
+  list-taken = any-lists.list-taken S;
+  list-refused = any-lists.list-refused S;
+  list-never-34 = λ ls. any-lists.list-never-34 S ls (never-34 S);
 }

@@ -6,6 +6,7 @@ use mathlib.Core.Path.{_≡_, ap, sym, _∙_}
 use denote.Ref.{now}
 use Rattle.folio.specs.Opening.{OpenOutcome}
 use Rattle.walk.specs.Starting.{WalkOutcome}
+use Rattle.listing.specs.Listing.{ListOutcome}
 use Rattle.report.specs.Lines.{LineOutcome}
 use Rattle.folio.proofs.opening.open.Reads as open-folio
 use Rattle.checks.proofs.showing.subtree.Reads as subtree
@@ -30,6 +31,7 @@ use Rattle.readers.proofs.reading.lengths_of.Reads as lengths-of
 use Rattle.readers.proofs.reading.successor_of.Reads as successor-of
 use Rattle.walk.proofs.starting.start.Reads as start
 use Rattle.walk.proofs.stepping.step.Reads as step
+use Rattle.listing.proofs.taking.steps.Reads as steps
 use Rattle.views.proofs.viewing.announcement_at.Reads as announcement-at
 use Rattle.views.proofs.viewing.label_at.Reads as label-at
 use Rattle.views.proofs.viewing.lengths_at.Reads as lengths-at
@@ -153,6 +155,16 @@ pub step-determined : (κs : _) (a : _) (r r′ : _) (e e′ : _) → step.Learn
     × (now (e .1 .1 .1 .0) ≡ now (e′ .1 .1 .1 .0)) × (now (e .1 .1 .1 .1 .0) ≡ now (e′ .1 .1 .1 .1 .0))
     × (now (e .1 .1 .1 .1 .1 .0) ≡ now (e′ .1 .1 .1 .1 .1 .0))
 step-determined κs a r r′ e e′ h h′ = same-walk _ _ (h ∙ sym h′)
+
+pub steps-determined : (κs : _) (a : _) (r r′ : _) (e e′ : _) → steps.Learnt κs a r e → steps.Learnt κs a r′ e′ → (r ≡ r′)
+    × (now (e .1 .1 .1 .0) ≡ now (e′ .1 .1 .1 .0)) × (now (e .1 .1 .1 .1 .0) ≡ now (e′ .1 .1 .1 .1 .0))
+    × (now (e .1 .1 .1 .1 .1 .0) ≡ now (e′ .1 .1 .1 .1 .1 .0))
+steps-determined κs a r r′ e e′ h h′ = let x = h ∙ sym h′ in (
+  ap (λ (o : ListOutcome). o .answer) x,
+  ap (λ (o : ListOutcome). o .walk .items) x,
+  ap (λ (o : ListOutcome). o .walk .log) x,
+  ap (λ (o : ListOutcome). o .walk .marks) x,
+)
 
 pub put-line-determined : (κs : _) (a : _) (r r′ : _) (e e′ : _) → put-line.Learnt κs a r e → put-line.Learnt κs a r′ e′ → (r ≡ r′)
     × (now (e .1 .1 .1 .0) ≡ now (e′ .1 .1 .1 .0))

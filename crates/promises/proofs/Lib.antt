@@ -12,6 +12,7 @@ pub mod FoundRows
 pub mod ReaderRows
 pub mod LeadRows
 pub mod StepRows
+pub mod ListRows
 pub mod LineRows
 pub mod ScorePaths
 pub mod Reported
@@ -19,6 +20,7 @@ pub mod SubtreeRows
 pub mod Setting
 pub mod Demand1
 pub mod Demand2
+pub mod AnyLists
 pub mod Demand3
 pub mod SampleFile
 pub mod Calls

@@ -1,11 +1,13 @@
--- Demands 2 and 3 of the calls themselves: for any results and buffers that the contracts of `open`, `build`, `start` and `step` allow, one after the other, each
--- call lent what the one before it left. `Learnt` is what the checker reads off a contract; κs, a, r and e as in `Calls`.
---   Stepped Walked     a step that the contract allows; any number of them, by a list of choices
+-- Demands 2 and 3 of the calls themselves: for any results and buffers that the contracts of `open`, `build`, `start`, `step` and `steps` allow, one after the other,
+-- each call lent what the one before it left. `Learnt` is what the checker reads off a contract; κs, a, r and e as in `Calls`.
+--   Stepped Listed     a step that the contract allows; a list of choices, and how many of them were accepted
+--   Walked             any number of both, in any order, by the choices that they took
 --   steps-run          what they leave is what the definition runs
+--   list-singly        a list leaves what its accepted choices leave, taken singly
 --   one-file           three calls that the contracts allow, each accepted, are the setting of demands 2 and 3
 --   demands            so both demands hold of them, and of every walk that the contracts allow behind them
-use mathlib.Core.Path.{_≡_, refl, ap, ap₂, sym, _∙_}
-use mathlib.Core.List.{List, [], _∷_}
+use mathlib.Core.Path.{_≡_, refl, ap, ap₂, sym, _∙_, subst}
+use mathlib.Core.List.{List, [], _∷_, _++_}
 use Prim.Native.Nat.{ℕ}
 use denote.Ref.{now}
 use lib.ListN.{take}
@@ -20,10 +22,13 @@ use Rattle.walk.specs.Starting.{Walk, WalkOutcome, walkOf, counting, recordAfte
 use Rattle.walk.specs.Stepping.{stepped, run}
 use Rattle.walk.specs.declared.Record.{Record}
 use Rattle.walk.specs.declared.Walked.the-variants as walking
+use Rattle.listing.specs.Listing.{ListOutcome, acceptedIn, recordIn, listed}
+use Rattle.listing.proofs.Singly.{Singly, one-list, run-append}
 use Rattle.folio.proofs.opening.open.Reads as open-folio
 use Rattle.plan.proofs.building.build.Reads as build
 use Rattle.walk.proofs.starting.start.Reads as start
 use Rattle.walk.proofs.stepping.step.Reads as step
+use Rattle.listing.proofs.taking.steps.Reads as steps
 use Rattle.promises.specs.OneFile.{OneFile, nodesIn, spansIn, lentIn, after}
 use Rattle.promises.specs.Demand2.{Demand2}
 use Rattle.promises.specs.Demand3.{Demand3}
@@ -38,22 +43,40 @@ module _ (plan score spans : List ℕ) where
         → a .1 .1 .1 .1 .1 .1 .1 .0 ≡ i
         → Stepped i w (walkOf (now (e .1 .1 .1 .0)) (now (e .1 .1 .1 .1 .0)) (now (e .1 .1 .1 .1 .1 .0)) (recordAfter r (a .1 .1 .1 .1 .1 .1 .0)))
 
+  pub data Listed (choices : List ℕ) (w : Walk) : ℕ → Walk → Type 0 where
+    by-steps : (κs : _) (a : _) (r : _) (e : _) → steps.Learnt κs a r e → now (a .0) ≡ plan → now (a .1 .0) ≡ score → now (a .1 .1 .0) ≡ spans
+        → walkOf (now (a .1 .1 .1 .0)) (now (a .1 .1 .1 .1 .0)) (now (a .1 .1 .1 .1 .1 .0)) (a .1 .1 .1 .1 .1 .1 .0) ≡ w
+        → now (a .1 .1 .1 .1 .1 .1 .1 .0) ≡ choices
+        → Listed choices w (acceptedIn r) (walkOf (now (e .1 .1 .1 .0)) (now (e .1 .1 .1 .1 .0)) (now (e .1 .1 .1 .1 .1 .0)) (recordIn r))
+
   pub data Walked : Walk → List ℕ → Walk → Type 0 where
     none : {w : Walk} → Walked w [] w
     then : {w v u : Walk} (i : ℕ) (is : List ℕ) → Stepped i w v → Walked v is u → Walked w (i ∷ is) u
+    list : {w v u : Walk} (choices : List ℕ) (k : ℕ) (is : List ℕ) → Listed choices w k v → Walked v is u → Walked w (take k choices ++ is) u
 
-  same-step : {p s t : List ℕ} {i j : ℕ} {w v : Walk} → p ≡ plan → s ≡ score → t ≡ spans → w ≡ v → j ≡ i
-      → stepped p s t j w ≡ stepped plan score spans i v
-  same-step {p} {s} {t} {i} {j} {w} {v} ep es et ew ei =
-      ap₂ (λ x y. stepped x y t j w) ep es ∙ ap₂ (λ x y. stepped plan score x j y) et ew ∙ ap (λ x. stepped plan score spans x v) ei
+  -- a definition over plan, score, spans, what is chosen and a walk, where all five are equal
+  same-over : {A B : Type 0} (f : List ℕ → List ℕ → List ℕ → A → Walk → B) {p s t : List ℕ} {i j : A} {w v : Walk} → p ≡ plan → s ≡ score → t ≡ spans
+      → w ≡ v → j ≡ i → f p s t j w ≡ f plan score spans i v
+  same-over f {p} {s} {t} {i} {j} {w} {v} ep es et ew ei =
+      ap₂ (λ x y. f x y t j w) ep es ∙ ap₂ (λ x y. f plan score x j y) et ew ∙ ap (λ x. f plan score spans x v) ei
 
   one-step : {i : ℕ} {w v : Walk} → Stepped i w v → v ≡ stepped plan score spans i w .walk
-  one-step (by-step κs a r e h ep es et ew ei) = ap (λ (o : WalkOutcome). o .walk) (h ∙ same-step ep es et ew ei)
+  one-step (by-step κs a r e h ep es et ew ei) = ap (λ (o : WalkOutcome). o .walk) (h ∙ same-over stepped ep es et ew ei)
+
+  one-call : {choices : List ℕ} {w v : Walk} {k : ℕ} → Listed choices w k v → v ≡ run plan score spans (take k choices) w
+  one-call {choices} {w} (by-steps κs a r e h ep es et ew ec) =
+      subst (λ (o : ListOutcome). o .walk ≡ run plan score spans (take (acceptedIn (o .answer)) choices) w) (sym (h ∙ same-over listed ep es et ew ec))
+      (one-list plan score spans choices w .walk-is)
 
   pub steps-run : {w u : Walk} {is : List ℕ} → Walked w is u → u ≡ run plan score spans is w
   unfolding run
   steps-run none = refl
   steps-run (then i is s more) = steps-run more ∙ ap (run plan score spans is) (one-step s)
+  steps-run (list {w = w} choices k is l more) =
+      steps-run more ∙ ap (run plan score spans is) (one-call l) ∙ sym (run-append plan score spans (take k choices) is w)
+
+  pub list-singly : {choices : List ℕ} {w v u : Walk} {k : ℕ} → Listed choices w k v → Walked w (take k choices) u → v ≡ u
+  list-singly l s = one-call l ∙ sym (steps-run s)
 
 -- ---- one file
 module _ {file : List ℕ} (bytes : Below 256 file)
@@ -120,7 +143,7 @@ module _ {file : List ℕ} (bytes : Below 256 file)
   pub demands : Demand2 one-file × Demand3 one-file
   demands = (demand-2 one-file, demand-3 one-file)
 
-  -- the walk as starting left it, and after any steps that the contract allows, is the one that the demands speak of
+  -- the walk as starting left it, and after any steps and lists that the contracts allow, is the one that the demands speak of
   pub walk-is : {is : List ℕ} {u : Walk}
       → Walked (lentIn one-file) (nodesIn one-file) (spansIn one-file)
       (walkOf (now (es .1 .1 .1 .0)) (now (es .1 .1 .1 .1 .0)) (now (es .1 .1 .1 .1 .1 .0)) first) is u

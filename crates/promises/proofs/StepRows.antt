@@ -1,6 +1,8 @@
 -- Rows 32 and 34: a step's outcome is the one that they give.
 --   item-look look-item            what an item finds
 --   found-tried tried-found        the walk after the step
+--   step-32 step-34 step-takes     what a step comes to
+--   StepIs step-is                 it is one of these
 --   by-step                        the rows
 use mathlib.Core.Path.{_≡_, refl, ap, sym, _∙_}
 use mathlib.Core.Bool.{true}
@@ -14,6 +16,7 @@ use lib.Dec.{ltb, leb}
 use lib.ListN.{length, getD, getElem?, drop}
 use Rattle.kinds.specs.Lists.{bind, need}
 use Rattle.kinds.specs.Positions.{codeGood}
+use Rattle.kinds.specs.declared.Reason.the-variants.{NoSuchItem, OutOfRange}
 use Rattle.kinds.proofs.Bools.{both, and-l, and-r}
 use Rattle.kinds.proofs.Members.{all-at, all-of}
 use Rattle.kinds.proofs.Options.{none-not, on-bind, on-need}
@@ -24,7 +27,7 @@ use Rattle.readers.specs.BlockWords.{pairList, middle, outsAt, nextsAt, blockSt
 use Rattle.readers.proofs.LawsPairs.{pairList-at, pairs-list, pairs-none}
 use Rattle.readers.proofs.LawsParts.{block-start}
 use Rattle.queue.specs.Targets.{targets}
-use Rattle.walk.specs.Starting.{Walk}
+use Rattle.walk.specs.Starting.{Walk, refuseWalk, goOn}
 use Rattle.walk.specs.Stepping.{Finding, look, onward, roomy, moved, tried, stepped}
 use Rattle.walking.proofs.StepParts.{look-of, tried-of}
 use Rattle.promises.specs.StepFound.{ItemFound, StepFound}
@@ -147,25 +150,47 @@ module _ (plan score spans : List ℕ) (i : ℕ) (w : Walk) where
             }
 
   -- ---- the rows
-  step-row : StepRow plan score spans i w (walkTold (stepped plan score spans i w))
+  pub step-32 : w .count .waiting ≤ i → stepped plan score spans i w ≡ refuseWalk NoSuchItem w
   unfolding stepped
-  step-row = go (decLt i (w .count .waiting)) (tried plan score spans i w) refl
-    where
-      go : Dec (i < w .count .waiting) → (o : Option Walk) → tried plan score spans i w ≡ o
-          → StepRow plan score spans i w (walkTold (stepped plan score spans i w))
-      go (no h) o e = let k : w .count .waiting ≤ i = omega arith in rw (le-ltb i (w .count .waiting) k) (rows.step-32 k)
-      go (yes h) none e = rw (lt-ltb i (w .count .waiting) h, e) (rows.step-34 h (λ v s. none-not (sym e ∙ found-tried h v s)))
-      go (yes h) (some v) e = rw (lt-ltb i (w .count .waiting) h, e) (rows.takes h v (tried-found h v e))
+  step-32 h = rw (le-ltb i (w .count .waiting) h) refl
 
-  step-only : (o : Told Walk) → StepRow plan score spans i w o → walkTold (stepped plan score spans i w) ≡ o
+  pub step-34 : i < w .count .waiting → ((v : Walk) → StepFound plan score spans i w v → ⊥) → stepped plan score spans i w ≡ refuseWalk OutOfRange w
   unfolding stepped
-  step-only _ (rows.step-32 h) = rw (le-ltb i (w .count .waiting) h) refl
-  step-only _ (rows.step-34 h n) = rw (lt-ltb i (w .count .waiting) h, nothing (tried plan score spans i w) refl) refl
+  step-34 h n = rw (lt-ltb i (w .count .waiting) h, nothing (tried plan score spans i w) refl) refl
     where
       nothing : (o : Option Walk) → tried plan score spans i w ≡ o → tried plan score spans i w ≡ none
       nothing none e = e
       nothing (some v) e = absurd (n v (tried-found h v e))
-  step-only _ (rows.takes h v s) = rw (lt-ltb i (w .count .waiting) h, found-tried h v s) refl
+
+  pub step-takes : i < w .count .waiting → (v : Walk) → StepFound plan score spans i w v → stepped plan score spans i w ≡ goOn v
+  unfolding stepped
+  step-takes h v s = rw (lt-ltb i (w .count .waiting) h, found-tried h v s) refl
+
+  pub data StepIs : Type 0 where
+    is-32 : w .count .waiting ≤ i → StepIs
+    is-34 : i < w .count .waiting → ((v : Walk) → StepFound plan score spans i w v → ⊥) → StepIs
+    is-taken : i < w .count .waiting → (v : Walk) → StepFound plan score spans i w v → StepIs
+
+  pub step-is : StepIs
+  step-is = go (decLt i (w .count .waiting)) (tried plan score spans i w) refl
+    where
+      go : Dec (i < w .count .waiting) → (o : Option Walk) → tried plan score spans i w ≡ o → StepIs
+      go (no h) o e = is-32 (omega arith)
+      go (yes h) none e = is-34 h (λ v s. none-not (sym e ∙ found-tried h v s))
+      go (yes h) (some v) e = is-taken h v (tried-found h v e)
+
+  step-row : StepRow plan score spans i w (walkTold (stepped plan score spans i w))
+  step-row = go step-is
+    where
+      go : StepIs → StepRow plan score spans i w (walkTold (stepped plan score spans i w))
+      go (is-32 h) = rw (step-32 h) (rows.step-32 h)
+      go (is-34 h n) = rw (step-34 h n) (rows.step-34 h n)
+      go (is-taken h v s) = rw (step-takes h v s) (rows.takes h v s)
+
+  step-only : (o : Told Walk) → StepRow plan score spans i w o → walkTold (stepped plan score spans i w) ≡ o
+  step-only _ (rows.step-32 h) = ap walkTold (step-32 h)
+  step-only _ (rows.step-34 h n) = ap walkTold (step-34 h n)
+  step-only _ (rows.takes h v s) = ap walkTold (step-takes h v s)
 
   pub by-step : By (StepRow plan score spans i w) (walkTold (stepped plan score spans i w))
   by-step = (step-row, step-only)

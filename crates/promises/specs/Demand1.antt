@@ -5,19 +5,22 @@
 --   paperOf wordsFor   the paper's construction for the shapes that shape words hold; its plan's words
 --   StartRow    31, 30; or a walk that is begun
 --   StepRow     32, 34; or a step, by `StepFound`
+--   AllTaken ListRow   each of these choices is taken, one after the other; 32 or 34 at the first choice that is not; or all are taken
 --   CountRow    31, 30; or the number of matches
 --   ClashRow    19, 31, 30; 35 for a bit that is no match; or the number of matches that clash, by the terms
 --   lineTold wrote   what is said and left in the buffer; a line at the buffer's start, the bytes behind it as they were
 --   LineRow     30 for a buffer under 1,400 bytes (docs/DECISIONS.md); or the line
 --   MatchRow    30; 34 for a node to which no path leads by the spans lent; or the line with the path that does
 --   FoundRow    34; or what is found: in `Found`, for subtree, the plan readers and a position's child
---   openTold buildTold walkTold   what opening, building, starting and stepping say and leave; building leaves the plan's buffer and scratch
+--   openTold buildTold walkTold listTold   what opening, building, starting, stepping and a list of choices say and leave; building leaves the plan's buffer and scratch
+use mathlib.Core.Path.{_≡_}
 use mathlib.Core.List.{List, [], _∷_, _++_, map}
+use mathlib.Core.Option.{some}
 use Prim.Native.Nat.{ℕ, _*_, _<_, _≤_}
-use lib.ListN.{length, getD, take, drop}
+use lib.ListN.{length, getD, getElem?, take, drop}
 use lib.Seq.{sets}
 use Rattle.kinds.specs.Lists.{gather, greatest}
-use Rattle.kinds.specs.Reasons.{Says, gives, refusal}
+use Rattle.kinds.specs.Reasons.{Says, gives, refusal, refusalWith}
 use Rattle.kinds.specs.Kinds.{childOf, childSays}
 use Rattle.kinds.specs.Positions.{Pos}
 use Rattle.kinds.specs.declared.Position.{Position}
@@ -36,6 +39,7 @@ use Rattle.automaton.specs.Progress.{AllMet, OverGoals, OverStates, wordsOf, To
 use Rattle.plan.specs.Building.{scratchWords, cleared, buildOf, BuildOutcome, builtSays}
 use Rattle.walk.specs.Starting.{Walk, WalkOutcome, begun, started, walkedSays}
 use Rattle.walk.specs.Stepping.{stepped}
+use Rattle.listing.specs.Listing.{ListOutcome, listed, listedSays}
 use Rattle.counting.specs.Counting.{Match, matchAt, foundIn, total, matchesOf, countedSays}
 use Rattle.clashing.specs.Clashes.{clashNumber, nodesIn}
 use Rattle.clashing.specs.Strays.{IsMatch}
@@ -62,6 +66,9 @@ buildTold o = told (builtSays (o .answer)) (o .plan, o .scratch)
 
 abbrev pub walkTold : WalkOutcome → Told Walk
 walkTold o = told (walkedSays (o .answer)) (o .walk)
+
+abbrev pub listTold : ListOutcome → Told Walk
+listTold o = told (listedSays (o .answer)) (o .walk)
 
 -- ---- opening
 -- it answers the counts of symbols, shapes, shape words and nodes, "the score's depth and the deepest shape's"
@@ -140,11 +147,28 @@ module _ (ar ws st score spans marks : List ℕ) where
         → ClashRow (gives (clashNumber (nodesIn (shapeTerms ar ws) (scoreTerm ar score)) heldIn ∷ []))
 
 -- ---- stepping
+-- "The record answered counts items waiting and logged nodes"
+abbrev pub recorded : Walk → List ℕ
+recorded v = v .count .waiting ∷ v .count .logged ∷ []
+
 pub data StepRow (plan score spans : List ℕ) (i : ℕ) (w : Walk) : Told Walk → Type 0 where
   step-32 : w .count .waiting ≤ i → StepRow plan score spans i w (told (refusal 32 0) w)
   step-34 : i < w .count .waiting → ((v : Walk) → StepFound plan score spans i w v → ⊥) → StepRow plan score spans i w (told (refusal 34 0) w)
-  takes : i < w .count .waiting → (v : Walk) → StepFound plan score spans i w v
-      → StepRow plan score spans i w (told (gives (v .count .waiting ∷ v .count .logged ∷ [])) v)
+  takes : i < w .count .waiting → (v : Walk) → StepFound plan score spans i w v → StepRow plan score spans i w (told (gives (recorded v)) v)
+
+-- ---- a list of choices
+-- v is the walk after the accepted ones; the k-th choice, counted from 0, is refused
+module _ (plan score spans : List ℕ) where
+  pub data AllTaken : List ℕ → Walk → Walk → Type 0 where
+    none : {w : Walk} → AllTaken [] w w
+    then : {i : ℕ} {is : List ℕ} {w u v : Walk} → i < w .count .waiting → StepFound plan score spans i w u → AllTaken is u v → AllTaken (i ∷ is) w v
+
+  pub data ListRow (choices : List ℕ) (w : Walk) : Told Walk → Type 0 where
+    list-32 : (k i : ℕ) → getElem? choices k ≡ some i → (v : Walk) → AllTaken (take k choices) w v → v .count .waiting ≤ i
+        → ListRow choices w (told (refusalWith 32 k (k ∷ recorded v)) v)
+    list-34 : (k i : ℕ) → getElem? choices k ≡ some i → (v : Walk) → AllTaken (take k choices) w v → i < v .count .waiting
+        → ((u : Walk) → StepFound plan score spans i v u → ⊥) → ListRow choices w (told (refusalWith 34 k (k ∷ recorded v)) v)
+    takes-all : (v : Walk) → AllTaken choices w v → ListRow choices w (told (gives (length choices ∷ recorded v)) v)
 
 -- ---- a line of the report
 abbrev pub lineTold : LineOutcome → Told (List ℕ)
@@ -167,6 +191,8 @@ pub record Demand1 : Type 0 where
   pub building : (ar ws st plan scratch : List ℕ) → By (BuildRow ar ws st plan scratch) (buildTold (buildOf ar ws st plan scratch))
   pub starting : (ar score spans : List ℕ) (w : Walk) → Below 65536 score → By (StartRow ar score spans w) (walkTold (started ar score spans w))
   pub stepping : (plan score spans : List ℕ) (i : ℕ) (w : Walk) → By (StepRow plan score spans i w) (walkTold (stepped plan score spans i w))
+  pub listing : (plan score spans choices : List ℕ) (w : Walk)
+      → By (ListRow plan score spans choices w) (listTold (listed plan score spans choices w))
   pub matches : (ar score spans marks : List ℕ) → Below 65536 score
       → By (CountRow ar score spans marks) (countedSays (matchesOf ar score spans marks))
   pub clashes : (ar ws st score spans marks : List ℕ) → Below 65536 score

@@ -9,17 +9,25 @@
 --   log-…           the log holds nodes of the score, none twice, and each when none waits
 --   waits           the waiting and the read are at most n together
 --   same-…          two finished walks over the file, by any choices and with any buffers, have the same marks and the same text
+-- The same by lists of choices (document 02, wish 4), any lists one after the other, with a refused choice in any of them at any place:
+--   lists           record and buffers are those after the accepted choices taken singly: all that this demand says of a walk, it says of lists
+--   lists-accepted  the answers say as many accepted choices as are accepted singly: each of them
+--   list-taken      of one list more: if all its choices are accepted singly, it says so
+--   list-refused    if the k-th is the first that is not below the number waiting, it says 32 at k, and the walk is the one after the k before it
+--   list-never-34   no list is refused 34
 use mathlib.Core.Path.{_≡_}
 use mathlib.Core.List.{List, [], _∷_, _++_}
 use mathlib.Core.Logic.{_↔_}
 use Prim.Native.Nat.{ℕ, suc, _+_, _<_, _≤_}
-use lib.ListN.{getD, take, drop}
-use Rattle.kinds.specs.Reasons.{gives, refusal}
+use mathlib.Core.Option.{some}
+use lib.ListN.{length, getD, getElem?, take, drop}
+use Rattle.kinds.specs.Reasons.{gives, refusal, refusalWith}
 use Rattle.term.specs.Terms.{span}
 use Rattle.walk.specs.Starting.{walkedSays}
+use Rattle.listing.specs.Listing.{listedSays}
 use Rattle.promises.specs.Told.{told}
-use Rattle.promises.specs.Demand1.{walkTold}
-use Rattle.promises.specs.OneFile.{OneFile, scoreIn, bufferIn, planIn, after, stepAfter, acceptedIn, reported}
+use Rattle.promises.specs.Demand1.{walkTold, listTold, recorded}
+use Rattle.promises.specs.OneFile.{OneFile, scoreIn, bufferIn, planIn, after, stepAfter, acceptedIn, afterLists, listAfter, singlyIn, acceptedByLists, reported}
 
 pub record Demand3 {file : List ℕ} (S : OneFile file) : Type 0 where
   pub in-buffer : planIn S ++ drop (S .size .words) (bufferIn S) ≡ bufferIn S
@@ -27,8 +35,7 @@ pub record Demand3 {file : List ℕ} (S : OneFile file) : Type 0 where
   pub refused : (choices : List ℕ) (i : ℕ) → after S choices .count .waiting ≤ i
       → walkTold (stepAfter S choices i) ≡ told (refusal 32 0) (after S choices)
   pub taken : (choices : List ℕ) (i : ℕ) → i < after S choices .count .waiting
-      → (walkedSays (stepAfter S choices i .answer) ≡ gives
-      (stepAfter S choices i .walk .count .waiting ∷ stepAfter S choices i .walk .count .logged ∷ []))
+      → (walkedSays (stepAfter S choices i .answer) ≡ gives (recorded (stepAfter S choices i .walk)))
       × (stepAfter S choices i .walk .count .logged ≡ suc (after S choices .count .logged))
   pub steps : (choices : List ℕ)
       → (acceptedIn S choices ≡ after S choices .count .logged) × (acceptedIn S choices ≤ span (scoreIn S))
@@ -43,3 +50,14 @@ pub record Demand3 {file : List ℕ} (S : OneFile file) : Type 0 where
       → take (span (scoreIn S)) (after S choices .marks) ≡ take (span (scoreIn S)) (after T choices′ .marks)
   pub same-text : (T : OneFile file) (choices choices′ : List ℕ) → after S choices .count .waiting ≡ 0 → after T choices′ .count .waiting ≡ 0
       → reported S choices ≡ reported T choices′
+  pub lists : (ls : List (List ℕ)) → afterLists S ls ≡ after S (singlyIn S ls)
+  pub lists-accepted : (ls : List (List ℕ))
+      → (acceptedByLists S ls ≡ acceptedIn S (singlyIn S ls)) × (acceptedByLists S ls ≡ length (singlyIn S ls))
+  pub list-taken : (ls : List (List ℕ)) (choices : List ℕ) → acceptedIn S (singlyIn S ls ++ choices) ≡ acceptedByLists S ls + length choices
+      → listTold (listAfter S ls choices)
+      ≡ told (gives (length choices ∷ recorded (after S (singlyIn S ls ++ choices)))) (after S (singlyIn S ls ++ choices))
+  pub list-refused : (ls : List (List ℕ)) (choices : List ℕ) (k i : ℕ) → getElem? choices k ≡ some i
+      → acceptedIn S (singlyIn S ls ++ take k choices) ≡ acceptedByLists S ls + k → after S (singlyIn S ls ++ take k choices) .count .waiting ≤ i
+      → listTold (listAfter S ls choices)
+      ≡ told (refusalWith 32 k (k ∷ recorded (after S (singlyIn S ls ++ take k choices)))) (after S (singlyIn S ls ++ take k choices))
+  pub list-never-34 : (ls : List (List ℕ)) (choices : List ℕ) → listedSays (listAfter S ls choices .answer) .number ≡ 34 → ⊥

@@ -8,6 +8,8 @@
 --   after           the walk after any choices, each step "lent the same buffers and record as the one before left them"
 --   stepAfter       one more step then
 --   acceptedIn      how many of the choices were accepted
+--   afterLists listAfter    the walk after any lists of choices, each call lent what the one before left; one more list then
+--   singlyIn acceptedByLists   the choices of such lists that were accepted, in order; how many the answers say that they are
 --   reported        the text that find prints
 use mathlib.Core.Path.{_≡_}
 use mathlib.Core.List.{List, _++_}
@@ -24,6 +26,7 @@ use Rattle.plan.specs.declared.Built.the-variants as building
 use Rattle.walk.specs.Starting.{Walk, WalkOutcome, started}
 use Rattle.walk.specs.Stepping.{stepped, run, accepted}
 use Rattle.walk.specs.declared.Record.{Record}
+use Rattle.listing.specs.Listing.{ListOutcome, listed, runLists, singly, acceptedBy}
 use Rattle.walk.specs.declared.Walked.the-variants as walking
 use Rattle.report.specs.Text.{report}
 use Rattle.kinds.specs.Members.{Below}
@@ -103,6 +106,18 @@ module _ {file : List ℕ} (S : OneFile file) where
 
   abbrev pub acceptedIn : List ℕ → ℕ
   acceptedIn choices = accepted lentIn nodesIn spansIn choices begunIn
+
+  abbrev pub afterLists : List (List ℕ) → Walk
+  afterLists lists = runLists lentIn nodesIn spansIn lists begunIn
+
+  abbrev pub listAfter : List (List ℕ) → List ℕ → ListOutcome
+  listAfter lists choices = listed lentIn nodesIn spansIn choices (afterLists lists)
+
+  abbrev pub singlyIn : List (List ℕ) → List ℕ
+  singlyIn lists = singly lentIn nodesIn spansIn lists begunIn
+
+  abbrev pub acceptedByLists : List (List ℕ) → ℕ
+  acceptedByLists lists = acceptedBy lentIn nodesIn spansIn lists begunIn
 
   abbrev pub reported : List ℕ → List ℕ
   reported choices = let marks = after choices .marks in

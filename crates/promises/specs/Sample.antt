@@ -1,7 +1,7 @@
--- The sample folio: P1 to P10 of document 01, the whole plan and the whole report, and the plan's readers on it, as one table of the definitions with one claim.
+-- The sample folio: P1 to P10 of document 01, the whole plan and the whole report, the plan's readers and a list of choices on it, as one table of the definitions with one claim.
 --   file      the 49 bytes
 --   table     what the definitions give: from the file its opening, from that the building, from that the plan, from that the walks and the report
---   claimed   what document 01 says
+--   claimed   what documents 01 and 02 say
 --   sample    they are equal
 use mathlib.Core.Path.{_≡_, refl}
 use mathlib.Core.List.{List, [], _∷_, _++_}
@@ -18,6 +18,7 @@ use Rattle.following.specs.Following.{target, reached, reachedSays}
 use Rattle.readers.specs.PlanParts.{labelOf, labelSays, lengthsOf, blockSays, announcementOf, announcementSays, successorOf, successorSays}
 use Rattle.walk.specs.Starting.{Walk, walkOf, counting, started, walkedSays}
 use Rattle.walk.specs.Stepping.{stepped, runBy}
+use Rattle.listing.specs.Listing.{ListOutcome, listed, listedSays}
 use Rattle.counting.specs.Counting.{matchesOf, countedSays}
 use Rattle.clashing.specs.Clashing.{clashesOf}
 use Rattle.report.specs.Quoted.{bytes}
@@ -87,6 +88,13 @@ lasts = runBy (λ n. n - 1) plan score spans 10 (begun score spans)
 pub alone : Walk
 alone = runBy (λ n. 0) plan (0 ∷ []) (1 ∷ []) 1 (begun (0 ∷ []) (1 ∷ []))
 
+-- the seventh choice is refused; no choice
+pub partly : ListOutcome
+partly = listed plan score spans (0 ∷ 0 ∷ 0 ∷ 0 ∷ 0 ∷ 0 ∷ 4 ∷ 0 ∷ 0 ∷ []) (begun score spans)
+
+pub nothing : ListOutcome
+nothing = listed plan score spans [] (begun score spans)
+
 -- an answer's number and its values
 abbrev row : Says → List ℕ
 row s = s .number ∷ s .values
@@ -99,6 +107,7 @@ table =
     ∷ (alone .count .waiting ∷ alone .count .logged ∷ [])
     ∷ row (openedSays (opened [] (lent [] [] [] []) .answer))
     ∷ row (walkedSays (stepped plan score spans 0 firsts .answer))
+    ∷ row (listedSays (partly .answer)) ∷ partly .walk .items ∷ partly .walk .log ∷ partly .walk .marks ∷ row (listedSays (nothing .answer))
     ∷ row (openedSays (opening .answer)) ∷ opening .tables .words ∷ opening .tables .starts ∷ opening .tables .score ∷ opening .tables .spans
     ∷ row (builtSays (building .answer)) ∷ building .plan
     ∷ row (countedSays (matchesOf symbols score spans marks)) ∷ row (countedSays (clashesOf symbols shapeWords starts score spans marks))
@@ -117,6 +126,7 @@ claimed =
     ∷ (0 ∷ 1 ∷ [])
     ∷ (1 ∷ 0 ∷ [])
     ∷ (32 ∷ 0 ∷ [])
+    ∷ (32 ∷ 6 ∷ 6 ∷ 3 ∷ 6 ∷ []) ∷ (0 ∷ 4 ∷ 1 ∷ 6 ∷ 2 ∷ 6 ∷ nines 14) ∷ (0 ∷ 1 ∷ 5 ∷ 2 ∷ 3 ∷ 6 ∷ nines 4) ∷ (3 ∷ 1 ∷ replicate 8 0) ∷ (0 ∷ 0 ∷ 1 ∷ 0 ∷ [])
     ∷ (0 ∷ 3 ∷ 2 ∷ 9 ∷ 10 ∷ 4 ∷ 2 ∷ []) ∷ shapeWords ∷ starts ∷ score ∷ spans
     ∷ (0 ∷ 3 ∷ 56 ∷ []) ∷ (plan ++ (9 ∷ []))
     ∷ (0 ∷ 4 ∷ []) ∷ (0 ∷ 3 ∷ [])
@@ -125,5 +135,5 @@ claimed =
     ∷ text ∷ []
 
 pub sample : table ≡ claimed
-unfolding table opening building firsts lasts alone computing
+unfolding table opening building firsts lasts alone partly nothing computing
 sample = refl

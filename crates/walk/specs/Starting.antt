@@ -5,6 +5,7 @@
 --   refuseWalk   a refusal changes nothing
 --   begun        one item waiting, n marks clear
 --   started      31 before 30
+--   recordValues the record, as values
 --   walkedSays   the answer in document 01's numbers
 use Prim.Native.Nat.{ℕ, _*_}
 use mathlib.Core.List.{List, [], _∷_}
@@ -63,6 +64,9 @@ started ar score spans w =
     (unless (roomFor (length score) w) (refuseWalk ShortBuffers w)
     (goOn (begun (length score) w)))
 
+abbrev pub recordValues : Record → List ℕ
+recordValues c = c .waiting ∷ c .logged ∷ []
+
 abbrev pub walkedSays : Walked → Says
-walkedSays (On c) = gives (c .waiting ∷ c .logged ∷ [])
+walkedSays (On c) = gives (recordValues c)
 walkedSays (Refused r) = refuses r 0

@@ -1,7 +1,7 @@
 // Opens each folio that it is given by name, builds its plan and holds it against the stored one, which is named behind the folio. Then the
 // score is walked with the built plan: taking the first item, the last, and items by a fixed pseudo-random row, each time with a refused choice
 // before every step. Printed are the accepted steps, what waits, what is logged, the refusal of the step after the end, the log where it has at
-// most ten nodes, and the marks.
+// most ten nodes, and the marks. The last two walks are made again by lists of the same choices, with a refused one behind every seventh.
 use bufferstone::Built;
 use bufferstone::Opened;
 use bufferstone::Record;
@@ -21,7 +21,16 @@ use bufferstone::open;
 use bufferstone::start;
 use bufferstone::step;
 use libc::STDOUT_FILENO;
+use listed::CHOICES;
+use listed::note;
+use listed::walk_lists;
+use running::showing::show;
+use running::texts::first;
+use running::texts::first_words;
+use running::texts::put_numbers;
 ghost use Rattle.io.specs.Counts.{Counts};
+
+mod listed; // the same choices by lists
 
 fn main() {
     for i in 1..os::arg_count() {
@@ -38,7 +47,7 @@ fn walk_folio(i: usize, j: usize) {
     let t = read_named(j, &mut text);
     let mut stored = [0u16; PLAN_WORDS];
     let p = put_numbers(&text[..t], &mut stored);
-    walk_file(&file[..n], first(&stored, p));
+    walk_file(&file[..n], first_words(&stored, p));
 }
 
 // The bytes of the file that argument i names.
@@ -56,54 +65,6 @@ fn read_named(i: usize, bytes: &mut [u8]) -> usize
     read
 }
 
-// The numbers of a text, each with a space or the line's end behind it; how many they are.
-fn put_numbers(text: &[u8], words: &mut [u16]) -> usize {
-    let mut at: usize = 0;
-    let mut value: u32 = 0;
-    for i in 0..text.len() {
-        at = put_number(words, at, value, text[i]);
-        value = with_digit(value, text[i]);
-    }
-    at
-}
-
-// A space or a line's end ends a number; where the next one goes.
-fn put_number(words: &mut [u16], at: usize, value: u32, end: u8) -> usize {
-    if 48 <= end {
-        return at;
-    }
-    if words.len() <= at {
-        return at;
-    }
-    words[at] = (value % 65536) as u16;
-    at + 1
-}
-
-fn with_digit(value: u32, digit: u8) -> u32 {
-    if digit < 48 {
-        return 0;
-    }
-    if 65535 < value {
-        return value;
-    }
-    value * 10 + ((digit - 48) as u32)
-}
-
-// The first n words, or all where there are fewer.
-fn first<'a>(words: &'a [u16], n: usize) -> &'a [u16] {
-    if words.len() < n {
-        return words;
-    }
-    &words[..n]
-}
-
-fn first_bytes<'a>(bytes: &'a [u8], n: usize) -> &'a [u8] {
-    if bytes.len() < n {
-        return bytes;
-    }
-    &bytes[..n]
-}
-
 fn walk_file(file: &[u8], stored: &[u16]) {
     let mut words = [0u16; SHAPES_WORDS];
     let mut starts = [0u16; MOST_SHAPES];
@@ -115,11 +76,11 @@ fn walk_file(file: &[u8], stored: &[u16]) {
         }
         Opened::Folio(c) => {
             walk_opened(
-                first_bytes(file, c.symbols),
-                first(&words, c.words),
-                first(&starts, c.shapes),
-                first(&score, c.nodes),
-                first(&spans, c.nodes),
+                first(file, c.symbols),
+                first_words(&words, c.words),
+                first_words(&starts, c.shapes),
+                first_words(&score, c.nodes),
+                first_words(&spans, c.nodes),
                 stored,
             );
         }
@@ -138,7 +99,7 @@ fn walk_opened(
     let mut scratch = [9u16; SCRATCH_WORDS];
     match build(symbols, words, starts, &mut plan, &mut scratch) {
         Built::Plan(size) => {
-            let built = first(&plan, size.words);
+            let built = first_words(&plan, size.words);
             show_plan(size, equal(built, stored));
             walk_ways(symbols, built, score, spans);
         }
@@ -163,7 +124,18 @@ fn show_plan(size: Size, same: bool) {
 
 fn walk_ways(symbols: &[u8], plan: &[u16], score: &[u16], spans: &[u16]) {
     let mut marks = [9u16; SCORE_NODES];
-    walk_whole(symbols, plan, score, spans, &mut marks, 0);
+    let mut log = [0u16; SCORE_NODES];
+    let mut choices = [65535u16; CHOICES];
+    walk_whole(
+        symbols,
+        plan,
+        score,
+        spans,
+        &mut log,
+        &mut marks,
+        &mut choices,
+        0,
+    );
     show_marks(&marks, score.len());
     walk_again(symbols, plan, score, spans, &marks, 1);
     walk_again(symbols, plan, score, spans, &marks, 2);
@@ -178,12 +150,24 @@ fn walk_again(
     way: usize,
 ) {
     let mut marks = [9u16; SCORE_NODES];
-    walk_whole(symbols, plan, score, spans, &mut marks, way);
+    let mut log = [0u16; SCORE_NODES];
+    let mut choices = [65535u16; CHOICES];
+    walk_whole(
+        symbols,
+        plan,
+        score,
+        spans,
+        &mut log,
+        &mut marks,
+        &mut choices,
+        way,
+    );
     if equal(before, &marks) {
         io::write_all(STDOUT_FILENO, b" the same marks\n");
     } else {
         show_marks(&marks, score.len());
     }
+    walk_lists(symbols, plan, score, spans, &choices, &log, &marks);
 }
 
 fn walk_whole(
@@ -191,14 +175,25 @@ fn walk_whole(
     plan: &[u16],
     score: &[u16],
     spans: &[u16],
+    log: &mut [u16],
     marks: &mut [u16],
+    choices: &mut [u16],
     way: usize,
 ) {
     let mut waiting = [0u16; WAITING_WORDS];
-    let mut log = [0u16; SCORE_NODES];
-    match start(symbols, score, spans, &mut waiting, &mut log, marks) {
+    match start(symbols, score, spans, &mut waiting, log, marks) {
         Walked::On(r) => {
-            take_steps(plan, score, spans, &mut waiting, &mut log, marks, r, way);
+            take_steps(
+                plan,
+                score,
+                spans,
+                &mut waiting,
+                log,
+                marks,
+                r,
+                choices,
+                way,
+            );
         }
         Walked::Refused(reason) => {
             show(b"no start ", number(reason) as usize);
@@ -206,7 +201,7 @@ fn walk_whole(
     }
 }
 
-// Steps until one is refused.
+// Steps until one is refused, and notes what was chosen.
 fn take_steps(
     plan: &[u16],
     score: &[u16],
@@ -215,6 +210,7 @@ fn take_steps(
     log: &mut [u16],
     marks: &mut [u16],
     begun: Record,
+    choices: &mut [u16],
     way: usize,
 ) {
     let mut record = begun;
@@ -222,6 +218,7 @@ fn take_steps(
     for taken in 0..5000 {
         turn = next(turn);
         let choice = choose(way, record.waiting, turn);
+        note(choices, taken, choice);
         match take(plan, score, spans, waiting, log, marks, record, choice) {
             Walked::On(r) => {
                 record = r;
@@ -287,7 +284,7 @@ fn show_end(taken: usize, record: Record, why: u16, log: &[u16]) {
     show(b" then refused ", why as usize);
     if record.logged <= 10 {
         io::write_all(STDOUT_FILENO, b" log");
-        show_log(first(log, record.logged));
+        show_log(first_words(log, record.logged));
     }
 }
 
@@ -309,9 +306,4 @@ fn show_marks(marks: &[u16], n: usize) {
         }
     }
     io::write_all(STDOUT_FILENO, b"\n");
-}
-
-fn show(text: &[u8], n: usize) {
-    io::write_all(STDOUT_FILENO, text);
-    io::print_decimal(STDOUT_FILENO, n as u64);
 }

@@ -1,25 +1,29 @@
+use mathlib.Core.Path.{_≡_}
 use Prim.Native.Nat.{_-_}
-use mathlib.Core.Path.{_≡_, refl, _∙_}
 use lib.ListN.{length}
 use borrow.Author.Needs.{needs}
 use Rattle.walks.proofs.take_steps.Statement.{statement}
 use Rattle.walks.proofs.take_steps.Tie as tie
 
 abbrev Inv-loop : tie.InvT-loop
-Inv-loop plan score spans waiting₀ log₀ marks₀ way record₀ turn₀ taken₀ waiting log marks «record» turn taken =
-    (length waiting ≡ length waiting₀) × (length log ≡ length log₀) × (length marks ≡ length marks₀)
+Inv-loop plan score spans waiting₀ log₀ marks₀ choices₀ way record₀ turn₀ taken₀ waiting log marks choices «record» turn taken =
+    (length waiting ≡ length waiting₀) × (length log ≡ length log₀) × (length marks ≡ length marks₀) × (length choices ≡ length choices₀)
 
 abbrev μ-loop : tie.MeasureT-loop
-μ-loop plan score spans waiting₀ log₀ marks₀ way record₀ turn₀ taken₀ waiting log marks «record» turn taken = 5000 - taken
+μ-loop plan score spans waiting₀ log₀ marks₀ choices₀ way record₀ turn₀ taken₀ waiting log marks choices «record» turn taken =
+    5000 - taken
 
 loop-holds : tie.Need-loop-holds Inv-loop μ-loop
-loop-holds c = (refl, refl, refl)
+loop-holds c = search needs
 
 next-requires : tie.Need-next-requires Inv-loop μ-loop
 next-requires c κs = search needs
 
 choose-requires : tie.Need-choose-requires Inv-loop μ-loop
 choose-requires c κs = search needs
+
+note-requires : tie.Need-note-requires Inv-loop μ-loop
+note-requires c κs = search needs
 
 take-requires : tie.Need-take-requires Inv-loop μ-loop
 take-requires c κs = search needs
@@ -37,25 +41,16 @@ show-end-requires : tie.Need-show-end-requires Inv-loop μ-loop
 show-end-requires c κs = search needs
 
 same-length : tie.Need-same-length Inv-loop μ-loop
-same-length c =
-    let at-loop =
-    c .before .before .before .before .before .before .before .before .before .before .before .before .before .before .before .before .before .before .before .loop in
-    let at-take = c .before .before .before .before .before .before .before .before .before .before .before .before .take in
-    at-take .kept .1 .1 .1 .0 ∙ at-loop .inv .0
+same-length c = search needs
 
 same-length-2 : tie.Need-same-length-2 Inv-loop μ-loop
-same-length-2 c =
-    let at-loop =
-    c .before .before .before .before .before .before .before .before .before .before .before .before .before .before .before .before .before .before .before .loop in
-    let at-take = c .before .before .before .before .before .before .before .before .before .before .before .before .take in
-    at-take .kept .1 .1 .1 .1 .0 ∙ at-loop .inv .1
+same-length-2 c = search needs
 
 same-length-3 : tie.Need-same-length-3 Inv-loop μ-loop
-same-length-3 c =
-    let at-loop =
-    c .before .before .before .before .before .before .before .before .before .before .before .before .before .before .before .before .before .before .before .loop in
-    let at-take = c .before .before .before .before .before .before .before .before .before .before .before .before .take in
-    at-take .kept .1 .1 .1 .1 .1 .0 ∙ at-loop .inv .2
+same-length-3 c = search needs
+
+same-length-4 : tie.Need-same-length-4 Inv-loop μ-loop
+same-length-4 c = search needs
 
 returns : tie.Need-returns Inv-loop μ-loop
 returns c = search needs
@@ -67,20 +62,19 @@ loop-less : tie.Need-loop-less Inv-loop μ-loop
 loop-less c = search needs
 
 loop-again : tie.Need-loop-again Inv-loop μ-loop
-loop-again c =
-    let at-loop =
-    c .before .before .before .before .before .before .before .before .before .before .before .before .before .before .before .before .loop in
-    let at-take = c .before .before .before .before .before .before .before .before .before .take in
-    (at-take .kept .1 .1 .1 .0 ∙ at-loop .inv .0, at-take .kept .1 .1 .1 .1 .0 ∙ at-loop .inv .1, at-take .kept .1 .1 .1 .1 .1 .0 ∙ at-loop .inv .2)
-
-same-length-4 : tie.Need-same-length-4 Inv-loop μ-loop
-same-length-4 c = c .before .loop .inv .0
+loop-again c = search needs
 
 same-length-5 : tie.Need-same-length-5 Inv-loop μ-loop
-same-length-5 c = c .before .loop .inv .1
+same-length-5 c = search needs
 
 same-length-6 : tie.Need-same-length-6 Inv-loop μ-loop
-same-length-6 c = c .before .loop .inv .2
+same-length-6 c = search needs
+
+same-length-7 : tie.Need-same-length-7 Inv-loop μ-loop
+same-length-7 c = search needs
+
+same-length-8 : tie.Need-same-length-8 Inv-loop μ-loop
+same-length-8 c = search needs
 
 returns-2 : tie.Need-returns-2 Inv-loop μ-loop
 returns-2 c = search needs
@@ -94,6 +88,7 @@ take-steps-spec =
     loop-holds
     next-requires
     choose-requires
+    note-requires
     take-requires
     enum-known-r
     enum-known-reason
@@ -102,11 +97,13 @@ take-steps-spec =
     same-length
     same-length-2
     same-length-3
+    same-length-4
     returns
     add-taken
     loop-less
     loop-again
-    same-length-4
     same-length-5
     same-length-6
+    same-length-7
+    same-length-8
     returns-2)

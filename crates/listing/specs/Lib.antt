@@ -1,0 +1,2 @@
+-- What a list of choices means.
+pub mod Listing
