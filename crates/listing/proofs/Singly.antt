@@ -97,7 +97,8 @@ module _ (plan score spans : List ℕ) where
   all-taken [] w e = refl
   all-taken (i ∷ is) w e = go (step i w) (λ v. all-taken is v)
     where
-      go : Step i w → ((v : Walk) → accepted plan score spans is v ≡ length is → listed plan score spans is v ≡ allOf (length is) (run plan score spans is v))
+      go : Step i w
+          → ((v : Walk) → accepted plan score spans is v ≡ length is → listed plan score spans is v ≡ allOf (length is) (run plan score spans is v))
           → listed plan score spans (i ∷ is) w ≡ allOf (suc (length is)) (run plan score spans (i ∷ is) w)
       go (takes v d) ih =
           let a = takes-accepted i is w v d in

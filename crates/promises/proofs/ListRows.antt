@@ -40,7 +40,8 @@ module _ (plan score spans : List ℕ) where
       refused : (r : Reason) → stepped plan score spans i w ≡ refuseWalk r w → ⊥
       refused r d = let a = stops-accepted plan score spans i is w r d in let b = accepted-most plan score spans is w in omega arith
 
-      go : StepIs plan score spans i w → ((u : Walk) → accepted plan score spans is u ≡ length is → AllTaken plan score spans is u (run plan score spans is u))
+      go : StepIs plan score spans i w
+          → ((u : Walk) → accepted plan score spans is u ≡ length is → AllTaken plan score spans is u (run plan score spans is u))
           → AllTaken plan score spans (i ∷ is) w (run plan score spans (i ∷ is) w)
       go (is-32 h) ih = absurd (refused NoSuchItem (step-32 plan score spans i w h))
       go (is-34 h n) ih = absurd (refused OutOfRange (step-34 plan score spans i w h n))

@@ -5,6 +5,7 @@
 --   paperOf wordsFor   the paper's construction for the shapes that shape words hold; its plan's words
 --   StartRow    31, 30; or a walk that is begun
 --   StepRow     32, 34; or a step, by `StepFound`
+--   recorded    a walk's record, as values
 --   AllTaken ListRow   each of these choices is taken, one after the other; 32 or 34 at the first choice that is not; or all are taken
 --   CountRow    31, 30; or the number of matches
 --   ClashRow    19, 31, 30; 35 for a bit that is no match; or the number of matches that clash, by the terms
@@ -12,7 +13,8 @@
 --   LineRow     30 for a buffer under 1,400 bytes (docs/DECISIONS.md); or the line
 --   MatchRow    30; 34 for a node to which no path leads by the spans lent; or the line with the path that does
 --   FoundRow    34; or what is found: in `Found`, for subtree, the plan readers and a position's child
---   openTold buildTold walkTold listTold   what opening, building, starting, stepping and a list of choices say and leave; building leaves the plan's buffer and scratch
+--   openTold buildTold walkTold listTold   what opening, building, starting and stepping, and a list of choices say and leave; building leaves the plan's
+--               buffer and scratch
 use mathlib.Core.Path.{_≡_}
 use mathlib.Core.List.{List, [], _∷_, _++_, map}
 use mathlib.Core.Option.{some}
@@ -161,7 +163,8 @@ pub data StepRow (plan score spans : List ℕ) (i : ℕ) (w : Walk) : Told Walk 
 module _ (plan score spans : List ℕ) where
   pub data AllTaken : List ℕ → Walk → Walk → Type 0 where
     none : {w : Walk} → AllTaken [] w w
-    then : {i : ℕ} {is : List ℕ} {w u v : Walk} → i < w .count .waiting → StepFound plan score spans i w u → AllTaken is u v → AllTaken (i ∷ is) w v
+    then : {i : ℕ} {is : List ℕ} {w u v : Walk} → i < w .count .waiting → StepFound plan score spans i w u → AllTaken is u v
+        → AllTaken (i ∷ is) w v
 
   pub data ListRow (choices : List ℕ) (w : Walk) : Told Walk → Type 0 where
     list-32 : (k i : ℕ) → getElem? choices k ≡ some i → (v : Walk) → AllTaken (take k choices) w v → v .count .waiting ≤ i

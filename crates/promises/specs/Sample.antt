@@ -1,4 +1,5 @@
--- The sample folio: P1 to P10 of document 01, the whole plan and the whole report, the plan's readers and a list of choices on it, as one table of the definitions with one claim.
+-- The sample folio: P1 to P10 of document 01, the whole plan and the whole report, the plan's readers and a list of choices on it, as one table of the
+-- definitions with one claim.
 --   file      the 49 bytes
 --   table     what the definitions give: from the file its opening, from that the building, from that the plan, from that the walks and the report
 --   claimed   what documents 01 and 02 say
@@ -126,7 +127,8 @@ claimed =
     ∷ (0 ∷ 1 ∷ [])
     ∷ (1 ∷ 0 ∷ [])
     ∷ (32 ∷ 0 ∷ [])
-    ∷ (32 ∷ 6 ∷ 6 ∷ 3 ∷ 6 ∷ []) ∷ (0 ∷ 4 ∷ 1 ∷ 6 ∷ 2 ∷ 6 ∷ nines 14) ∷ (0 ∷ 1 ∷ 5 ∷ 2 ∷ 3 ∷ 6 ∷ nines 4) ∷ (3 ∷ 1 ∷ replicate 8 0) ∷ (0 ∷ 0 ∷ 1 ∷ 0 ∷ [])
+    ∷ (32 ∷ 6 ∷ 6 ∷ 3 ∷ 6 ∷ []) ∷ (0 ∷ 4 ∷ 1 ∷ 6 ∷ 2 ∷ 6 ∷ nines 14) ∷ (0 ∷ 1 ∷ 5 ∷ 2 ∷ 3 ∷ 6 ∷ nines 4)
+    ∷ (3 ∷ 1 ∷ replicate 8 0) ∷ (0 ∷ 0 ∷ 1 ∷ 0 ∷ [])
     ∷ (0 ∷ 3 ∷ 2 ∷ 9 ∷ 10 ∷ 4 ∷ 2 ∷ []) ∷ shapeWords ∷ starts ∷ score ∷ spans
     ∷ (0 ∷ 3 ∷ 56 ∷ []) ∷ (plan ++ (9 ∷ []))
     ∷ (0 ∷ 4 ∷ []) ∷ (0 ∷ 3 ∷ [])

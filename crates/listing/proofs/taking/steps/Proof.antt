@@ -12,7 +12,8 @@ use Rattle.listing.proofs.taking.steps.Tie as tie
 
 abbrev Inv-loop : tie.InvT-loop
 Inv-loop plan score spans waiting₀ log₀ marks₀ choices last₀ i₀ i-end waiting log marks last i =
-    (listed plan score spans choices (walkOf waiting₀ log₀ marks₀ last₀) ≡ after i (listed plan score spans (drop i choices) (walkOf waiting log marks last)))
+    (listed plan score spans choices (walkOf waiting₀ log₀ marks₀ last₀)
+    ≡ after i (listed plan score spans (drop i choices) (walkOf waiting log marks last)))
     × (i ≤ i-end) × (length waiting ≡ length waiting₀) × (length log ≡ length log₀) × (length marks ≡ length marks₀)
 
 abbrev μ-loop : tie.MeasureT-loop
@@ -47,11 +48,10 @@ same-length-3 c = search needs
 
 returns : tie.Need-returns Inv-loop μ-loop
 returns c =
-    let entry = c .before .before .before .before .before .before .before .before .before .before .before .before .before .before .before .before .before .before .before .before .before .before .before in
     let at-loop = c .before .before .before .before .before .before .before .before .before .before .before .before .before .before .before .loop in
     let at-loop-test = c .before .before .before .before .before .before .before .before .before .before .before .before .before .before .loop-test in
     let at-step = c .before .before .before .before .before .before .before .before .before .step in
-    sym (at-loop .inv .0 ∙ law.stops (entry .args .plan .now) (entry .args .score .now) (entry .args .spans .now) (entry .args .choices .now) (at-loop .i) _ (at-loop-test .taken) _ _ _ _ _ (at-step .ensures) (c .before .why .given .1))
+    sym (at-loop .inv .0 ∙ law.stops _ _ _ _ _ _ (at-loop-test .taken) _ _ _ _ _ (at-step .ensures) (c .before .why .given .1))
 
 enum-known-next : tie.Need-enum-known-next Inv-loop μ-loop
 enum-known-next c = search needs
@@ -64,11 +64,15 @@ loop-less c = search needs
 
 loop-again : tie.Need-loop-again Inv-loop μ-loop
 loop-again c =
-    let entry = c .before .before .before .before .before .before .before .before .before .before .before .before .before .before .before .before .before .before .before .before .before .before .before in
     let at-loop = c .before .before .before .before .before .before .before .before .before .before .before .before .before .before .before .loop in
     let at-loop-test = c .before .before .before .before .before .before .before .before .before .before .before .before .before .before .loop-test in
-    let at-step = c .before .before .before .before .before .before .before .before .before .step in
-    (at-loop .inv .0 ∙ law.next (entry .args .plan .now) (entry .args .score .now) (entry .args .spans .now) (entry .args .choices .now) (at-loop .i) _ (at-loop-test .taken) _ _ _ _ _ (at-step .ensures) (c .before .next .given .1), omega arith, search needs, search needs, search needs)
+    let at-step = c .before .before .before .before .before .before .before .before .before .step in (
+      at-loop .inv .0 ∙ law.next _ _ _ _ _ _ (at-loop-test .taken) _ _ _ _ _ (at-step .ensures) (c .before .next .given .1),
+      omega arith,
+      search needs,
+      search needs,
+      search needs,
+    )
 
 same-length-4 : tie.Need-same-length-4 Inv-loop μ-loop
 same-length-4 c = search needs
@@ -80,9 +84,7 @@ same-length-6 : tie.Need-same-length-6 Inv-loop μ-loop
 same-length-6 c = search needs
 
 returns-2 : tie.Need-returns-2 Inv-loop μ-loop
-returns-2 c =
-    let entry = c .before .before .before .before .before .before .before .before .before in
-    sym (c .before .loop .inv .0 ∙ law.none-left (entry .args .plan .now) (entry .args .score .now) (entry .args .spans .now) (entry .args .choices .now) (c .before .loop .i) _ (c .before .loop .inv .1) (c .loop-test .left))
+returns-2 c = sym (c .before .loop .inv .0 ∙ law.none-left _ _ _ _ _ _ (c .before .loop .inv .1) (c .loop-test .left))
 
 pub steps-spec : {M : Type 1} → statement M
 steps-spec =
