@@ -26,15 +26,15 @@ use Rattle.walk.specs.Stepping.{tried, stepped, run, one, accepted}
 use Rattle.listing.specs.Listing.{ListOutcome, acceptedIn, allOf, stopOf, oneMore, followed, listed, runLists, singly, acceptedBy}
 
 -- one more was accepted before
-abbrev pub further : ListOutcome → ListOutcome
+abbrev further : ListOutcome → ListOutcome
 further o = record { answer = oneMore (o .answer); walk = o .walk }
 
 module _ (plan score spans : List ℕ) where
-  pub data Step (i : ℕ) (w : Walk) : Type 0 where
+  data Step (i : ℕ) (w : Walk) : Type 0 where
     takes : (v : Walk) → stepped plan score spans i w ≡ goOn v → Step i w
     stops : (r : Reason) → stepped plan score spans i w ≡ refuseWalk r w → Step i w
 
-  pub step : (i : ℕ) (w : Walk) → Step i w
+  step : (i : ℕ) (w : Walk) → Step i w
   unfolding stepped
   step i w = go (ltb i (w .count .waiting)) refl (tried plan score spans i w) refl
     where
@@ -45,7 +45,7 @@ module _ (plan score spans : List ℕ) where
 
   -- ---- a list whose first choice is taken, or refused
   module _ (i : ℕ) (is : List ℕ) (w v : Walk) (e : stepped plan score spans i w ≡ goOn v) where
-    pub takes-listed : listed plan score spans (i ∷ is) w ≡ further (listed plan score spans is v)
+    takes-listed : listed plan score spans (i ∷ is) w ≡ further (listed plan score spans is v)
     unfolding listed
     takes-listed = ap (λ (o : WalkOutcome). followed (o .answer) (o .walk) (listed plan score spans is (o .walk))) e
 
@@ -61,7 +61,7 @@ module _ (plan score spans : List ℕ) where
         ap (λ (o : WalkOutcome). one (o .answer) + accepted plan score spans is (o .walk)) e ∙ z
 
   module _ (i : ℕ) (is : List ℕ) (w : Walk) (r : Reason) (e : stepped plan score spans i w ≡ refuseWalk r w) where
-    pub stops-listed : listed plan score spans (i ∷ is) w ≡ stopOf r 0 w
+    stops-listed : listed plan score spans (i ∷ is) w ≡ stopOf r 0 w
     unfolding listed
     stops-listed = ap (λ (o : WalkOutcome). followed (o .answer) (o .walk) (listed plan score spans is (o .walk))) e
 

@@ -1,8 +1,8 @@
 -- A list from its k-th choice on, where the k before it were accepted: what `steps` does in a turn.
 --   past after              an answer, and an outcome, where n more were accepted before; after-none: where none were
 --   next stops none-left    the k-th choice is accepted, is refused, is not there
-use mathlib.Core.Path.{_≡_, refl, ap, sym, _∙_}
-use mathlib.Core.List.{List, [], _∷_}
+use mathlib.Core.Path.{_≡_, ap, sym, _∙_}
+use mathlib.Core.List.{List}
 use Prim.Native.Nat.{ℕ, suc, _+_, _<_, _≤_}
 use native.Mathlib.Omega.{arith}
 use native.Mathlib.Nat.{add-zero, zero-add}

@@ -1,16 +1,16 @@
 -- Demand 3 by lists of choices: what any lists say, one after the other, is what their accepted choices say singly.
 use mathlib.Core.Path.{_≡_, ap, sym, _∙_}
-use mathlib.Core.List.{List, [], _∷_, _++_}
+use mathlib.Core.List.{List, _∷_, _++_}
 use mathlib.Core.Option.{some}
 use Prim.Native.Nat.{ℕ, _+_, _≤_}
 use native.Mathlib.Omega.{arith}
 use lib.ListN.{length, getElem?, take}
-use Rattle.kinds.specs.Reasons.{Says, gives, refusalWith}
+use Rattle.kinds.specs.Reasons.{gives, refusalWith}
 use Rattle.kinds.specs.declared.Reason.the-variants.{NoSuchItem}
-use Rattle.walk.specs.Starting.{Walk, WalkOutcome, walkedSays}
+use Rattle.walk.specs.Starting.{WalkOutcome, walkedSays}
 use Rattle.walk.specs.Stepping.{stepped, run, accepted}
 use Rattle.listing.specs.Listing.{ListOutcome, allOf, stopOf, listedSays}
-use Rattle.listing.proofs.Singly.{StopsAt, Ends, all, stop, ends, run-append, accepted-append, all-taken, stopped, lists-run, lists-number, lists-length}
+use Rattle.listing.proofs.Singly.{Ends, all, stop, ends, run-append, accepted-append, all-taken, stopped, lists-run, lists-number, lists-length}
 use Rattle.promises.specs.Told.{told}
 use Rattle.promises.specs.Demand1.{listTold, recorded}
 use Rattle.promises.specs.OneFile.{OneFile, nodesIn, spansIn, lentIn, begunIn, after, stepAfter, acceptedIn, afterLists, listAfter, singlyIn, acceptedByLists}

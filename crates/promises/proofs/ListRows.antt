@@ -4,7 +4,7 @@
 use mathlib.Core.Path.{_≡_, refl, ap, sym, _∙_}
 use mathlib.Core.List.{List, [], _∷_}
 use mathlib.Core.Option.{some}
-use Prim.Native.Nat.{ℕ, suc, _<_, _≤_}
+use Prim.Native.Nat.{ℕ}
 use native.Mathlib.Omega.{arith}
 use lib.ListN.{length, getElem?, take}
 use lib.Seq.{length-take-le}
@@ -14,8 +14,7 @@ use Rattle.kinds.specs.declared.Reason.the-variants.{NoSuchItem, OutOfRange}
 use Rattle.walk.specs.Starting.{Walk, WalkOutcome, refuseWalk}
 use Rattle.walk.specs.Stepping.{stepped, run, one, accepted}
 use Rattle.listing.specs.Listing.{listed, allOf, stopOf}
-use Rattle.listing.proofs.Singly.{StopsAt, Ends, all, stop, ends, takes-run, takes-accepted, stops-accepted, accepted-most, all-taken, stopped}
-use Rattle.promises.specs.StepFound.{StepFound}
+use Rattle.listing.proofs.Singly.{Ends, all, stop, ends, takes-run, takes-accepted, stops-accepted, accepted-most, all-taken, stopped}
 use Rattle.promises.specs.Demand1 as rows
 use Rattle.promises.specs.Demand1.{AllTaken, ListRow, listTold}
 use Rattle.promises.specs.Told.{By, Told}

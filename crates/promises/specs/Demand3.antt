@@ -16,7 +16,7 @@
 --   list-refused    if the k-th is the first that is not below the number waiting, it says 32 at k, and the walk is the one after the k before it
 --   list-never-34   no list is refused 34
 use mathlib.Core.Path.{_≡_}
-use mathlib.Core.List.{List, [], _∷_, _++_}
+use mathlib.Core.List.{List, _∷_, _++_}
 use mathlib.Core.Logic.{_↔_}
 use Prim.Native.Nat.{ℕ, suc, _+_, _<_, _≤_}
 use mathlib.Core.Option.{some}
