@@ -15,13 +15,15 @@ size_t stage_start(const uint8_t *, size_t, const uint16_t *, size_t, const uint
                    uint16_t *, size_t);
 size_t stage_step(const uint16_t *, size_t, const uint16_t *, size_t, const uint16_t *, size_t, uint16_t *, size_t, uint16_t *, size_t,
                   uint16_t *, size_t, size_t, size_t, size_t);
+size_t stage_list(const uint16_t *, size_t, const uint16_t *, size_t, const uint16_t *, size_t, uint16_t *, size_t, uint16_t *, size_t,
+                  uint16_t *, size_t, const uint16_t *, size_t);
 size_t stage_count(const uint8_t *, size_t, const uint16_t *, size_t, const uint16_t *, size_t, const uint16_t *, size_t, const uint16_t *, size_t,
                    const uint16_t *, size_t);
 
 enum { ROUNDS = 200, UNTOUCHED = 0xA5 };
 
 static uint8_t file[8745];
-static uint16_t words[256], starts[16], score[4096], spans[4096], plan[32768], scratch[32768], waiting[8192], logged[4096], marks[4096];
+static uint16_t words[256], starts[16], score[4096], spans[4096], plan[32768], scratch[32768], waiting[8192], logged[4096], marks[4096], choices[4096];
 static size_t length, symbols, shape_words, shapes, nodes, plan_words;
 
 static size_t open_file(void) { return stage_open(BYTES(file, length), WORDS(words, 256), WORDS(starts, 16), WORDS(score, 4096), WORDS(spans, 4096)); }
@@ -37,16 +39,28 @@ static size_t build_plan(void) {
     return stage_build(BYTES(file, symbols), WORDS(words, shape_words), WORDS(starts, shapes), WORDS(plan, 32768), WORDS(scratch, 32768));
 }
 
-// The last item is taken each time, as in find.
+static size_t start_walk(void) {
+    return stage_start(BYTES(file, symbols), WORDS(score, nodes), WORDS(spans, nodes), WORDS(waiting, 8192), WORDS(logged, 4096), WORDS(marks, 4096));
+}
+
+// The last item is taken each time, as in find; what was chosen is noted for the list.
 static size_t walk_score(void) {
-    size_t more = stage_start(BYTES(file, symbols), WORDS(score, nodes), WORDS(spans, nodes), WORDS(waiting, 8192), WORDS(logged, 4096), WORDS(marks, 4096));
+    size_t more = start_walk();
     size_t done = 0;
     while (more > 1) {
+        choices[done] = (uint16_t)(more - 2);
         more = stage_step(WORDS(plan, plan_words), WORDS(score, nodes), WORDS(spans, nodes), WORDS(waiting, 8192), WORDS(logged, 4096), WORDS(marks, 4096),
                           more - 1, done, more - 2);
         done++;
     }
     return more == 1 ? done : 0;
+}
+
+// The same choices in one call.
+static size_t walk_list(void) {
+    if (start_walk() == 0) return 0;
+    return stage_list(WORDS(plan, plan_words), WORDS(score, nodes), WORDS(spans, nodes), WORDS(waiting, 8192), WORDS(logged, 4096), WORDS(marks, 4096),
+                      WORDS(choices, nodes));
 }
 
 static size_t count_marks(void) {
@@ -111,6 +125,7 @@ int main(void) {
     shapes = count_shapes();
     plan_words = row("build", build_plan, "plan words");
     row("walk", walk_score, "steps");
+    row("list", walk_list, "steps");
     row("count", count_marks, "matches");
     printf("build's stack: %zu bytes\n", touched(build_alone) - touched(nothing));
     return 0;

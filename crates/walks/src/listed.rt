@@ -32,6 +32,11 @@ fn place(taken: usize) -> usize {
     taken + taken / 7
 }
 
+// The choices noted over n nodes, with the last one, which is refused.
+pub fn noted(choices: &[u16], n: usize) -> &[u16] {
+    first_words(choices, add(place(n), 1))
+}
+
 pub fn walk_lists(
     symbols: &[u8],
     plan: &[u16],
@@ -56,7 +61,6 @@ pub fn walk_lists(
             show(b"no start ", number(reason) as usize);
         }
         Walked::On(r) => {
-            let noted = first_words(choices, add(place(score.len()), 1));
             take_lists(
                 plan,
                 score,
@@ -65,7 +69,7 @@ pub fn walk_lists(
                 &mut log_now,
                 &mut marks_now,
                 r,
-                noted,
+                choices,
             );
             show_same(equal(log, &log_now), b" the same log");
             show_same(equal(marks, &marks_now), b" the same marks\n");

@@ -23,6 +23,7 @@ use bufferstone::step;
 use libc::STDOUT_FILENO;
 use listed::CHOICES;
 use listed::note;
+use listed::noted;
 use listed::walk_lists;
 use running::showing::show;
 use running::texts::first;
@@ -167,7 +168,8 @@ fn walk_again(
     } else {
         show_marks(&marks, score.len());
     }
-    walk_lists(symbols, plan, score, spans, &choices, &log, &marks);
+    let all = noted(&choices, score.len());
+    walk_lists(symbols, plan, score, spans, all, &log, &marks);
 }
 
 fn walk_whole(
