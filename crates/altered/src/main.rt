@@ -20,9 +20,9 @@ use running::texts::before;
 use running::texts::behind;
 use running::texts::ended;
 use running::texts::first;
-use running::texts::first_words;
 use running::texts::next_from;
 use running::texts::value_of;
+use running::words::first_words;
 
 mod changing; // the changes of a table
 

@@ -1,109 +1,51 @@
 -- A list is its accepted choices, taken singly.
---   Step step              a choice is taken, or refused and nothing changes
---   takes-… stops-…        a list whose first choice is taken, or refused
---   run-append accepted-append   choices one after the other
+--   takes-listed stops-listed   a list whose first choice is taken, or refused
 --   all-taken              what a list comes to whose choices are all accepted singly
 --   StopsAt stopped        and one whose choices are accepted up to one that is refused
 --   Ends ends              each list is one of the two
 --   Singly one-list        its accepted choices are all accepted singly, and leave the same walk
 --   lists-run lists-number lists-length   the same of any lists, one after the other
 use mathlib.Core.Path.{_≡_, refl, ap, ap₂, sym, _∙_, subst}
-use mathlib.Core.Bool.{Bool, true, false}
-use mathlib.Core.List.{List, [], _∷_, _++_}
-use mathlib.Core.Option.{Option, none, some}
+use mathlib.Core.List.{List, [], _∷_}
+use mathlib.Core.Option.{some}
 use Prim.Native.Nat.{ℕ, zero, suc, _+_, _≤_}
 use native.Mathlib.Omega.{arith}
-use native.Mathlib.Nat.{zero-add}
-use lib.Dec.{ltb}
 use lib.ListN.{length, getElem?, take, length-append}
 use lib.Seq.{take-length, length-take-le}
 use Rattle.kinds.specs.declared.Reason.{Reason}
-use Rattle.kinds.specs.declared.Reason.the-variants.{NoSuchItem, OutOfRange}
 use Rattle.kinds.proofs.Options.{none-not}
 use Rattle.kinds.proofs.Places.{at-below}
 use Rattle.walk.specs.Starting.{Walk, WalkOutcome, refuseWalk, goOn}
-use Rattle.walk.specs.Stepping.{tried, stepped, run, one, accepted}
-use Rattle.listing.specs.Listing.{ListOutcome, acceptedIn, allOf, stopOf, oneMore, followed, listed, runLists, singly, acceptedBy}
-
--- one more was accepted before
-abbrev further : ListOutcome → ListOutcome
-further o = record { answer = oneMore (o .answer); walk = o .walk }
+use Rattle.walk.specs.Stepping.{stepped, run, accepted}
+use Rattle.walk.proofs.LawsRun.{Step, takes, stops, step, takes-run, takes-accepted, stops-accepted, run-append, accepted-append, accepted-most}
+use Rattle.listing.specs.Listing.{ListOutcome, acceptedIn, allOf, stopOf, further, followed, listed, runLists, singly, acceptedBy}
 
 module _ (plan score spans : List ℕ) where
-  data Step (i : ℕ) (w : Walk) : Type 0 where
-    takes : (v : Walk) → stepped plan score spans i w ≡ goOn v → Step i w
-    stops : (r : Reason) → stepped plan score spans i w ≡ refuseWalk r w → Step i w
-
-  step : (i : ℕ) (w : Walk) → Step i w
-  unfolding stepped
-  step i w = go (ltb i (w .count .waiting)) refl (tried plan score spans i w) refl
-    where
-      go : (b : Bool) → ltb i (w .count .waiting) ≡ b → (o : Option Walk) → tried plan score spans i w ≡ o → Step i w
-      go false e o d = stops NoSuchItem (rw e refl)
-      go true e none d = stops OutOfRange (rw (e, d) refl)
-      go true e (some v) d = takes v (rw (e, d) refl)
-
   -- ---- a list whose first choice is taken, or refused
   module _ (i : ℕ) (is : List ℕ) (w v : Walk) (e : stepped plan score spans i w ≡ goOn v) where
     takes-listed : listed plan score spans (i ∷ is) w ≡ further (listed plan score spans is v)
     unfolding listed
     takes-listed = ap (λ (o : WalkOutcome). followed (o .answer) (o .walk) (listed plan score spans is (o .walk))) e
 
-    pub takes-run : run plan score spans (i ∷ is) w ≡ run plan score spans is v
-    unfolding run
-    takes-run = ap (λ (o : WalkOutcome). run plan score spans is (o .walk)) e
-
-    pub takes-accepted : accepted plan score spans (i ∷ is) w ≡ suc (accepted plan score spans is v)
-    unfolding accepted
-    takes-accepted =
-        let n = accepted plan score spans is v in
-        let z : 1 + n ≡ suc n = omega arith in
-        ap (λ (o : WalkOutcome). one (o .answer) + accepted plan score spans is (o .walk)) e ∙ z
-
   module _ (i : ℕ) (is : List ℕ) (w : Walk) (r : Reason) (e : stepped plan score spans i w ≡ refuseWalk r w) where
     stops-listed : listed plan score spans (i ∷ is) w ≡ stopOf r 0 w
     unfolding listed
     stops-listed = ap (λ (o : WalkOutcome). followed (o .answer) (o .walk) (listed plan score spans is (o .walk))) e
-
-    pub stops-accepted : accepted plan score spans (i ∷ is) w ≡ accepted plan score spans is w
-    unfolding accepted
-    stops-accepted = ap (λ (o : WalkOutcome). one (o .answer) + accepted plan score spans is (o .walk)) e ∙ zero-add (accepted plan score spans is w)
-
-  -- ---- choices one after the other
-  pub run-append : (is js : List ℕ) (w : Walk) → run plan score spans (is ++ js) w ≡ run plan score spans js (run plan score spans is w)
-  unfolding run
-  run-append [] js w = refl
-  run-append (i ∷ is) js w = run-append is js (stepped plan score spans i w .walk)
-
-  pub accepted-append : (is js : List ℕ) (w : Walk)
-      → accepted plan score spans (is ++ js) w ≡ accepted plan score spans is w + accepted plan score spans js (run plan score spans is w)
-  unfolding accepted run
-  accepted-append [] js w = sym (zero-add (accepted plan score spans js w))
-  accepted-append (i ∷ is) js w = let ih = accepted-append is js (stepped plan score spans i w .walk) in omega arith
-
-  pub accepted-most : (is : List ℕ) (w : Walk) → accepted plan score spans is w ≤ length is
-  unfolding accepted
-  accepted-most [] w = omega arith
-  accepted-most (i ∷ is) w = go (step i w) (λ v. accepted-most is v)
-    where
-      go : Step i w → ((v : Walk) → accepted plan score spans is v ≤ length is) → accepted plan score spans (i ∷ is) w ≤ suc (length is)
-      go (takes v e) ih = let a = takes-accepted i is w v e in let b = ih v in omega arith
-      go (stops r e) ih = let a = stops-accepted i is w r e in let b = ih w in omega arith
 
   -- ---- what a list comes to
   pub all-taken : (is : List ℕ) (w : Walk) → accepted plan score spans is w ≡ length is
       → listed plan score spans is w ≡ allOf (length is) (run plan score spans is w)
   unfolding listed run
   all-taken [] w e = refl
-  all-taken (i ∷ is) w e = go (step i w) (λ v. all-taken is v)
+  all-taken (i ∷ is) w e = go (step plan score spans i w) (λ v. all-taken is v)
     where
-      go : Step i w
+      go : Step plan score spans i w
           → ((v : Walk) → accepted plan score spans is v ≡ length is → listed plan score spans is v ≡ allOf (length is) (run plan score spans is v))
           → listed plan score spans (i ∷ is) w ≡ allOf (suc (length is)) (run plan score spans (i ∷ is) w)
       go (takes v d) ih =
-          let a = takes-accepted i is w v d in
-          takes-listed i is w v d ∙ ap further (ih v (omega arith)) ∙ ap (allOf (suc (length is))) (sym (takes-run i is w v d))
-      go (stops r d) ih = let a = stops-accepted i is w r d in let b = accepted-most is w in absurd (omega arith)
+          let a = takes-accepted plan score spans i is w v d in
+          takes-listed i is w v d ∙ ap further (ih v (omega arith)) ∙ ap (allOf (suc (length is))) (sym (takes-run plan score spans i is w v d))
+      go (stops r d) ih = let a = stops-accepted plan score spans i is w r d in let b = accepted-most plan score spans is w in absurd (omega arith)
 
   -- the k-th choice is refused, and the k before it are accepted
   pub record StopsAt (is : List ℕ) (w : Walk) (k : ℕ) (r : Reason) : Type 0 where
@@ -119,13 +61,13 @@ module _ (plan score spans : List ℕ) where
   stopped (j ∷ is) w zero r s =
       let z : s .choice ≡ j = cc in
       stops-listed j is w r (subst (λ i. stepped plan score spans i w ≡ refuseWalk r w) z (s .refused))
-  stopped (j ∷ is) w (suc k) r s = go (step j w) (λ v. stopped is v k r)
+  stopped (j ∷ is) w (suc k) r s = go (step plan score spans j w) (λ v. stopped is v k r)
     where
-      go : Step j w → ((v : Walk) → StopsAt is v k r → listed plan score spans is v ≡ stopOf r k (run plan score spans (take k is) v))
+      go : Step plan score spans j w → ((v : Walk) → StopsAt is v k r → listed plan score spans is v ≡ stopOf r k (run plan score spans (take k is) v))
           → listed plan score spans (j ∷ is) w ≡ stopOf r (suc k) (run plan score spans (j ∷ take k is) w)
       go (takes v d) ih =
-          let a = takes-accepted j (take k is) w v d in
-          let b = takes-run j (take k is) w v d in
+          let a = takes-accepted plan score spans j (take k is) w v d in
+          let b = takes-run plan score spans j (take k is) w v d in
           takes-listed j is w v d
           ∙ ap further (ih v (record {
             choice = s .choice;
@@ -135,8 +77,8 @@ module _ (plan score spans : List ℕ) where
           }))
           ∙ ap (stopOf r (suc k)) (sym b)
       go (stops q d) ih =
-          let a = stops-accepted j (take k is) w q d in
-          let b = accepted-most (take k is) w in
+          let a = stops-accepted plan score spans j (take k is) w q d in
+          let b = accepted-most plan score spans (take k is) w in
           let h = at-below is k (s .there) in
           let l = length-take-le k is (omega arith) in
           absurd (omega (arith, a, b, l, s .taken))
@@ -148,20 +90,20 @@ module _ (plan score spans : List ℕ) where
   pub ends : (is : List ℕ) (w : Walk) → Ends is w
   unfolding accepted run
   ends [] w = all refl
-  ends (i ∷ is) w = go (step i w) (λ v. ends is v)
+  ends (i ∷ is) w = go (step plan score spans i w) (λ v. ends is v)
     where
       on : (v : Walk) → stepped plan score spans i w ≡ goOn v → Ends is v → Ends (i ∷ is) w
-      on v d (all e) = let a = takes-accepted i is w v d in all (omega arith)
+      on v d (all e) = let a = takes-accepted plan score spans i is w v d in all (omega arith)
       on v d (stop k r s) =
-          let a = takes-accepted i (take k is) w v d in
+          let a = takes-accepted plan score spans i (take k is) w v d in
           stop (suc k) r (record {
             choice = s .choice;
             there = s .there;
             taken = omega (arith, a, s .taken);
-            refused = subst (λ u. stepped plan score spans (s .choice) u ≡ refuseWalk r u) (sym (takes-run i (take k is) w v d)) (s .refused);
+            refused = subst (λ u. stepped plan score spans (s .choice) u ≡ refuseWalk r u) (sym (takes-run plan score spans i (take k is) w v d)) (s .refused);
           })
 
-      go : Step i w → ((v : Walk) → Ends is v) → Ends (i ∷ is) w
+      go : Step plan score spans i w → ((v : Walk) → Ends is v) → Ends (i ∷ is) w
       go (takes v d) ih = on v d (ih v)
       go (stops r d) ih = stop 0 r (record { choice = i; there = refl; taken = refl; refused = d })
 
@@ -187,7 +129,7 @@ module _ (plan score spans : List ℕ) where
       let o : ListOutcome = listed plan score spans is w in
       let rest = singly plan score spans ls (o .walk) in
       lists-run ls (o .walk) ∙ ap (run plan score spans rest) (one-list is w .walk-is)
-      ∙ sym (run-append (take (acceptedIn (o .answer)) is) rest w)
+      ∙ sym (run-append plan score spans (take (acceptedIn (o .answer)) is) rest w)
 
   pub lists-number : (ls : List (List ℕ)) (w : Walk) → acceptedBy plan score spans ls w ≡ accepted plan score spans (singly plan score spans ls w) w
   unfolding acceptedBy singly accepted
@@ -196,7 +138,7 @@ module _ (plan score spans : List ℕ) where
       let o : ListOutcome = listed plan score spans is w in
       let rest = singly plan score spans ls (o .walk) in
       ap₂ (λ a b. a + b) (sym (one-list is w .each)) (lists-number ls (o .walk) ∙ ap (accepted plan score spans rest) (one-list is w .walk-is))
-      ∙ sym (accepted-append (take (acceptedIn (o .answer)) is) rest w)
+      ∙ sym (accepted-append plan score spans (take (acceptedIn (o .answer)) is) rest w)
 
   pub lists-length : (ls : List (List ℕ)) (w : Walk) → acceptedBy plan score spans ls w ≡ length (singly plan score spans ls w)
   unfolding acceptedBy singly

@@ -3,7 +3,8 @@
 --   acceptedIn recordIn    of an answer: how many choices were accepted, the record after them
 --   listOutcome            the outcome of a call, from its answer and the buffers that it leaves
 --   allOf stopOf           k choices were accepted: and these were all; and the one behind them was refused
---   oneMore followed       one more was accepted before these; the first choice, and the others after it
+--   oneMore further        an answer, and an outcome, where one more was accepted before
+--   followed               the first choice, and the others after it
 --   listed                 `stepped`, one choice after the other: "here it is only the refused choice that writes nothing"
 --   listedSays             the answer in numbers: "the answer, refused or not, gives how many were accepted"; a refusal is "at the choice's index"
 --   runLists               any lists, one after the other, each lent what the one before left
@@ -46,9 +47,12 @@ abbrev pub oneMore : Listed → Listed
 oneMore (All k c) = All (suc k) c
 oneMore (Refused r k c) = Refused r (suc k) c
 
+abbrev pub further : ListOutcome → ListOutcome
+further o = record { answer = oneMore (o .answer); walk = o .walk }
+
 -- what the first choice came to, and what the others come to after it
 abbrev pub followed : Walked → Walk → ListOutcome → ListOutcome
-followed (step.On c) w others = record { answer = oneMore (others .answer); walk = others .walk }
+followed (step.On c) w others = further others
 followed (step.Refused r) w others = stopOf r 0 w
 
 unfoldable pub listed : List ℕ → List ℕ → List ℕ → List ℕ → Walk → ListOutcome

@@ -13,8 +13,8 @@ use bufferstone::start;
 use running::files::read_folio;
 use running::texts::before;
 use running::texts::first;
-use running::texts::first_words;
 use running::texts::has;
+use running::words::first_words;
 
 // No item has this word: the waiting words that a walk never wrote.
 pub const UNWRITTEN: u16 = 65535;

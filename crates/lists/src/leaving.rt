@@ -2,7 +2,7 @@ use crate::going::UNWRITTEN;
 use running::showing::show;
 use running::showing::show_words;
 use running::showing::write;
-use running::texts::first_words;
+use running::words::first_words;
 
 // The first n words are those of the items waiting; what is written behind them was left there by others.
 pub fn show_waiting(words: &[u16], n: usize) {

@@ -21,11 +21,11 @@ use running::showing::write;
 use running::texts::before;
 use running::texts::behind;
 use running::texts::ended;
-use running::texts::first_room;
-use running::texts::first_words;
 use running::texts::has;
 use running::texts::next_from;
 use running::texts::put_numbers;
+use running::words::first_room;
+use running::words::first_words;
 
 mod going; // a walk that is begun
 mod leaving; // what a list leaves behind

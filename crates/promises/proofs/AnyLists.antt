@@ -10,7 +10,8 @@ use Rattle.kinds.specs.declared.Reason.the-variants.{NoSuchItem}
 use Rattle.walk.specs.Starting.{WalkOutcome, walkedSays}
 use Rattle.walk.specs.Stepping.{stepped, run, accepted}
 use Rattle.listing.specs.Listing.{ListOutcome, allOf, stopOf, listedSays}
-use Rattle.listing.proofs.Singly.{Ends, all, stop, ends, run-append, accepted-append, all-taken, stopped, lists-run, lists-number, lists-length}
+use Rattle.walk.proofs.LawsRun.{run-append, accepted-append}
+use Rattle.listing.proofs.Singly.{Ends, all, stop, ends, all-taken, stopped, lists-run, lists-number, lists-length}
 use Rattle.promises.specs.Told.{told}
 use Rattle.promises.specs.Demand1.{listTold, recorded}
 use Rattle.promises.specs.OneFile.{OneFile, nodesIn, spansIn, lentIn, begunIn, after, stepAfter, acceptedIn, afterLists, listAfter, singlyIn, acceptedByLists}

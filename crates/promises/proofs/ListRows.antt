@@ -14,7 +14,8 @@ use Rattle.kinds.specs.declared.Reason.the-variants.{NoSuchItem, OutOfRange}
 use Rattle.walk.specs.Starting.{Walk, WalkOutcome, refuseWalk}
 use Rattle.walk.specs.Stepping.{stepped, run, one, accepted}
 use Rattle.listing.specs.Listing.{listed, allOf, stopOf}
-use Rattle.listing.proofs.Singly.{Ends, all, stop, ends, takes-run, takes-accepted, stops-accepted, accepted-most, all-taken, stopped}
+use Rattle.walk.proofs.LawsRun.{takes-run, takes-accepted, stops-accepted, accepted-most}
+use Rattle.listing.proofs.Singly.{Ends, all, stop, ends, all-taken, stopped}
 use Rattle.promises.specs.Demand1 as rows
 use Rattle.promises.specs.Demand1.{AllTaken, ListRow, listTold}
 use Rattle.promises.specs.Told.{By, Told}

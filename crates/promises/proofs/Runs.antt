@@ -23,7 +23,8 @@ use Rattle.walk.specs.Stepping.{stepped, run}
 use Rattle.walk.specs.declared.Record.{Record}
 use Rattle.walk.specs.declared.Walked.the-variants as walking
 use Rattle.listing.specs.Listing.{ListOutcome, acceptedIn, recordIn, listed}
-use Rattle.listing.proofs.Singly.{one-list, run-append}
+use Rattle.walk.proofs.LawsRun.{run-append}
+use Rattle.listing.proofs.Singly.{one-list}
 use Rattle.folio.proofs.opening.open.Reads as open-folio
 use Rattle.plan.proofs.building.build.Reads as build
 use Rattle.walk.proofs.starting.start.Reads as start

@@ -77,29 +77,6 @@ pub fn first(bytes: &[u8], n: usize) -> &[u8] {
     &bytes[0..n]
 }
 
-pub fn first_words(words: &[u16], n: usize) -> &[u16] {
-    if words.len() < n {
-        return words;
-    }
-    &words[0..n]
-}
-
-// The words behind the first n.
-pub fn behind_words(words: &[u16], n: usize) -> &[u16] {
-    if words.len() < n {
-        return first_words(words, 0);
-    }
-    &words[n..]
-}
-
-// The first n words, or all, to be written in.
-pub fn first_room(words: &mut [u16], n: usize) -> &mut [u16] {
-    if words.len() < n {
-        return words;
-    }
-    &mut words[0..n]
-}
-
 // Puts a text at an index, and gives the index behind it.
 pub fn put_text(text: &[u8], out: &mut [u8], at: usize) -> usize {
     let mut now = at;
@@ -139,58 +116,24 @@ fn with_digit(value: usize, byte: u8) -> usize {
     value * 10 + ((byte - b'0') as usize)
 }
 
-// The numbers that stand in a text, as words; how many they are.
+// The numbers of a text, with spaces between, as words; how many they are.
 pub fn put_numbers(text: &[u8], words: &mut [u16]) -> usize {
     let mut n: usize = 0;
-    let mut inside = false;
+    let mut from: usize = 0;
     for i in 0..text.len() {
-        n = put_digit(text[i], inside, words, n);
-        inside = is_digit(text[i]);
+        n = put_number(ended(text, from, i, b' '), words, n);
+        from = next_from(text, from, i, b' ');
     }
-    n
+    put_number(part(text, from, text.len()), words, n)
 }
 
-fn is_digit(byte: u8) -> bool {
-    if byte < b'0' {
-        return false;
-    }
-    byte <= b'9'
-}
-
-// A digit begins a number, or is the next one of the last number.
-fn put_digit(byte: u8, inside: bool, words: &mut [u16], n: usize) -> usize {
-    if !is_digit(byte) {
-        return n;
-    }
-    if inside {
-        add_digit(byte, words, n);
+fn put_number(digits: &[u8], words: &mut [u16], n: usize) -> usize {
+    if digits.len() == 0 {
         return n;
     }
     if words.len() <= n {
         return n;
     }
-    words[n] = digit_of(byte);
+    words[n] = (value_of(digits) % 65536) as u16;
     n + 1
-}
-
-fn add_digit(byte: u8, words: &mut [u16], n: usize) {
-    if n == 0 {
-        return;
-    }
-    if words.len() < n {
-        return;
-    }
-    words[n - 1] = longer(words[n - 1], digit_of(byte));
-}
-
-fn longer(number: u16, digit: u16) -> u16 {
-    let value = number as u32 * 10 + digit as u32;
-    (value % 65536) as u16
-}
-
-fn digit_of(byte: u8) -> u16 {
-    if byte < b'0' {
-        return 0;
-    }
-    (byte - b'0') as u16
 }

@@ -2,3 +2,4 @@
 pub mod LawsStart
 pub mod LawsStep
 pub mod LawsOnward
+pub mod LawsRun

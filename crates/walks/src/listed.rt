@@ -11,8 +11,8 @@ use bufferstone::start;
 use bufferstone::steps;
 use libc::STDOUT_FILENO;
 use running::showing::show;
-use running::texts::behind_words;
-use running::texts::first_words;
+use running::words::behind_words;
+use running::words::first_words;
 
 // A choice for each node, the one that is refused at the end, and those between.
 pub const CHOICES: usize = 4682;

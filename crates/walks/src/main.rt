@@ -1,7 +1,7 @@
 // Opens each folio that it is given by name, builds its plan and holds it against the stored one, which is named behind the folio. Then the
 // score is walked with the built plan: taking the first item, the last, and items by a fixed pseudo-random row, each time with a refused choice
 // before every step. Printed are the accepted steps, what waits, what is logged, the refusal of the step after the end, the log where it has at
-// most ten nodes, and the marks. The last two walks are made again by lists of the same choices, with a refused one behind every seventh.
+// most ten nodes, and the marks. Each walk is made again by lists of the same choices, with a refused one behind every seventh.
 use bufferstone::Built;
 use bufferstone::Opened;
 use bufferstone::Record;
@@ -27,8 +27,8 @@ use listed::noted;
 use listed::walk_lists;
 use running::showing::show;
 use running::texts::first;
-use running::texts::first_words;
 use running::texts::put_numbers;
+use running::words::first_words;
 ghost use Rattle.io.specs.Counts.{Counts};
 
 mod listed; // the same choices by lists
@@ -124,33 +124,25 @@ fn show_plan(size: Size, same: bool) {
 }
 
 fn walk_ways(symbols: &[u8], plan: &[u16], score: &[u16], spans: &[u16]) {
-    let mut marks = [9u16; SCORE_NODES];
-    let mut log = [0u16; SCORE_NODES];
-    let mut choices = [65535u16; CHOICES];
-    walk_whole(
-        symbols,
-        plan,
-        score,
-        spans,
-        &mut log,
-        &mut marks,
-        &mut choices,
-        0,
-    );
-    show_marks(&marks, score.len());
-    walk_again(symbols, plan, score, spans, &marks, 1);
-    walk_again(symbols, plan, score, spans, &marks, 2);
+    let none = [65535u16; SCORE_NODES];
+    let mut firsts = [9u16; SCORE_NODES];
+    let mut lasts = [9u16; SCORE_NODES];
+    let mut others = [9u16; SCORE_NODES];
+    walk_way(symbols, plan, score, spans, &none, &mut firsts, 0);
+    walk_way(symbols, plan, score, spans, &firsts, &mut lasts, 1);
+    walk_way(symbols, plan, score, spans, &firsts, &mut others, 2);
 }
 
-fn walk_again(
+// By single steps, and again by lists; `before` are the marks of another way.
+fn walk_way(
     symbols: &[u8],
     plan: &[u16],
     score: &[u16],
     spans: &[u16],
     before: &[u16],
+    marks: &mut [u16],
     way: usize,
 ) {
-    let mut marks = [9u16; SCORE_NODES];
     let mut log = [0u16; SCORE_NODES];
     let mut choices = [65535u16; CHOICES];
     walk_whole(
@@ -159,17 +151,17 @@ fn walk_again(
         score,
         spans,
         &mut log,
-        &mut marks,
+        marks,
         &mut choices,
         way,
     );
-    if equal(before, &marks) {
+    if equal(before, marks) {
         io::write_all(STDOUT_FILENO, b" the same marks\n");
     } else {
-        show_marks(&marks, score.len());
+        show_marks(marks, score.len());
     }
     let all = noted(&choices, score.len());
-    walk_lists(symbols, plan, score, spans, all, &log, &marks);
+    walk_lists(symbols, plan, score, spans, all, &log, marks);
 }
 
 fn walk_whole(

@@ -6,25 +6,22 @@ use Rattle.running.proofs.texts.put_numbers.Statement.{statement}
 use Rattle.running.proofs.texts.put_numbers.Tie as tie
 
 abbrev Inv-loop : tie.InvT-loop
-Inv-loop text words₀ n₀ inside₀ i₀ i-end words n inside i = length words ≡ length words₀
+Inv-loop text words₀ n₀ from₀ i₀ i-end words n from i = length words ≡ length words₀
 
 abbrev μ-loop : tie.MeasureT-loop
-μ-loop text words₀ n₀ inside₀ i₀ i-end words n inside i = i-end - i
+μ-loop text words₀ n₀ from₀ i₀ i-end words n from i = i-end - i
 
 loop-holds : tie.Need-loop-holds Inv-loop μ-loop
 loop-holds c = search needs
 
-shared-slice-read-put-digit : tie.Need-shared-slice-read-put-digit Inv-loop μ-loop
-shared-slice-read-put-digit c = search needs
+ended-requires : tie.Need-ended-requires Inv-loop μ-loop
+ended-requires c κs = search needs
 
-put-digit-requires : tie.Need-put-digit-requires Inv-loop μ-loop
-put-digit-requires c κs = search needs
+put-number-requires : tie.Need-put-number-requires Inv-loop μ-loop
+put-number-requires c κs = search needs
 
-shared-slice-read-is-digit : tie.Need-shared-slice-read-is-digit Inv-loop μ-loop
-shared-slice-read-is-digit c = search needs
-
-is-digit-requires : tie.Need-is-digit-requires Inv-loop μ-loop
-is-digit-requires c κs = search needs
+next-from-requires : tie.Need-next-from-requires Inv-loop μ-loop
+next-from-requires c κs = search needs
 
 add-i : tie.Need-add-i Inv-loop μ-loop
 add-i c = search needs
@@ -34,6 +31,12 @@ loop-less c = search needs
 
 loop-again : tie.Need-loop-again Inv-loop μ-loop
 loop-again c = search needs
+
+part-requires : tie.Need-part-requires Inv-loop μ-loop
+part-requires c κs = search needs
+
+put-number-requires-2 : tie.Need-put-number-requires-2 Inv-loop μ-loop
+put-number-requires-2 c κs = search needs
 
 same-length : tie.Need-same-length Inv-loop μ-loop
 same-length c = search needs
@@ -48,12 +51,13 @@ put-numbers-spec =
     Inv-loop
     μ-loop
     loop-holds
-    shared-slice-read-put-digit
-    put-digit-requires
-    shared-slice-read-is-digit
-    is-digit-requires
+    ended-requires
+    put-number-requires
+    next-from-requires
     add-i
     loop-less
     loop-again
+    part-requires
+    put-number-requires-2
     same-length
     returns)
