@@ -3,20 +3,22 @@
 --   count-bad count-short count-on   31, 30, or what f says of the first n marks
 --   long-is looked unlooked       how many marks are looked at, and what is counted in them then
 --   total-next total-end          the ones, mark by mark
-use Prim.Native.Nat.{ℕ, _+_, _-_, _^_, _<_, _≤_}
-use mathlib.Core.Path.{_≡_, ap, ap₂, sym, _∙_}
-use mathlib.Core.List.{List}
+--   total-set total-most total-zeros   of the first n marks: where one mark is another; not more than 16 n; where they are clear
+use Prim.Native.Nat.{ℕ, zero, suc, _+_, _-_, _*_, _^_, _<_, _≤_}
+use mathlib.Core.Path.{_≡_, refl, ap, ap₂, sym, _∙_}
+use mathlib.Core.List.{List, [], _∷_, _++_}
 use mathlib.Core.Bool.{true, false}
 use mathlib.Core.Logic.{_⊎_, inl, inr}
 use native.Mathlib.Omega.{arith}
-use native.Mathlib.Nat.{sub-zero}
+use native.Mathlib.Nat.{zero-add, sub-zero}
 use native.Mathlib.Numerals.{add-one}
 use native.Mathlib.Decide.{decLt}
 use borrow.Author.Tests.{lt-leb, le-leb}
 use lib.Count.{ones}
-use lib.ListN.{length, take, drop, getD, drop-of-length-le}
+use lib.ListN.{length, take, drop, getD, set, replicate, drop-of-length-le}
 use lib.Seq.{drop-cons, length-take-le}
-use Rattle.kinds.proofs.BitLaws.{ones-bits}
+use Rattle.kinds.specs.Bits.{bit, sumTo}
+use Rattle.kinds.proofs.BitLaws.{ones-bits, ones-most}
 use Rattle.kinds.proofs.Bools.{test}
 use Rattle.kinds.specs.declared.Reason.{Reason}
 use Rattle.kinds.specs.declared.Reason.the-variants.{BadScore, ShortBuffers}
@@ -107,3 +109,31 @@ total-next ms i h fits =
 pub total-end : (ms : List ℕ) (i : ℕ) → length ms ≤ i → total (drop i ms) ≡ 0
 unfolding total
 total-end ms i h = ap total (drop-of-length-le ms h)
+
+pub total-set : (ms : List ℕ) (n i v : ℕ) → i < n → i < length ms
+    → total (take n (set ms i v)) + sumTo 16 (bit (getD ms i 0)) ≡ total (take n ms) + sumTo 16 (bit v)
+unfolding total
+total-set [] n i v h l = absurd (omega arith)
+total-set (m ∷ ms) zero i v h l = absurd (omega arith)
+total-set (m ∷ ms) (suc n) zero v h l = turned (sumTo 16 (bit v)) (total (take n ms)) (sumTo 16 (bit m))
+  where
+    turned : (a t b : ℕ) → a + t + b ≡ b + t + a
+    turned a t b = omega arith
+total-set (m ∷ ms) (suc n) (suc i) v h l = more (sumTo 16 (bit m)) _ _ _ _ (total-set ms n i v (omega arith) (omega arith))
+  where
+    more : (c s a t b : ℕ) → s + a ≡ t + b → c + s + a ≡ c + t + b
+    more c s a t b e = omega arith
+
+pub total-most : (n : ℕ) (ms : List ℕ) → total (take n ms) ≤ 16 * n
+unfolding total
+total-most zero ms = omega arith
+total-most (suc n) [] = omega arith
+total-most (suc n) (m ∷ ms) = more (sumTo 16 (bit m)) (total (take n ms)) (ones-most 16 m) (total-most n ms)
+  where
+    more : (a t : ℕ) → a ≤ 16 → t ≤ 16 * n → a + t ≤ 16 * suc n
+    more a t h l = omega arith
+
+pub total-zeros : (n : ℕ) (ms : List ℕ) → total (take n (replicate n 0 ++ ms)) ≡ 0
+unfolding total
+total-zeros zero ms = refl
+total-zeros (suc n) ms = zero-add (total (take n (replicate n 0 ++ ms))) ∙ total-zeros n ms

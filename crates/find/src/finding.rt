@@ -3,8 +3,6 @@ use crate::holding::Held;
 use crate::holding::Shown;
 use crate::printing::show_refusal;
 use crate::printing::show_report;
-use crate::totals::Total;
-use crate::totals::count;
 use bufferstone::Built;
 use bufferstone::Counts;
 use bufferstone::Opened;
@@ -23,6 +21,8 @@ use bufferstone::limits::WAITING_WORDS;
 use bufferstone::open;
 use bufferstone::start;
 use bufferstone::step;
+use totals::Total;
+use totals::count;
 
 // Prints the report of a file of which all bytes are lent, or more than a folio may have; `length` is that of the whole file.
 pub fn find(file: &[u8], length: usize, out: &mut [u8], held: Held) -> Shown {
@@ -61,9 +61,11 @@ fn find_opened(
     let mut marks = [0u16; SCORE_NODES];
     match mark(symbols, words, starts, score, spans, &mut marks) {
         Marked::Refused(reason, place) => show_refusal(reason, place, out, held),
-        Marked::By(size) => {
+        Marked::By(size, end) => {
             let found = first::words(&marks, counts.nodes);
-            match count(counts, size, symbols, words, starts, score, spans, found) {
+            match count(
+                counts, size, end, symbols, words, starts, score, spans, found,
+            ) {
                 Total::Refused(reason) => show_refusal(reason, 0, out, held),
                 Total::Of(totals) => show_report(totals, spans, found, out, held),
             }
@@ -71,9 +73,9 @@ fn find_opened(
     }
 }
 
-// What the marks were made by: a plan of this size.
+// What the marks were made by: a plan of this size, and a walk that ended with this record.
 enum Marked {
-    By(Size),
+    By(Size, Record),
     Refused(Reason, usize),
 }
 
@@ -95,7 +97,7 @@ fn mark(
             let built = first::words(&plan, size.words);
             match walk_whole(built, symbols, score, spans, marks) {
                 Walked::Refused(reason) => Marked::Refused(reason, 0),
-                Walked::On(end) => Marked::By(size),
+                Walked::On(end) => Marked::By(size, end),
             }
         }
     }

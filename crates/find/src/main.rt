@@ -14,7 +14,6 @@ mod names; // names from standard input
 mod printing; // the lines
 mod reading; // a file's bytes
 mod tally; // the last line
-mod totals; // the first line's numbers
 
 // What the arguments ask for.
 enum Asked {

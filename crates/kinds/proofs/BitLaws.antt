@@ -3,7 +3,7 @@
 --   clear-or-set no-bit bits-same            a bit is 0 or 1; numbers with the same bits are the same
 --   bit-zero bit-suc                         the lowest bit, and the bits of the half
 --   low-clear low-set, bit-shifted bit-past  the lowest bit that is set; bits above
---   ones-bits                                how many are set
+--   ones-bits ones-most ones-with            how many are set; when one more is set
 use Prim.Native.Nat.{ℕ, zero, suc, _+_, _-_, _*_, _/_, _%_, _^_, _<_, _≤_, max}
 use mathlib.Core.Path.{_≡_, refl, ap, ap₂, sym, _∙_}
 use mathlib.Core.Bool.{cond}
@@ -16,7 +16,7 @@ use lib.Arith.{lt-one}
 use lib.Bits.{bitOr, or-step, or-block, or-zero-r, or-shr, or-mod}
 use lib.Count.{ones, ones-step, trailingZeros, under}
 use lib.Pow.{split, pow-pos, pow-add, pow-lt, shl-shr, shl-exact, high}
-use Rattle.kinds.specs.Bits.{bit, withBit, sumTo}
+use Rattle.kinds.specs.Bits.{bit, clearBit, withBit, sumTo}
 
 -- ---- one bit
 
@@ -171,3 +171,25 @@ ones-bits (suc k) m h =
     (sym (ap (λ (x : ℕ). x % 2) (div-one m)))
     (ones-bits k (m / 2) half
     ∙ up-ext k (bit (m / 2)) (λ j. bit m (suc j)) (λ j l. bit-suc m j))
+
+pub ones-most : (k m : ℕ) → sumTo k (bit m) ≤ k
+ones-most k m = up-most k (bit m) (λ j. let l : m / 2 ^ j % 2 < 2 = mod-lt (m / 2 ^ j) (lit< tt) in omega arith)
+  where
+    up-most : (n : ℕ) (f : ℕ → ℕ) → ((j : ℕ) → f j ≤ 1) → sumTo n f ≤ n
+    up-most zero f h = omega arith
+    up-most (suc n) f h = let r = up-most n (λ j. f (suc j)) (λ j. h (suc j)) in let z = h 0 in omega arith
+
+-- a sum of which one part grows
+up-more : (n j d : ℕ) (f g : ℕ → ℕ) → j < n → g j ≡ f j + d → ((i : ℕ) → (i ≡ j → ⊥) → g i ≡ f i) → sumTo n g ≡ sumTo n f + d
+up-more zero j d f g h e o = absurd (omega arith)
+up-more (suc n) zero d f g h e o =
+    let r = up-ext n (λ i. g (suc i)) (λ i. f (suc i)) (λ i l. o (suc i) (λ z. omega arith)) in
+    omega (arith, e, r)
+up-more (suc n) (suc j) d f g h e o =
+    let r = up-more n j d (λ i. f (suc i)) (λ i. g (suc i)) (omega arith) e (λ i ne. o (suc i) (λ z. ne (omega arith))) in
+    let z = o 0 (λ z. omega arith) in
+    omega (arith, r, z)
+
+pub ones-with : (k m j : ℕ) → j < k → sumTo k (bit (withBit m j)) ≡ sumTo k (bit m) + clearBit m j
+ones-with k m j h = up-more k j (clearBit m j) (bit m) (bit (withBit m j)) h
+    (let b = bit-same m j in let l : m / 2 ^ j % 2 < 2 = mod-lt (m / 2 ^ j) (lit< tt) in omega arith) (bit-other m j)

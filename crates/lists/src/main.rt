@@ -1,8 +1,8 @@
 // Takes lists of choices, each in one call. Standard input has a case in each line: a folio's name and a list of choices, with ` | ` behind
 // each. A walk over NAME.folio is started, with the plan that is built for it; where the name has a `+` behind it, the walk of the line before
-// goes on. Two numbers in a field of their own before the choices, an index and a value, change that word of the plan. Printed are the line and,
-// with ` | ` between: how many choices were accepted, and 0 or the refusal's number and index; the items waiting, and after `;` the words that
-// earlier items left behind them; the log; the marks that are not 0.
+// goes on. Two numbers in a field of their own before the choices, an index and a value, change that word of the plan; `=` and a number there change
+// the stored number of matches. Printed are the line and, with ` | ` between: how many choices were accepted, and 0 or the refusal's number and index;
+// the items waiting, and after `;` the words that earlier items left behind them; the log; the marks that are not 0; the stored number.
 use bufferstone::Listed;
 use bufferstone::Record;
 use bufferstone::limits::PLAN_WORDS;
@@ -10,12 +10,12 @@ use bufferstone::limits::SCORE_NODES;
 use bufferstone::limits::WAITING_WORDS;
 use bufferstone::number;
 use bufferstone::steps;
-use going::Going;
-use going::begin;
-use leaving::show_marks;
 use leaving::show_waiting;
 use libc::STDIN_FILENO;
+use running::going::Going;
+use running::going::begin;
 use running::showing::show;
+use running::showing::show_marks;
 use running::showing::show_words;
 use running::showing::write;
 use running::texts::before;
@@ -24,10 +24,10 @@ use running::texts::ended;
 use running::texts::has;
 use running::texts::next_from;
 use running::texts::put_numbers;
+use running::texts::value_of;
 use running::words::first_room;
 use running::words::first_words;
 
-mod going; // a walk that is begun
 mod leaving; // what a list leaves behind
 
 fn main() {
@@ -76,16 +76,36 @@ fn run_line(
     write(line);
     let begun = begin(line, plan, score, spans, waiting, log, marks, going);
     change_plan(line, plan);
-    take_list(line, plan, score, spans, waiting, log, marks, begun)
+    let handed = change_number(line, begun);
+    take_list(line, plan, score, spans, waiting, log, marks, handed)
 }
 
-// Where a field stands between the name and the choices, it changes a word of the plan.
+// Where a field stands between the name and the choices, it changes a word of the plan, or the stored number.
 fn change_plan(line: &[u8], plan: &mut [u16]) {
     let fields = behind(line, b'|');
+    if has(line, b'=') {
+        return;
+    }
     if has(behind(fields, b'|'), b'|') {
         let mut change = [0u16; 2];
         put_numbers(before(fields, b'|'), &mut change);
         put_word(plan, change[0], change[1]);
+    }
+}
+
+fn change_number(line: &[u8], going: Going) -> Going {
+    if !has(line, b'=') {
+        return going;
+    }
+    let record = going.record;
+    Going {
+        words: going.words,
+        nodes: going.nodes,
+        record: Record {
+            waiting: record.waiting,
+            logged: record.logged,
+            matches: value_of(before(behind(line, b'='), b'|')),
+        },
     }
 }
 
@@ -159,6 +179,7 @@ fn take_choices(
     write(b" | ");
     show_words(first_words(log, record.logged));
     show_marks(marks);
+    show(b" | ", record.matches);
     write(b"\n");
     record
 }

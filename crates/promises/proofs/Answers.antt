@@ -2,7 +2,7 @@
 --   plan-fits            a plan's words are no more than its buffer has
 --   same-planned         whatever the buffer has, they are the same
 --   BuiltAs built-as     an accepted build: the plan that there is stands at the buffer's start
---   started-as           an accepted start: there is room, and the walk begins
+--   started-as           an accepted start: there is room, the walk begins, and the score is good
 use mathlib.Core.Path.{_≡_, refl, ap, sym, _∙_}
 use mathlib.Core.Bool.{Bool, true, false, cond, _||_}
 use mathlib.Core.Logic.{_⊎_, inl, inr}
@@ -102,7 +102,7 @@ module _ (ar ws st plan scratch : List ℕ) (s : Size) where
 -- ---- starting
 module _ (ar score spans : List ℕ) (w : Walk) (r : Record) where
   pub started-as : started ar score spans w .answer ≡ walking.On r → (roomFor (length score) w ≡ true)
-      × (started ar score spans w .walk ≡ begun (length score) w)
+      × (started ar score spans w .walk ≡ begun (length score) w) × (scoreGood ar score spans ≡ true)
   unfolding started
   started-as e = go (scoreGood ar score spans) (roomFor (length score) w) e
     where
@@ -111,7 +111,7 @@ module _ (ar score spans : List ℕ) (w : Walk) (r : Record) where
           (unless b (record { answer = walking.Refused ShortBuffers; walk = w })
           (record { answer = walking.On (begun (length score) w .count); walk = begun (length score) w }))
 
-      go : (a b : Bool) → tell a b .answer ≡ walking.On r → (b ≡ true) × (tell a b .walk ≡ begun (length score) w)
+      go : (a b : Bool) → tell a b .answer ≡ walking.On r → (b ≡ true) × (tell a b .walk ≡ begun (length score) w) × (a ≡ true)
       go false b d = let z : _≡_ {A = ℕ} 0 1 = cc in absurd (omega arith)
       go true false d = let z : _≡_ {A = ℕ} 0 1 = cc in absurd (omega arith)
-      go true true d = (refl, refl)
+      go true true d = (refl, refl, refl)

@@ -77,10 +77,10 @@ build-call κs a r e h = subst (BuildRow (now (a .0)) (now (a .1 .0)) (now (a .1
 
 pub start-call : (κs : _) (a : _) (r : _) (e : _) → start.Learnt κs a r e → Below 65536 (now (a .1 .0))
     → StartRow (now (a .0)) (now (a .1 .0)) (now (a .1 .1 .0))
-    (walkOf (now (a .1 .1 .1 .0)) (now (a .1 .1 .1 .1 .0)) (now (a .1 .1 .1 .1 .1 .0)) (counting 0 0))
-    (told (walkedSays r) (walkOf (now (e .1 .1 .1 .0)) (now (e .1 .1 .1 .1 .0)) (now (e .1 .1 .1 .1 .1 .0)) (recordAfter r (counting 0 0))))
+    (walkOf (now (a .1 .1 .1 .0)) (now (a .1 .1 .1 .1 .0)) (now (a .1 .1 .1 .1 .1 .0)) (counting 0 0 0))
+    (told (walkedSays r) (walkOf (now (e .1 .1 .1 .0)) (now (e .1 .1 .1 .1 .0)) (now (e .1 .1 .1 .1 .1 .0)) (recordAfter r (counting 0 0 0))))
 start-call κs a r e h small = subst (StartRow (now (a .0)) (now (a .1 .0)) (now (a .1 .1 .0))
-    (walkOf (now (a .1 .1 .1 .0)) (now (a .1 .1 .1 .1 .0)) (now (a .1 .1 .1 .1 .1 .0)) (counting 0 0))) (ap walkTold (sym h))
+    (walkOf (now (a .1 .1 .1 .0)) (now (a .1 .1 .1 .1 .0)) (now (a .1 .1 .1 .1 .1 .0)) (counting 0 0 0))) (ap walkTold (sym h))
     (demand-1 .starting _ _ _ _ small .0)
 
 pub step-call : (κs : _) (a : _) (r : _) (e : _) → step.Learnt κs a r e

@@ -28,7 +28,7 @@ use Rattle.walking.proofs.AnyWalk.{same-walk, marks-right, marks-shapes}
 use Rattle.promises.specs.OneFile.{OneFile, symbolsIn, wordsIn, startsIn, nodesIn, spansIn, shapesIn, scoreIn, after, reported}
 use Rattle.promises.specs.Reported.{reportIn, totalsOf}
 use Rattle.promises.specs.Demand2.{Demand2, Says}
-use Rattle.promises.proofs.Setting.{is-folio, shape-words, shape-starts, score-words, score-spans, score-depth, shapes-depth, plan-is, told}
+use Rattle.promises.proofs.Setting.{number-is, is-folio, shape-words, shape-starts, score-words, score-spans, score-depth, shapes-depth, plan-is, told}
 use Rattle.promises.proofs.Construction.{paper-says}
 use Rattle.promises.proofs.ScorePaths.{score-path}
 use Rattle.promises.proofs.Reported.{Right, report-right}
@@ -84,7 +84,7 @@ module _ {file : List ℕ} (S : OneFile file) where
 
         text : reported S choices ≡ reportIn test (shapesIn S) (scoreIn S) (S .size .states)
         text =
-            (λ i. report (totalsOf (wordsIn S) (startsIn S) (score-spans S i) (score-depth S i) (S .size .states)
+            (λ i. report (totalsOf (wordsIn S) (startsIn S) (score-spans S i) (score-depth S i) (S .size .states) (number-is S choices i)
             (take (length (score-spans S i)) (after S choices .marks))) (score-spans S i) (after S choices .marks))
             ∙ report-right test (shapesIn S) (scoreIn S) (after S choices .marks) right (is-folio S .limits .few-shapes)
             (λ p n e. rw (score-spans S) at (path p n e)) (wordsIn S) (startsIn S) (nodesIn S) tables says (S .size .states)

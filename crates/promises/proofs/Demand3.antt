@@ -1,6 +1,6 @@
 -- Demand 3 holds of every file that opens and whose build is accepted.
 --   bits-alike     the marks of two finished walks, node by node
-use mathlib.Core.Path.{_≡_, ap, sym, _∙_, subst}
+use mathlib.Core.Path.{_≡_, ap, ap₂, sym, _∙_, subst}
 use mathlib.Core.List.{List, _++_}
 use mathlib.Core.Logic.{_↔_}
 use Prim.Native.Nat.{ℕ, suc, _+_, _<_, _≤_}
@@ -18,6 +18,7 @@ use Rattle.term.specs.Terms.{span}
 use Rattle.term.specs.Places.{Matches, number}
 use Rattle.term.proofs.Numbers.{node-at}
 use Rattle.term.proofs.Sizes.{length-sizes}
+use Rattle.counting.specs.Counting.{total}
 use Rattle.report.specs.Text.{firstLine, lines, report}
 use Rattle.walk.specs.Starting.{Walk, WalkOutcome, refuseWalk, walkedSays}
 use Rattle.kinds.specs.Reasons.{Says, gives, refusal}
@@ -29,7 +30,7 @@ use Rattle.walking.proofs.AnyWalk as any-walk
 use Rattle.promises.specs.OneFile.{OneFile, wordsIn, startsIn, scoreIn, spansIn, bufferIn, after, stepAfter, acceptedIn, reported}
 use Rattle.promises.specs.Reported.{totalsOf}
 use Rattle.promises.specs.Demand3.{Demand3}
-use Rattle.promises.proofs.Setting.{score-spans, told, same-shapes, same-score, same-words, same-starts, same-spans, same-depth, same-states}
+use Rattle.promises.proofs.Setting.{number-is, score-spans, told, same-shapes, same-score, same-words, same-starts, same-spans, same-depth, same-states}
 use Rattle.promises.proofs.Demand2.{demand-2, marks-long}
 use Rattle.promises.proofs.AnyLists as any-lists
 
@@ -145,14 +146,18 @@ module _ {file : List ℕ} (S T : OneFile file) (c d : List ℕ) (c-done : after
       ∙ bits-same _ _ (λ j. (bit-over S T c d c-done d-done j i l, bit-over T S d c d-done c-done j i (rw nodes l)))
       ∙ sym (getD-take n (after T d .marks) i 0 l)
 
+  pub same-number : after S c .count .matches ≡ after T d .count .matches
+  same-number = number-is S c ∙ ap total same-marks ∙ ap (λ t. total (take (span t) (after T d .marks))) (same-score S T) ∙ sym (number-is T d)
+
   pub same-text : reported S c ≡ reported T d
   unfolding report
   same-text =
       let k : length (spansIn S) ≡ span (scoreIn S) = ap length (score-spans S) ∙ length-sizes (scoreIn S) in
       let m : take (length (spansIn S)) (after S c .marks) ≡ take (length (spansIn S)) (after T d .marks) = rw k same-marks in
-      ap (λ ms. firstLine (totalsOf (wordsIn S) (startsIn S) (spansIn S) (S .counts .depth) (S .size .states) ms) ++ lines (spansIn S) ms) m
+      ap₂ (λ k ms. firstLine (totalsOf (wordsIn S) (startsIn S) (spansIn S) (S .counts .depth) (S .size .states) k ms) ++ lines (spansIn S) ms)
+      same-number m
       ∙ (λ i. let marks = after T d .marks in
-      report (totalsOf (same-words S T i) (same-starts S T i) (same-spans S T i) (same-depth S T i) (same-states S T i)
+      report (totalsOf (same-words S T i) (same-starts S T i) (same-spans S T i) (same-depth S T i) (same-states S T i) (after T d .count .matches)
       (take (length (same-spans S T i)) marks)) (same-spans S T i) marks)
 
 pub demand-3 : {file : List ℕ} (S : OneFile file) → Demand3 S
@@ -170,7 +175,9 @@ demand-3 S = record {
   log-all = log-all S;
   waits = λ choices. on-after S choices (λ (v : Walk). v .count .waiting + v .count .logged ≤ span (scoreIn S))
       (any-walk.waits-unread (told S .folio) (S .walk) (told S .lent) choices);
+  number = number-is S;
   same-marks = λ T c d. same-marks S T c d;
+  same-number = λ T c d. same-number S T c d;
   same-text = λ T c d. same-text S T c d;
   lists = any-lists.lists S;
   lists-accepted = any-lists.lists-accepted S;

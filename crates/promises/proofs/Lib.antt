@@ -22,6 +22,7 @@ pub mod Demand1
 pub mod Demand2
 pub mod AnyLists
 pub mod Demand3
+pub mod RunningNumber
 pub mod SampleFile
 pub mod Calls
 pub mod Runs

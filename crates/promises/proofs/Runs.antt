@@ -4,13 +4,15 @@
 --   Walked             any number of both, in any order, by the choices that they took
 --   steps-run          what they leave is what the definition runs
 --   list-singly        a list leaves what its accepted choices leave, taken singly
+--   Handed calls-handed   any number of both, each with plan words of its own: what they leave is handed on by the definitions
+--   started-number number-in-range   so the stored number behind an accepted start is the ones in the first n marks, and no step is refused for it
 --   one-file           three calls that the contracts allow, each accepted, are the setting of demands 2 and 3
 --   demands            so both demands hold of them, and of every walk that the contracts allow behind them
 use mathlib.Core.Path.{_≡_, refl, ap, ap₂, sym, _∙_, subst}
 use mathlib.Core.List.{List, [], _∷_, _++_}
-use Prim.Native.Nat.{ℕ}
+use Prim.Native.Nat.{ℕ, _*_, _^_, _≤_}
 use denote.Ref.{now}
-use lib.ListN.{take}
+use lib.ListN.{length, take}
 use Rattle.kinds.specs.Members.{Below}
 use Rattle.folio.specs.Opening.{Lent, OpenOutcome, lent, out, opened}
 use Rattle.folio.specs.declared.Counts.{Counts}
@@ -23,6 +25,7 @@ use Rattle.walk.specs.Stepping.{stepped, run}
 use Rattle.walk.specs.declared.Record.{Record}
 use Rattle.walk.specs.declared.Walked.the-variants as walking
 use Rattle.listing.specs.Listing.{ListOutcome, acceptedIn, recordIn, listed}
+use Rattle.counting.specs.Counting.{total}
 use Rattle.walk.proofs.LawsRun.{run-append}
 use Rattle.listing.proofs.Singly.{one-list}
 use Rattle.folio.proofs.opening.open.Reads as open-folio
@@ -33,8 +36,11 @@ use Rattle.listing.proofs.taking.steps.Reads as steps
 use Rattle.promises.specs.OneFile.{OneFile, nodesIn, spansIn, lentIn, after}
 use Rattle.promises.specs.Demand2.{Demand2}
 use Rattle.promises.specs.Demand3.{Demand3}
+use Rattle.promises.specs.RunningNumber.{HandedOn}
+use Rattle.promises.specs.RunningNumber as handed
 use Rattle.promises.proofs.Demand2.{demand-2}
 use Rattle.promises.proofs.Demand3.{demand-3}
+use Rattle.promises.proofs.RunningNumber.{running-number}
 
 -- ---- steps
 module _ (plan score spans : List ℕ) where
@@ -61,13 +67,16 @@ module _ (plan score spans : List ℕ) where
   same-over f {p} {s} {t} {i} {j} {w} {v} ep es et ew ei =
       ap₂ (λ x y. f x y t j w) ep es ∙ ap₂ (λ x y. f plan score x j y) et ew ∙ ap (λ x. f plan score spans x v) ei
 
-  one-step : {i : ℕ} {w v : Walk} → Stepped i w v → v ≡ stepped plan score spans i w .walk
+  pub one-step : {i : ℕ} {w v : Walk} → Stepped i w v → v ≡ stepped plan score spans i w .walk
   one-step (by-step κs a r e h ep es et ew ei) = ap (λ (o : WalkOutcome). o .walk) (h ∙ same-over stepped ep es et ew ei)
 
   one-call : {choices : List ℕ} {w v : Walk} {k : ℕ} → Listed choices w k v → v ≡ run plan score spans (take k choices) w
   one-call {choices} {w} (by-steps κs a r e h ep es et ew ec) =
       subst (λ (o : ListOutcome). o .walk ≡ run plan score spans (take (acceptedIn (o .answer)) choices) w) (sym (h ∙ same-over listed ep es et ew ec))
       (one-list plan score spans choices w .walk-is)
+
+  pub listed-walk : {choices : List ℕ} {w v : Walk} {k : ℕ} → Listed choices w k v → v ≡ listed plan score spans choices w .walk
+  listed-walk (by-steps κs a r e h ep es et ew ec) = ap (λ (o : ListOutcome). o .walk) (h ∙ same-over listed ep es et ew ec)
 
   pub steps-run : {w u : Walk} {is : List ℕ} → Walked w is u → u ≡ run plan score spans is w
   unfolding run
@@ -78,6 +87,40 @@ module _ (plan score spans : List ℕ) where
 
   pub list-singly : {choices : List ℕ} {w v u : Walk} {k : ℕ} → Listed choices w k v → Walked w (take k choices) u → v ≡ u
   list-singly l s = one-call l ∙ sym (steps-run s)
+
+-- ---- each call with plan words of its own
+module _ (score spans : List ℕ) where
+  pub data Handed : Walk → Walk → Type 0 where
+    none : {w : Walk} → Handed w w
+    then : {w v u : Walk} (plan : List ℕ) (i : ℕ) → Stepped plan score spans i w v → Handed v u → Handed w u
+    list : {w v u : Walk} (plan choices : List ℕ) (k : ℕ) → Listed plan score spans choices w k v → Handed v u → Handed w u
+
+  pub calls-handed : {w u : Walk} → Handed w u → HandedOn score spans w u
+  calls-handed none = handed.as-left
+  calls-handed (then {u = u} plan i s more) = handed.by-step plan i (subst (λ v. HandedOn score spans v u) (one-step plan score spans s) (calls-handed more))
+  calls-handed (list {u = u} plan choices k l more) = handed.by-list plan choices
+      (subst (λ v. HandedOn score spans v u) (listed-walk plan score spans l) (calls-handed more))
+
+  module _ (κs : _) (a : _) (first : Record) (e : _) (starts : start.Learnt κs a (walking.On first) e) (of-score : now (a .1 .0) ≡ score)
+      (of-spans : now (a .1 .1 .0) ≡ spans) where
+    abbrev start-lent : Walk
+    start-lent = walkOf (now (a .1 .1 .1 .0)) (now (a .1 .1 .1 .1 .0)) (now (a .1 .1 .1 .1 .1 .0)) (counting 0 0 0)
+
+    abbrev start-left : Walk
+    start-left = walkOf (now (e .1 .1 .1 .0)) (now (e .1 .1 .1 .1 .0)) (now (e .1 .1 .1 .1 .1 .0)) first
+
+    begins : started (now (a .0)) score spans start-lent ≡ record { answer = walking.On first; walk = start-left }
+    begins = ap₂ (λ l m. started (now (a .0)) l m start-lent) (sym of-score) (sym of-spans) ∙ sym starts
+
+    module _ {u : Walk} (h : Handed start-left u) where
+      from-start : HandedOn score spans (started (now (a .0)) score spans start-lent .walk) u
+      from-start = subst (λ v. HandedOn score spans v u) (sym (ap (λ (o : WalkOutcome). o .walk) begins)) (calls-handed h)
+
+      pub started-number : u .count .matches ≡ total (take (length score) (u .marks))
+      started-number = running-number .kept (now (a .0)) score spans start-lent first (ap (λ (o : WalkOutcome). o .answer) begins) u from-start
+
+      pub number-in-range : (u .count .matches ≤ 16 * length score) × (u .count .matches ≤ 2 ^ 63)
+      number-in-range = running-number .in-range (now (a .0)) score spans start-lent first (ap (λ (o : WalkOutcome). o .answer) begins) u from-start
 
 -- ---- one file
 module _ {file : List ℕ} (bytes : Below 256 file)
@@ -93,7 +136,7 @@ module _ {file : List ℕ} (bytes : Below 256 file)
   tables = lent (now (ao .1 .0)) (now (ao .1 .1 .0)) (now (ao .1 .1 .1 .0)) (now (ao .1 .1 .1 .1 .0))
 
   abbrev pub begun : Walk
-  begun = walkOf (now (as′ .1 .1 .1 .0)) (now (as′ .1 .1 .1 .1 .0)) (now (as′ .1 .1 .1 .1 .1 .0)) (counting 0 0)
+  begun = walkOf (now (as′ .1 .1 .1 .0)) (now (as′ .1 .1 .1 .1 .0)) (now (as′ .1 .1 .1 .1 .1 .0)) (counting 0 0 0)
 
   abbrev pub left : Lent
   left = lent (now (eo .1 .0)) (now (eo .1 .1 .0)) (now (eo .1 .1 .1 .0)) (now (eo .1 .1 .1 .1 .0))
@@ -118,7 +161,7 @@ module _ {file : List ℕ} (bytes : Below 256 file)
 
   pub started-is : started (take (counts .symbols) file) (take (counts .nodes) (opened file tables .tables .score))
       (take (counts .nodes) (opened file tables .tables .spans)) begun
-      ≡ outcome (walking.On first) (counting 0 0) (now (es .1 .1 .1 .0)) (now (es .1 .1 .1 .1 .0)) (now (es .1 .1 .1 .1 .1 .0))
+      ≡ outcome (walking.On first) (counting 0 0 0) (now (es .1 .1 .1 .0)) (now (es .1 .1 .1 .1 .0)) (now (es .1 .1 .1 .1 .1 .0))
   started-is =
       same-start begun (sym s-symbols)
       (ap (λ (o : OpenOutcome). take (counts .nodes) (o .tables .score)) was-opened ∙ sym s-score)

@@ -23,6 +23,7 @@ use Rattle.plan.specs.Building.{size, buildOf}
 use Rattle.plan.specs.declared.Built.the-variants as building
 use Rattle.walk.specs.Starting.{Walk, WalkOutcome, walkOf, counting, goOn, begun, started}
 use Rattle.walk.specs.Stepping.{run}
+use Rattle.walk.specs.declared.Record.{Record}
 use Rattle.report.specs.Text.{report}
 use Rattle.promises.specs.Computing.{computing}
 use Rattle.promises.specs.Sample.{file, symbols, shapeWords, starts, score, spans, plan, marks, text, nines}
@@ -44,7 +45,7 @@ abbrev pub known : Counts
 known = record { symbols = 3; shapes = 2; words = 9; nodes = 10; depth = 4; deepest = 2 }
 
 abbrev pub walk : Walk
-walk = walkOf (nines 20) (nines 10) (nines 10) (counting 7 7)
+walk = walkOf (nines 20) (nines 10) (nines 10) (counting 7 7 7)
 
 pub opens-are : opened file tables .answer ≡ opening.Folio known
 unfolding computing
@@ -90,7 +91,7 @@ one-file = record {
   builds = ap₂ (λ w s. buildOf symbols w s (nines 57) (nines 32768) .answer) words-are starts-are ∙ build-is;
   behind = 9 ∷ [];
   walk = walk;
-  first = counting 1 0;
+  first = counting 1 0 0;
   starts = ap₂ (λ n s. started symbols n s walk .answer) nodes-are spans-are ∙ ap (λ (o : WalkOutcome). o .answer) start-is;
 }
 
@@ -112,12 +113,15 @@ after-is choices =
     ∙ ap₂ (λ n s. run buffer n s choices (begunIn one-file)) nodes-are spans-are
     ∙ ap (run buffer score spans choices) b
 
-walk-ends : (run buffer score spans zeros (begun 10 walk) .count .waiting ≡ 0) × (run buffer score spans zeros (begun 10 walk) .marks ≡ marks)
+walk-ends : (run buffer score spans zeros (begun 10 walk) .count ≡ counting 0 10 4) × (run buffer score spans zeros (begun 10 walk) .marks ≡ marks)
 unfolding computing
 walk-ends = (refl, refl)
 
 pub ended : after one-file zeros .count .waiting ≡ 0
-ended = ap (λ (w : Walk). w .count .waiting) (after-is zeros) ∙ walk-ends .0
+ended = ap (λ (w : Walk). w .count .waiting) (after-is zeros) ∙ ap (λ (c : Record). c .waiting) (walk-ends .0)
+
+number-is : after one-file zeros .count .matches ≡ 4
+number-is = ap (λ (w : Walk). w .count .matches) (after-is zeros) ∙ ap (λ (c : Record). c .matches) (walk-ends .0)
 
 marks-are : after one-file zeros .marks ≡ marks
 marks-are = ap (λ (w : Walk). w .marks) (after-is zeros) ∙ walk-ends .1
@@ -158,12 +162,13 @@ no-shape-1-at-1 h =
 pub always-ten : (choices : List ℕ) → after one-file choices .count .waiting ≡ 0 → acceptedIn one-file choices ≡ 10
 always-ten choices e = demand-3 one-file .steps choices .2 .0 e ∙ ap span tree-is
 
-text-is : report (totalsOf shapeWords starts spans 4 3 marks) spans marks ≡ text
+text-is : report (totalsOf shapeWords starts spans 4 3 4 marks) spans marks ≡ text
 unfolding computing
 text-is = refl
 
 pub always-reported : (T : OneFile file) (choices : List ℕ) → after T choices .count .waiting ≡ 0 → reported T choices ≡ text
 always-reported T choices e =
     demand-3 T .same-text one-file choices zeros e ended
-    ∙ (λ i. report (totalsOf (words-are i) (starts-are i) (spans-are i) 4 3 (take (length (spans-are i)) (marks-are i))) (spans-are i) (marks-are i))
+    ∙ (λ i. report (totalsOf (words-are i) (starts-are i) (spans-are i) 4 3 (number-is i) (take (length (spans-are i)) (marks-are i))) (spans-are i)
+    (marks-are i))
     ∙ text-is

@@ -10,7 +10,7 @@ use Prim.Native.Nat.{ℕ, _-_}
 use lib.ListN.{length, take, drop}
 use Rattle.kinds.specs.Lists.{gather, greatest}
 use Rattle.kinds.proofs.ListLaws.{stored-back, take-again}
-use Rattle.term.specs.Terms.{Term, depth, flatten, sizes}
+use Rattle.term.specs.Terms.{Term, depth, span, flatten, sizes}
 use Rattle.term.proofs.Sizes.{length-flatten, length-sizes}
 use Rattle.sections.specs.Bytes as file-words
 use Rattle.folio.specs.declared.Counts.{Counts}
@@ -30,7 +30,9 @@ use Rattle.walk.specs.Stepping.{stepped, run}
 use Rattle.walk.specs.Stepping.{accepted as acceptedOf}
 use Rattle.walking.specs.OneFolio.{OneFolio, EnoughLent, stepIn, walkIn}
 use Rattle.walking.specs.OneFolio.{acceptedIn as acceptedOn}
+use Rattle.counting.specs.Counting.{total}
 use Rattle.walking.proofs.FolioWalk.{scoredOf, on-plan}
+use Rattle.walking.proofs.AnyWalk.{same-walk}
 use Rattle.promises.specs.OneFile.{OneFile, symbolsIn, wordsIn, startsIn, nodesIn, spansIn, shapesIn, scoreIn, planIn, begunIn, after, stepAfter, acceptedIn}
 use Rattle.promises.proofs.Answers.{BuiltAs, built-as, started-as, same-planned}
 
@@ -123,7 +125,7 @@ module _ {file : List ℕ} (S : OneFile file) where
 
   -- ---- the walk
   as-started : (roomFor (length (nodesIn S)) (S .walk) ≡ true) × (begunIn S ≡ begun (length (nodesIn S)) (S .walk))
-  as-started = started-as (symbolsIn S) (nodesIn S) (spansIn S) (S .walk) (S .first) (S .starts)
+  as-started = let s = started-as (symbolsIn S) (nodesIn S) (spansIn S) (S .walk) (S .first) (S .starts) in (s .0, s .1)
 
   pub record Told : Type 0 where
     pub folio : OneFolio (scoredOf is-folio)
@@ -144,6 +146,13 @@ module _ {file : List ℕ} (S : OneFile file) where
         step-is = λ choices i. ap₄ (λ a b c v. stepped a b c i v) ew score-words score-spans (walks choices);
         accepted-is = λ choices. ap₄ (λ a b c v. acceptedOf a b c choices v) ew score-words score-spans begins;
       }
+
+  -- the stored number is the ones in the nodes' marks
+  pub number-is : (choices : List ℕ) → after S choices .count .matches ≡ total (take (span (scoreIn S)) (after S choices .marks))
+  number-is choices =
+      ap (λ (v : Walk). v .count .matches) (told .after-is choices)
+      ∙ same-walk (told .folio) (S .walk) (told .lent) choices .number-is
+      ∙ ap₂ (λ n (v : Walk). total (take n (v .marks))) (length-flatten (scoreIn S)) (sym (told .after-is choices))
 
 -- ---- two settings of one file
 module _ {file : List ℕ} (S T : OneFile file) where

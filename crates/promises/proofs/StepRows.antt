@@ -8,7 +8,7 @@ use mathlib.Core.Path.{_≡_, refl, ap, sym, _∙_}
 use mathlib.Core.Bool.{true}
 use mathlib.Core.List.{List}
 use mathlib.Core.Option.{Option, none, some}
-use Prim.Native.Nat.{ℕ, _+_, _*_, _<_, _≤_}
+use Prim.Native.Nat.{ℕ, _+_, _*_, _^_, _<_, _≤_}
 use native.Mathlib.Omega.{arith}
 use native.Mathlib.Decide.{decLt, decLe}
 use borrow.Author.Tests.{lt-ltb, le-ltb, le-leb, eq-eqb, ltb-true, leb-true}
@@ -28,7 +28,7 @@ use Rattle.readers.proofs.LawsPairs.{pairList-at, pairs-list, pairs-none}
 use Rattle.readers.proofs.LawsParts.{block-start}
 use Rattle.queue.specs.Targets.{targets}
 use Rattle.walk.specs.Starting.{Walk, refuseWalk, goOn}
-use Rattle.walk.specs.Stepping.{Finding, look, onward, roomy, moved, tried, stepped}
+use Rattle.walk.specs.Stepping.{Finding, look, onward, numbered, roomy, moved, tried, stepped}
 use Rattle.walking.proofs.StepParts.{look-of, tried-of}
 use Rattle.promises.specs.StepFound.{ItemFound, StepFound}
 use Rattle.promises.specs.Demand1 as rows
@@ -52,7 +52,7 @@ module _ (plan score spans : List ℕ) (state node : ℕ) (found : Finding) wher
   unfolding target
   code-good c y e = on-need (codeGood c) _ e λ t d. t
 
-  item-look : ItemFound plan score spans state node found → look plan score spans (state, node) ≡ some found
+  pub item-look : ItemFound plan score spans state node found → look plan score spans (state, node) ≡ some found
   unfolding labelWord
   item-look h =
       look-of plan score spans states symbols (getD plan 2 0) (and-l _ (view-good plan states symbols (h .label .view))) refl refl refl
@@ -113,7 +113,9 @@ module _ (plan score spans : List ℕ) (i : ℕ) (w : Walk) where
         let found = s .found in
         let its′ = onward i its (found .nexts) in
         let after = rw (s .after) at (s .room-after) in
-        tried-of plan score spans i w its (drop (0 + 2 * w .count .waiting) (w .items)) item found (all-items (s .room-before)) the-item
+        tried-of plan score spans i w its (drop (0 + 2 * w .count .waiting) (w .items)) item found
+        (both (le-leb (w .count .matches) (16 * length score) (s .number-in)) (le-leb (w .count .matches) (2 ^ 63) (s .number-held)))
+        (all-items (s .room-before)) the-item
         (item-look plan score spans (item .0) (item .1) found (s .item))
         (both (lt-ltb (w .count .logged) (length (w .log)) (s .log-room))
         (both (le-leb (2 * length its′) (length (w .items)) after)
@@ -123,14 +125,19 @@ module _ (plan score spans : List ℕ) (i : ℕ) (w : Walk) where
 
     tried-found : (v : Walk) → tried plan score spans i w ≡ some v → StepFound plan score spans i w v
     unfolding tried
-    tried-found v e = go (decLe (2 * w .count .waiting) (length (w .items)))
+    tried-found v e = on-need (numbered (length score) (w .count)) _ e λ k d. go (decLe (2 * w .count .waiting) (length (w .items))) d k
       where
         then : List (ℕ × ℕ) → Finding → Option Walk
         then l found = need (roomy w found (onward i l (found .nexts))) (some (moved w found (onward i l (found .nexts))))
 
-        go : Dec (2 * w .count .waiting ≤ length (w .items)) → StepFound plan score spans i w v
-        go (no h) = none-not (sym (rw (pairs-none (w .count .waiting) (w .items) (omega arith)) refl) ∙ e)
-        go (yes h) =
+        -- where the number may stand
+        tried-on : Option Walk
+        tried-on = bind (pairs (w .count .waiting) (w .items)) (λ l. bind (getElem? (l .0) i) (λ it. bind (look plan score spans it) (then (l .0))))
+
+        go : Dec (2 * w .count .waiting ≤ length (w .items)) → tried-on ≡ some v → numbered (length score) (w .count) ≡ true
+            → StepFound plan score spans i w v
+        go (no h) e k = none-not (sym (rw (pairs-none (w .count .waiting) (w .items) (omega arith)) refl) ∙ e)
+        go (yes h) e k =
             let e₁ : bind (look plan score spans item) (then its) ≡ some v = rw (all-items h, the-item) at e in
             on-bind (look plan score spans item) (then its) e₁ λ found ef d.
             on-need (roomy w found (onward i its (found .nexts))) _ d λ t d₁.
@@ -142,6 +149,8 @@ module _ (plan score spans : List ℕ) (i : ℕ) (w : Walk) where
             record {
               found = found;
               item = look-item plan score spans (item .0) (item .1) found ef;
+              number-in = leb-true (w .count .matches) (16 * length score) (and-l _ k);
+              number-held = leb-true (w .count .matches) (2 ^ 63) (and-r (leb (w .count .matches) (16 * length score)) k);
               log-room = ltb-true (w .count .logged) (length (w .log)) (and-l _ t);
               room-before = h;
               room-after = rw z b;

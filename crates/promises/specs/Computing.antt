@@ -14,7 +14,7 @@ use Rattle.readers.specs.PlanParts.{pairs, countedPairs, blockAt, labelWord, bl
 use Rattle.walk.specs.Starting.{started}
 use Rattle.walk.specs.Stepping.{look, tried, stepped, run, runBy}
 use Rattle.listing.specs.Listing.{listed}
-use Rattle.queue.specs.Targets.{targets, marked}
+use Rattle.queue.specs.Targets.{targets, marked, newly}
 use Rattle.counting.specs.Counting.{foundFrom, total, counted}
 use Rattle.matching.specs.Shapes.{endOf, part, shapeAt}
 use Rattle.matching.specs.Falling.{size, stands, falls, falling, touched}
@@ -28,7 +28,7 @@ use Rattle.report.specs.Text.{digitsTo, digits, dotted, pathText, lines, report
 unfoldable pub computing : ℕ
 unfolding decodeTo childrenOf headOf reading over spansOf sibling childAt follow target wordsOf distancesOf trailerOf overAt symbolsOf sectionsOf
     shapesFrom shapesOf scoreOf stored held opened symbolsGood shapesGood scoreGood pieceAt subtreeAt cleared buildOf pairs countedPairs blockAt
-    labelWord blockOf pairAt pairIn labelOf lengthsOf announcementOf successorOf started targets look marked tried stepped run runBy listed foundFrom total
+    labelWord blockOf pairAt pairIn labelOf lengthsOf announcementOf successorOf started targets look marked newly tried stepped run runBy listed foundFrom total
     counted endOf part shapeAt size stands falls falling touched clashNumber nodesOf matched strays clashesIn clashesOf childOn pathTo pathOf digitsTo
     digits dotted pathText lines report written
 computing = 0

@@ -122,7 +122,7 @@ module _ (ar score spans : List ℕ) where
   pub data StartRow (w : Walk) : Told Walk → Type 0 where
     start-31 : (Good → ⊥) → StartRow w (told (refusal 31 0) w)
     start-30 : Good → (Roomy w → ⊥) → StartRow w (told (refusal 30 0) w)
-    starts : Good → Roomy w → StartRow w (told (gives (1 ∷ 0 ∷ [])) (begun (length score) w))
+    starts : Good → Roomy w → StartRow w (told (gives (1 ∷ 0 ∷ 0 ∷ [])) (begun (length score) w))
 
   -- ---- counting matches
   pub data CountRow (marks : List ℕ) : Says → Type 0 where
@@ -149,9 +149,9 @@ module _ (ar ws st score spans marks : List ℕ) where
         → ClashRow (gives (clashNumber (nodesIn (shapeTerms ar ws) (scoreTerm ar score)) heldIn ∷ []))
 
 -- ---- stepping
--- "The record answered counts items waiting and logged nodes"
+-- "The record answered counts items waiting and logged nodes"; "Keep the count in the walk's record" (document 02, wish 5)
 abbrev pub recorded : Walk → List ℕ
-recorded v = v .count .waiting ∷ v .count .logged ∷ []
+recorded v = v .count .waiting ∷ v .count .logged ∷ v .count .matches ∷ []
 
 pub data StepRow (plan score spans : List ℕ) (i : ℕ) (w : Walk) : Told Walk → Type 0 where
   step-32 : w .count .waiting ≤ i → StepRow plan score spans i w (told (refusal 32 0) w)

@@ -8,7 +8,8 @@
 --   steps           the accepted steps are at most n, and n exactly if none waits
 --   log-…           the log holds nodes of the score, none twice, and each when none waits
 --   waits           the waiting and the read are at most n together
---   same-…          two finished walks over the file, by any choices and with any buffers, have the same marks and the same text
+--   number          the stored number is the ones in the marks of the n nodes, after any choices (document 02, wish 5; for any plan words: `RunningNumber`)
+--   same-…          two finished walks over the file, by any choices and with any buffers, have the same marks, the same number and the same text
 -- The same by lists of choices (document 02, wish 4), any lists one after the other, with a refused choice in any of them at any place:
 --   lists           record and buffers are those after the accepted choices taken singly: all that this demand says of a walk, it says of lists
 --   lists-accepted  the answers say as many accepted choices as are accepted singly: each of them
@@ -25,6 +26,7 @@ use Rattle.kinds.specs.Reasons.{gives, refusal, refusalWith}
 use Rattle.term.specs.Terms.{span}
 use Rattle.walk.specs.Starting.{walkedSays}
 use Rattle.listing.specs.Listing.{listedSays}
+use Rattle.counting.specs.Counting.{total}
 use Rattle.promises.specs.Told.{told}
 use Rattle.promises.specs.Demand1.{walkTold, listTold, recorded}
 use Rattle.promises.specs.OneFile.{OneFile, scoreIn, bufferIn, planIn, after, stepAfter, acceptedIn, afterLists, listAfter, singlyIn, acceptedByLists, reported}
@@ -46,8 +48,11 @@ pub record Demand3 {file : List ℕ} (S : OneFile file) : Type 0 where
   pub log-all : (choices : List ℕ) → after S choices .count .waiting ≡ 0 → (n : ℕ) → n < span (scoreIn S) → (i : ℕ)
       × (i < after S choices .count .logged) × (getD (after S choices .log) i 0 ≡ n)
   pub waits : (choices : List ℕ) → after S choices .count .waiting + after S choices .count .logged ≤ span (scoreIn S)
+  pub number : (choices : List ℕ) → after S choices .count .matches ≡ total (take (span (scoreIn S)) (after S choices .marks))
   pub same-marks : (T : OneFile file) (choices choices′ : List ℕ) → after S choices .count .waiting ≡ 0 → after T choices′ .count .waiting ≡ 0
       → take (span (scoreIn S)) (after S choices .marks) ≡ take (span (scoreIn S)) (after T choices′ .marks)
+  pub same-number : (T : OneFile file) (choices choices′ : List ℕ) → after S choices .count .waiting ≡ 0 → after T choices′ .count .waiting ≡ 0
+      → after S choices .count .matches ≡ after T choices′ .count .matches
   pub same-text : (T : OneFile file) (choices choices′ : List ℕ) → after S choices .count .waiting ≡ 0 → after T choices′ .count .waiting ≡ 0
       → reported S choices ≡ reported T choices′
   pub lists : (ls : List (List ℕ)) → afterLists S ls ≡ after S (singlyIn S ls)

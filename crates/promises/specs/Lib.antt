@@ -10,4 +10,5 @@ pub mod Sample
 pub mod OneFile
 pub mod Demand2
 pub mod Demand3
+pub mod RunningNumber
 pub mod Construction

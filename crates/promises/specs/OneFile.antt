@@ -10,7 +10,7 @@
 --   acceptedIn      how many of the choices were accepted
 --   afterLists listAfter    the walk after any lists of choices, each call lent what the one before left; one more list then
 --   singlyIn acceptedByLists   the choices of such lists that were accepted, in order; how many the answers say that they are
---   reported        the text that find prints
+--   reported        the text that find prints: "find use[s] the stored number"
 use mathlib.Core.Path.{_≡_}
 use mathlib.Core.List.{List, _++_}
 use Prim.Native.Nat.{ℕ}
@@ -120,5 +120,7 @@ module _ {file : List ℕ} (S : OneFile file) where
   acceptedByLists lists = acceptedBy lentIn nodesIn spansIn lists begunIn
 
   abbrev pub reported : List ℕ → List ℕ
-  reported choices = let marks = after choices .marks in
-      report (totalsOf wordsIn startsIn spansIn (S .counts .depth) (S .size .states) (take (length spansIn) marks)) spansIn marks
+  reported choices =
+      let w : Walk = after choices in
+      report (totalsOf wordsIn startsIn spansIn (S .counts .depth) (S .size .states) (w .count .matches) (take (length spansIn) (w .marks))) spansIn
+      (w .marks)

@@ -6,7 +6,7 @@
 --   matchesIn       those of every position, in document order
 --   totalsIn        the numbers of the first line: "nodes, states, matches …, clashes", "a last field, `depth D`, the score's"; which matches clash is said
 --                   in `Clashes` (clashing/specs), over the shapes' and the score's positions
---   totalsOf        the same by the tables and the marks
+--   totalsOf        the same by the tables, the stored number of matches and the marks
 --   reportIn        the text: the first line, then the lines
 use mathlib.Core.List.{List, [], _∷_, _++_, map}
 use mathlib.Core.Bool.{Bool, cond}
@@ -16,7 +16,7 @@ use Rattle.kinds.specs.Lists.{gather, concat, mapAt}
 use Rattle.kinds.specs.Positions.{Pos}
 use Rattle.term.specs.Terms.{Term, span, depth}
 use Rattle.term.specs.Places.{dom}
-use Rattle.counting.specs.Counting.{Match, matchAt, foundIn, total}
+use Rattle.counting.specs.Counting.{Match, matchAt, foundIn}
 use Rattle.clashing.specs.Clashes.{clashNumber, nodesIn, nodesOf}
 use Rattle.report.specs.declared.Totals.{Totals}
 use Rattle.report.specs.Text.{matchLine, firstLine}
@@ -50,12 +50,12 @@ reportIn test shapes t states =
     let ms = matchesIn test shapes t in
     firstLine (totalsIn ms shapes t states) ++ gather (λ m. matchLine (m .match) (m .place)) ms
 
--- ms are the marks of the nodes, d the score's depth
-abbrev pub totalsOf : List ℕ → List ℕ → List ℕ → ℕ → ℕ → List ℕ → Totals
-totalsOf words starts spans d states ms = record {
+-- d is the score's depth, ms are the marks of the nodes
+abbrev pub totalsOf : List ℕ → List ℕ → List ℕ → ℕ → ℕ → ℕ → List ℕ → Totals
+totalsOf words starts spans d states number ms = record {
   nodes = length spans;
   states = states;
-  matches = total ms;
+  matches = number;
   clashes = clashNumber (nodesOf words starts spans) (foundIn ms);
   depth = d;
 }

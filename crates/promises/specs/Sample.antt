@@ -17,7 +17,7 @@ use Rattle.plan.specs.Building.{BuildOutcome}
 use Rattle.kinds.specs.Kinds.{position, childOf, childSays}
 use Rattle.following.specs.Following.{target, reached, reachedSays}
 use Rattle.readers.specs.PlanParts.{labelOf, labelSays, lengthsOf, blockSays, announcementOf, announcementSays, successorOf, successorSays}
-use Rattle.walk.specs.Starting.{Walk, walkOf, counting, started, walkedSays}
+use Rattle.walk.specs.Starting.{Walk, walkOf, counting, started, recordValues, walkedSays}
 use Rattle.walk.specs.Stepping.{stepped, runBy}
 use Rattle.listing.specs.Listing.{ListOutcome, listed, listedSays}
 use Rattle.counting.specs.Counting.{matchesOf, countedSays}
@@ -77,7 +77,7 @@ pub building : BuildOutcome
 building = buildOf symbols shapeWords starts (nines 57) (nines 32768)
 
 abbrev begun : List ℕ → List ℕ → Walk
-begun sc sp = let n = length sc in started symbols sc sp (walkOf (nines (2 * n)) (nines n) (nines n) (counting 7 7)) .walk
+begun sc sp = let n = length sc in started symbols sc sp (walkOf (nines (2 * n)) (nines n) (nines n) (counting 7 7 7)) .walk
 
 pub firsts : Walk
 firsts = runBy (λ n. 0) plan score spans 10 (begun score spans)
@@ -105,7 +105,7 @@ table =
     firsts .marks ∷ firsts .log ∷ lasts .log
     ∷ take 6 (drop 18 plan) ∷ take 8 (drop 30 plan) ∷ take 6 (drop 50 plan)
     ∷ (code (2 ∷ 1 ∷ []) ∷ [])
-    ∷ (alone .count .waiting ∷ alone .count .logged ∷ [])
+    ∷ recordValues (alone .count) ∷ recordValues (firsts .count)
     ∷ row (openedSays (opened [] (lent [] [] [] []) .answer))
     ∷ row (walkedSays (stepped plan score spans 0 firsts .answer))
     ∷ row (listedSays (partly .answer)) ∷ partly .walk .items ∷ partly .walk .log ∷ partly .walk .marks ∷ row (listedSays (nothing .answer))
@@ -117,18 +117,18 @@ table =
     ∷ row (childSays (childOf (position 2) 1)) ∷ row (reachedSays (reached (target 10 spans 0 11))) ∷ row
     (writtenSays (lineOut spans 6 0 (nines 1399) .answer))
     ∷ row (writtenSays (lineOut spans 10 0 (nines 1400) .answer))
-    ∷ report (totalsOf shapeWords starts spans 4 3 marks) spans marks ∷ []
+    ∷ report (totalsOf shapeWords starts spans 4 3 4 marks) spans marks ∷ []
 
 abbrev pub claimed : List (List ℕ)
 claimed =
     marks ∷ (0 ∷ 1 ∷ 5 ∷ 2 ∷ 3 ∷ 6 ∷ 4 ∷ 7 ∷ 8 ∷ 9 ∷ []) ∷ (0 ∷ 5 ∷ 6 ∷ 8 ∷ 9 ∷ 7 ∷ 1 ∷ 3 ∷ 4 ∷ 2 ∷ [])
     ∷ (0 ∷ 2 ∷ 1 ∷ 0 ∷ 2 ∷ 0 ∷ []) ∷ (1 ∷ 1 ∷ 0 ∷ 2 ∷ 1 ∷ 1 ∷ 2 ∷ 1 ∷ []) ∷ (1 ∷ 0 ∷ 0 ∷ 1 ∷ 0 ∷ 11 ∷ [])
     ∷ (11 ∷ [])
-    ∷ (0 ∷ 1 ∷ [])
+    ∷ (0 ∷ 1 ∷ 0 ∷ []) ∷ (0 ∷ 10 ∷ 4 ∷ [])
     ∷ (1 ∷ 0 ∷ [])
     ∷ (32 ∷ 0 ∷ [])
-    ∷ (32 ∷ 6 ∷ 6 ∷ 3 ∷ 6 ∷ []) ∷ (0 ∷ 4 ∷ 1 ∷ 6 ∷ 2 ∷ 6 ∷ nines 14) ∷ (0 ∷ 1 ∷ 5 ∷ 2 ∷ 3 ∷ 6 ∷ nines 4)
-    ∷ (3 ∷ 1 ∷ replicate 8 0) ∷ (0 ∷ 0 ∷ 1 ∷ 0 ∷ [])
+    ∷ (32 ∷ 6 ∷ 6 ∷ 3 ∷ 6 ∷ 3 ∷ []) ∷ (0 ∷ 4 ∷ 1 ∷ 6 ∷ 2 ∷ 6 ∷ nines 14) ∷ (0 ∷ 1 ∷ 5 ∷ 2 ∷ 3 ∷ 6 ∷ nines 4)
+    ∷ (3 ∷ 1 ∷ replicate 8 0) ∷ (0 ∷ 0 ∷ 1 ∷ 0 ∷ 0 ∷ [])
     ∷ (0 ∷ 3 ∷ 2 ∷ 9 ∷ 10 ∷ 4 ∷ 2 ∷ []) ∷ shapeWords ∷ starts ∷ score ∷ spans
     ∷ (0 ∷ 3 ∷ 56 ∷ []) ∷ (plan ++ (9 ∷ []))
     ∷ (0 ∷ 4 ∷ []) ∷ (0 ∷ 3 ∷ [])

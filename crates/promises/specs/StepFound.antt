@@ -11,10 +11,11 @@
 --   "each node reached", "each child gone to or stepped over"                           node-read, node: both are in `target`
 --   "the log has room for one more, the waiting list for all items before and after"    log-room; room-before, room-after
 --   "every place named exists in its buffer"                                            symbol-read, marks-there
+--   "34 also if the stored number is above sixteen times n" (document 02, wish 5)      number-in; number-held, which no score that can be lent meets
 use mathlib.Core.Path.{_≡_}
 use mathlib.Core.List.{List}
 use mathlib.Core.Option.{Option, some}
-use Prim.Native.Nat.{ℕ, _+_, _*_, _<_, _≤_}
+use Prim.Native.Nat.{ℕ, _+_, _*_, _^_, _<_, _≤_}
 use lib.ListN.{length, getD, getElem?}
 use Rattle.following.specs.Following.{target}
 use Rattle.readers.specs.BlockWords.{pairList, middle}
@@ -61,6 +62,8 @@ module _ (plan score spans : List ℕ) (state node : ℕ) where
 pub record StepFound (plan score spans : List ℕ) (i : ℕ) (w v : Walk) : Type 0 where
   pub found : Finding
   pub item : ItemFound plan score spans (getD (w .items) (2 * i) 0) (getD (w .items) (2 * i + 1) 0) found
+  pub number-in : w .count .matches ≤ 16 * length score
+  pub number-held : w .count .matches ≤ 2 ^ 63
   pub log-room : w .count .logged < length (w .log)
   pub room-before : 2 * w .count .waiting ≤ length (w .items)
   pub room-after : 2 * v .count .waiting ≤ length (w .items)

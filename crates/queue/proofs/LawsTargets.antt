@@ -4,7 +4,8 @@
 --   all-wider                                    with a higher limit
 --   fine-split fine-fail fine-small              all of them, and the targets
 --   landed-length
---   marks-next marks-end, items-next items-end   one at a time: marks, and items
+--   marks-next marks-end, newly-next newly-end, items-next items-end   one at a time: marks, the bits newly set, and items
+--   newly-most                                   no more bits than announcements
 --   next-up end-up                               items close up
 use mathlib.Core.Path.{_≡_, refl, ap, ap₂, sym, _∙_}
 use mathlib.Core.Bool.{Bool, true, false, _&&_}
@@ -19,12 +20,11 @@ use lib.Dec.{ltb}
 use lib.ListN.{length, getD, take, drop, set}
 use lib.Seq.{sets, drop-cons, drop-set-lt}
 use Rattle.kinds.specs.Lists.{orElse, all}
-use Rattle.kinds.specs.Bits.{withBit}
+use Rattle.kinds.specs.Bits.{clearBit, withBit}
 use Rattle.kinds.proofs.Bools.{and-l, and-r, both, and-false, false-true, ltb-is}
 use Rattle.following.specs.declared.Reached.the-variants as term
 use Rattle.readers.specs.PlanParts.{pairWords}
-use Rattle.queue.specs.Targets.{targets, marked}
-use Rattle.queue.specs.Targets.{belowRoom, fine, landed, closedUp}
+use Rattle.queue.specs.Targets.{targets, put, marked, newly, belowRoom, fine, landed, closedUp}
 use Rattle.readers.specs.BlockWords.{pairList}
 use Rattle.readers.proofs.LawsPairs.{pairList-cons, pairList-end}
 
@@ -152,6 +152,11 @@ unfolding landed
 landed-length to [] = refl
 landed-length to (x ∷ ps) = ap suc (landed-length to ps)
 
+pub newly-most : (xs : List (ℕ × ℕ)) (ms : List ℕ) → newly xs ms ≤ length xs
+unfolding newly
+newly-most [] ms = omega arith
+newly-most (x ∷ xs) ms = let ih = newly-most xs (put x ms) in omega arith
+
 -- ---- marks and items, one at a time
 module _ (to : ℕ → Option ℕ) (ws : List ℕ) (b n : ℕ) where
   pub marks-next : (ms : List ℕ) (x v : ℕ) → 0 < n → x ≡ orElse (to (getD ws (b + 1) 0)) 0 → v ≡ withBit (getD ms x 0) (getD ws b 0)
@@ -162,6 +167,20 @@ module _ (to : ℕ → Option ℕ) (ws : List ℕ) (b n : ℕ) where
   pub marks-end : (ms : List ℕ) → n ≤ 0 → marked (landed to (pairList ws b n)) ms ≡ ms
   unfolding marked landed
   marks-end ms h = rw (pairList-end ws b n h)
+
+  -- of all bits newly set, some are counted
+  pub newly-next : (ms : List ℕ) (x v all new c : ℕ) → all ≡ new + newly (landed to (pairList ws b n)) ms → 0 < n → x ≡ orElse (to (getD ws (b + 1) 0)) 0
+      → c ≡ clearBit (getD ms x 0) (getD ws b 0) → v ≡ withBit (getD ms x 0) (getD ws b 0)
+      → all ≡ new + c + newly (landed to (pairList ws (b + 2) (n - 1))) (set ms x v)
+  unfolding newly landed
+  newly-next ms x v all new c e h ex ec ev =
+      let d : newly (landed to (pairList ws b n)) ms ≡ c + newly (landed to (pairList ws (b + 2) (n - 1))) (set ms x v) =
+      rw (pairList-cons ws b n h, ec, ev, ex) in
+      omega (arith, e, d)
+
+  pub newly-end : (ms : List ℕ) (all new : ℕ) → all ≡ new + newly (landed to (pairList ws b n)) ms → n ≤ 0 → new ≡ all
+  unfolding newly landed
+  newly-end ms all new e h = let d : newly (landed to (pairList ws b n)) ms ≡ 0 = rw (pairList-end ws b n h) in omega (arith, e, d)
 
   pub items-next : (xs : List ℕ) (e x : ℕ) → 0 < n → x ≡ orElse (to (getD ws (b + 1) 0)) 0
       → sets xs e (pairWords (landed to (pairList ws b n))) ≡ sets (set (set xs e (getD ws b 0)) (e + 1) x) (e + 2)

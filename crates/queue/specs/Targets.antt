@@ -1,6 +1,7 @@
 -- Pairs of a number and a code, and what they lead to.
 --   targets    for each pair the number, below its count, and the node that the code leads to
---   marked     "Bit j of the mark at a node is set when shape j is announced there"
+--   put marked "Bit j of the mark at a node is set when shape j is announced there"
+--   newly      for each announcement in order one, if the bit was clear when it is set
 --   fine       a pair's number is below its limit, and its code leads to a node below room
 --   landed     each pair's number, and the node that its code leads to
 --   PairsIn Leading Appended   what the code asks: pairs that are there; that lead to marks; room for items
@@ -15,16 +16,24 @@ use lib.ListN.{length, getD, take, drop, set}
 use lib.Seq.{sets}
 use Rattle.kinds.specs.Limits.{mostShapes}
 use Rattle.kinds.specs.Lists.{bind, need, orElse, all}
-use Rattle.kinds.specs.Bits.{withBit}
+use Rattle.kinds.specs.Bits.{clearBit, withBit}
 use Rattle.readers.specs.BlockWords.{pairList}
 
 unfoldable pub targets : ℕ → (ℕ → Option ℕ) → List (ℕ × ℕ) → Option (List (ℕ × ℕ))
 targets limit to [] = some []
 targets limit to (x ∷ xs) = need (ltb (x .0) limit) (bind (to (x .1)) (λ y. bind (targets limit to xs) (λ ys. some ((x .0, y) ∷ ys))))
 
+-- a shape and a node
+abbrev pub put : ℕ × ℕ → List ℕ → List ℕ
+put x ms = set ms (x .1) (withBit (getD ms (x .1) 0) (x .0))
+
 unfoldable pub marked : List (ℕ × ℕ) → List ℕ → List ℕ
 marked [] ms = ms
-marked (x ∷ xs) ms = marked xs (set ms (x .1) (withBit (getD ms (x .1) 0) (x .0)))
+marked (x ∷ xs) ms = marked xs (put x ms)
+
+unfoldable pub newly : List (ℕ × ℕ) → List ℕ → ℕ
+newly [] ms = 0
+newly (x ∷ xs) ms = clearBit (getD ms (x .1) 0) (x .0) + newly xs (put x ms)
 
 abbrev pub belowRoom : ℕ → Option ℕ → Bool
 belowRoom room (some x) = ltb x room

@@ -2,17 +2,16 @@ ghost use mathlib.Core.Path.{_≡_};
 ghost use Prim.Native.Nat.{_+_, _<_, _≤_};
 ghost use lib.ListN.{length};
 ghost use lib.Seq.{sets};
-ghost use Rattle.kinds.specs.Bits.{withBit};
+ghost use Rattle.kinds.specs.Bits.{clearBit, withBit};
 ghost use Rattle.following.specs.Following.{target};
 ghost use Rattle.readers.specs.PlanParts.{pairWords};
-ghost use Rattle.queue.specs.Targets.{marked, Leading, Appended};
-ghost use Rattle.queue.specs.Targets.{landed, closedUp, Leading, Appended};
+ghost use Rattle.queue.specs.Targets.{marked, newly, landed, closedUp, Leading, Appended};
 ghost use Rattle.readers.specs.BlockWords.{pairList};
 use crate::aiming::aim;
 use kinds::Node;
 use kinds::Position;
 
-// Sets the bit of each announcement.
+// Sets the bit of each announcement, and counts those that were clear.
 pub fn mark_pairs(
     plan: &[u16],
     nodes: usize,
@@ -21,18 +20,31 @@ pub fn mark_pairs(
     from: Node,
     at: usize,
     count: usize,
-)
+) -> usize
     requires { ⌜ Leading (now plan) at count (target nodes (now spans) (from .0)) (now marks) ⌝ }
-    ensures { λ r. ⌜ now (marks .exit) ≡ marked (landed (target nodes (now (spans .entry)) (from .0)) (pairList (now (plan .entry)) at count)) (now (marks .entry)) ⌝ }
+    ensures { λ r. ⌜ (r ≡ newly (landed (target nodes (now (spans .entry)) (from .0)) (pairList (now (plan .entry)) at count)) (now (marks .entry))) × (now (marks .exit) ≡ marked (landed (target nodes (now (spans .entry)) (from .0)) (pairList (now (plan .entry)) at count)) (now (marks .entry))) ⌝ }
 {
     let mut here = at;
     let mut left = count;
+    let mut new: usize = 0;
     while 0 < left {
         let x = aim(nodes, spans, from, Position(plan[here + 1])) as usize;
-        marks[x] = with_bit(marks[x], plan[here]);
+        let mark = marks[x];
+        let shape = plan[here];
+        new += clear_bit(mark, shape);
+        marks[x] = with_bit(mark, shape);
         here += 2;
         left -= 1;
     }
+    new
+}
+
+// 1 if bit j of a mark is clear, else 0.
+fn clear_bit(m: u16, j: u16) -> usize
+    requires { ⌜ j < 16 ⌝ }
+    ensures { λ r. ⌜ r ≡ clearBit m j ⌝ }
+{
+    (1 - (m >> j) % 2) as usize
 }
 
 // A mark with bit j set.

@@ -80,11 +80,11 @@ module _ (ws : List ℕ) (n i : ℕ) where
 -- ---- as the code tells it
 module _ (ar score spans items log marks : List ℕ) where
   abbrev W : Walk
-  W = walkOf items log marks (counting 0 0)
+  W = walkOf items log marks (counting 0 0 0)
 
   abbrev pub Clauses : Walked → List ℕ → List ℕ → List ℕ → Type 0
   Clauses a items′ log′ marks′ =
-      outcome a (counting 0 0) items′ log′ marks′ ≡ started ar score spans W
+      outcome a (counting 0 0 0) items′ log′ marks′ ≡ started ar score spans W
 
   pub tells-bad : scoreGood ar score spans ≡ false → Clauses (Refused BadScore) items log marks
   tells-bad e = sym (started-bad ar score spans W e)
@@ -102,7 +102,7 @@ module _ (ar score spans items log marks : List ℕ) where
         tells-marks l = sym (started-marks ar score spans W good fits h l)
 
         pub tells-on : {marks′ : List ℕ} → length score ≤ length marks → marks′ ≡ sets marks 0 (replicate (length score) 0)
-            → Clauses (On (counting 1 0)) (set (set items 0 0) 1 0) log marks′
+            → Clauses (On (counting 1 0 0)) (set (set items 0 0) 1 0) log marks′
         tells-on l e =
             let some = score-some ar score spans good in
             on-is log refl (begun-items items (omega arith)) (e ∙ begun-marks (length score) marks l)

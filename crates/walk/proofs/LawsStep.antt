@@ -1,16 +1,16 @@
 -- A step, way by way through the code.
---   step-32 step-few                         the refusals that need no look
+--   step-32 step-number step-few             the refusals that need no look
 --   head-counts head-label head-nowhere head-block head-at, head-good head-fits   what an item finds
---   leads-outs leads-nexts, room-log room-items   what is left to decide then
---   sight-few sight-head sight-leads sight-room sight-some, Sighted sighted-is sight-outs sight-block   what a step sees
+--   fits-items fits-far fits-near fits-lent, leads-outs leads-nexts, room-log room-items   what is decided before and behind it
+--   sight-few sight-head sight-leads sight-room sight-some, Sighted sighted-is sight-outs sight-block sight-new   what a step sees
 --   step-nothing step-unseen step-done done-waiting done-items   the step
 --   Clauses tells-32 tells-34 tells-on       what the code answers and leaves is what the definition says
 use mathlib.Core.Path.{_≡_, refl, ap, ap₂, sym, _∙_}
 use mathlib.Core.Bool.{Bool, true, false, _&&_}
 use mathlib.Core.List.{List}
 use mathlib.Core.Option.{Option, none, some}
-use mathlib.Core.Logic.{⊎-elim}
-use Prim.Native.Nat.{ℕ, _+_, _*_, _-_, _/_, _<_, _≤_}
+use mathlib.Core.Logic.{_⊎_, inl, inr, ⊎-elim}
+use Prim.Native.Nat.{ℕ, _+_, _*_, _-_, _/_, _^_, _<_, _≤_}
 use native.Mathlib.Omega.{arith}
 use native.Mathlib.Decide.{decLe}
 use native.Mathlib.Numerals.{add-one}
@@ -22,7 +22,7 @@ use Rattle.kinds.specs.Lists.{bind, need, all}
 use Rattle.kinds.specs.declared.Reason.{Reason}
 use Rattle.kinds.specs.declared.Reason.the-variants.{NoSuchItem, OutOfRange}
 use Rattle.kinds.specs.Kinds.{position}
-use Rattle.kinds.proofs.Bools.{and-l, and-r, both, and-false, false-true, ltb-is, leb-is, half-leb}
+use Rattle.kinds.proofs.Bools.{test, and-l, and-r, both, and-false, false-true, ltb-is, leb-is, half-leb}
 use Rattle.kinds.proofs.Options.{none-not, on-bind, on-need, bind-along, need-along}
 use Rattle.kinds.proofs.Places.{getElem-some}
 use Rattle.following.specs.Following.{target}
@@ -34,15 +34,14 @@ use Rattle.walk.specs.declared.Record.{Record}
 use Rattle.walk.specs.declared.Walked.{Walked}
 use Rattle.walk.specs.declared.Walked.the-variants.{On, Refused}
 use Rattle.walk.proofs.LawsStart.{on-is}
-use Rattle.walk.specs.Stepping.{Finding, look, onward, roomy, moved, tried, orRefuse, stepped}
-use Rattle.queue.specs.Targets.{targets, marked}
-use Rattle.walk.specs.ByIndex.{lookHead, leadsFine, roomLeft, sighted}
-use Rattle.queue.specs.Targets.{fine, landed, closedUp}
+use Rattle.walk.specs.Stepping.{Finding, look, onward, numbered, roomy, moved, tried, orRefuse, stepped}
+use Rattle.queue.specs.Targets.{targets, marked, newly, fine, landed, closedUp}
+use Rattle.walk.specs.ByIndex.{lookHead, recordFits, leadsFine, roomLeft, sighted}
 use Rattle.readers.specs.BlockWords.{pairList, middle, outsAt, nextsAt, blockFits, blockStart}
 use Rattle.readers.proofs.LawsPairs.{fits-in, pairList-length, pairList-at, pairs-list, pairs-none}
 use Rattle.walk.proofs.LawsOnward.{onward-length, onward-words}
 use Rattle.readers.proofs.LawsParts.{counts-of, no-label, a-label, block-start, start-fits}
-use Rattle.queue.proofs.LawsTargets.{all-wider, fine-split, fine-fail, fine-small, landed-length}
+use Rattle.queue.proofs.LawsTargets.{all-wider, fine-split, fine-fail, fine-small, landed-length, newly-most}
 
 -- ---- the refusals that need no look
 module _ (plan score spans : List ℕ) (i : ℕ) (w : Walk) where
@@ -50,9 +49,14 @@ module _ (plan score spans : List ℕ) (i : ℕ) (w : Walk) where
   unfolding stepped
   step-32 h = rw (le-ltb _ _ h)
 
-  pub step-few : i < w .count .waiting → length (w .items) < 2 * w .count .waiting → stepped plan score spans i w ≡ refuseWalk OutOfRange w
+  pub step-number : i < w .count .waiting → numbered (length score) (w .count) ≡ false → stepped plan score spans i w ≡ refuseWalk OutOfRange w
   unfolding stepped tried
-  step-few h l = rw (lt-ltb _ _ h, pairs-none (w .count .waiting) (w .items) l)
+  step-number h k = rw (lt-ltb _ _ h, k)
+
+  pub step-few : i < w .count .waiting → numbered (length score) (w .count) ≡ true → length (w .items) < 2 * w .count .waiting
+      → stepped plan score spans i w ≡ refuseWalk OutOfRange w
+  unfolding stepped tried
+  step-few h k l = rw (lt-ltb _ _ h, k, pairs-none (w .count .waiting) (w .items) l)
 
 -- ---- the look
 module _ (plan score spans : List ℕ) (it : ℕ × ℕ) where
@@ -134,6 +138,33 @@ module _ (plan score spans : List ℕ) (it : ℕ × ℕ) (x b : ℕ) (e : lookHe
       let ab : a ≡ b = ap (λ q. q .1) yb in
       rw ab at (start-fits plan (getD plan 0 0) (getD plan 1 0) (it .0) f ea)
 
+-- ---- what the record says
+module _ (items n : ℕ) (r : Record) where
+  pub fits-items : items / 2 < r .waiting → recordFits items n r ≡ false
+  unfolding recordFits
+  fits-items h = rw (lt-leb (2 * r .waiting) items (omega arith))
+
+  module _ (g : r .waiting ≤ items / 2) where
+    pub fits-far : 2 ^ 59 < n → recordFits items n r ≡ leb (r .matches) (16 * 2 ^ 59)
+    unfolding recordFits
+    fits-far h = rw (le-leb (2 * r .waiting) items (omega arith)) (go (decLe (r .matches) (16 * n)))
+      where
+        go : Dec (r .matches ≤ 16 * n) → (leb (r .matches) (16 * n) && leb (r .matches) (2 ^ 63)) ≡ leb (r .matches) (16 * 2 ^ 59)
+        go (yes k) = rw (le-leb (r .matches) (16 * n) k) refl
+        go (no k) = rw (lt-leb (r .matches) (16 * n) (omega arith), lt-leb (r .matches) (16 * 2 ^ 59) (omega arith)) refl
+
+    pub fits-near : n ≤ 2 ^ 59 → recordFits items n r ≡ leb (r .matches) (16 * n)
+    unfolding recordFits
+    fits-near h = rw (le-leb (2 * r .waiting) items (omega arith)) (go (decLe (r .matches) (16 * n)))
+      where
+        go : Dec (r .matches ≤ 16 * n) → (leb (r .matches) (16 * n) && leb (r .matches) (2 ^ 63)) ≡ leb (r .matches) (16 * n)
+        go (yes k) = rw (le-leb (r .matches) (16 * n) k, le-leb (r .matches) (2 ^ 63) (omega arith)) refl
+        go (no k) = rw (lt-leb (r .matches) (16 * n) (omega arith)) refl
+
+  pub fits-lent : recordFits items n r ≡ true → 2 * r .waiting ≤ items
+  unfolding recordFits
+  fits-lent e = leb-is _ _ (and-l _ e)
+
 -- ---- what is left to decide
 module _ (plan : List ℕ) (n : ℕ) (spans : List ℕ) (from b marks : ℕ) where
   pub leads-outs : all (fine (getD plan 2 0) marks (target n spans from)) (outsAt plan b) ≡ false → leadsFine plan n spans from b marks ≡ false
@@ -156,34 +187,35 @@ module _ (plan : List ℕ) (b items log : ℕ) (r : Record) where
 
 -- ---- what a step sees
 module _ (plan score spans items : List ℕ) (log marks : ℕ) (r : Record) (i : ℕ) where
-  pub sight-few : length items < 2 * r .waiting → sighted plan score spans items log marks r i ≡ none
+  pub sight-few : recordFits (length items) (length score) r ≡ false → sighted plan score spans items log marks r i ≡ none
   unfolding sighted
-  sight-few l = rw (lt-leb _ _ l)
+  sight-few l = rw l
 
-  module _ (g : 2 * r .waiting ≤ length items) where
+  module _ (g : recordFits (length items) (length score) r ≡ true) where
     pub sight-head : lookHead plan score spans (getD items (2 * i) 0, getD items (2 * i + 1) 0) ≡ none
         → sighted plan score spans items log marks r i ≡ none
     unfolding sighted
-    sight-head e = rw (le-leb _ _ g, e)
+    sight-head e = rw (g, e)
 
     module _ (x b : ℕ) (e : lookHead plan score spans (getD items (2 * i) 0, getD items (2 * i + 1) 0) ≡ some (x, b)) where
       pub sight-leads : leadsFine plan (length score) spans (getD items (2 * i + 1) 0) b marks ≡ false
           → sighted plan score spans items log marks r i ≡ none
       unfolding sighted
-      sight-leads d = rw (le-leb _ _ g, e, d)
+      sight-leads d = rw (g, e, d)
 
       module _ (l : leadsFine plan (length score) spans (getD items (2 * i + 1) 0) b marks ≡ true) where
         pub sight-room : roomLeft plan b (length items) log r ≡ false → sighted plan score spans items log marks r i ≡ none
         unfolding sighted
-        sight-room d = rw (le-leb _ _ g, e, l, d)
+        sight-room d = rw (g, e, l, d)
 
         pub sight-some : roomLeft plan b (length items) log r ≡ true
             → sighted plan score spans items log marks r i ≡ some (getD items (2 * i + 1) 0, x, b)
         unfolding sighted
-        sight-some d = rw (le-leb _ _ g, e, l, d)
+        sight-some d = rw (g, e, l, d)
 
   pub record Sighted (from x b : ℕ) : Type 0 where
     pub fits : 2 * r .waiting ≤ length items
+    pub number : numbered (length score) r ≡ true
     pub is-from : from ≡ getD items (2 * i + 1) 0
     pub head : lookHead plan score spans (getD items (2 * i) 0, from) ≡ some (x, b)
     pub outs : all (fine (getD plan 2 0) marks (target (length score) spans from)) (outsAt plan b) ≡ true
@@ -192,9 +224,9 @@ module _ (plan score spans items : List ℕ) (log marks : ℕ) (r : Record) (i :
     pub room : 2 * (r .waiting - 1 + getD plan (middle plan b) 0) ≤ length items
 
   pub sighted-is : {from x b : ℕ} → sighted plan score spans items log marks r i ≡ some (from, x, b) → Sighted from x b
-  unfolding sighted leadsFine roomLeft
+  unfolding sighted recordFits leadsFine roomLeft
   sighted-is {from} {x} {b} e =
-      on-need (leb (2 * r .waiting) (length items)) _ e λ t₁ e₁.
+      on-need (leb (2 * r .waiting) (length items) && numbered (length score) r) _ e λ t₁ e₁.
       on-bind (lookHead plan score spans (getD items (2 * i) 0, getD items (2 * i + 1) 0)) _ e₁ λ h eh e₂.
       on-need (all (fine (getD plan 2 0) marks (target (length score) spans (getD items (2 * i + 1) 0))) (outsAt plan (h .1)) && all
       (fine (getD plan 0 0) 65536 (target (length score) spans (getD items (2 * i + 1) 0))) (nextsAt plan (h .1))) _ e₂ λ t₃ e₃.
@@ -203,12 +235,13 @@ module _ (plan score spans items : List ℕ) (log marks : ℕ) (r : Record) (i :
       parts h eh (ap (λ q. q .0) z) (ap (λ q. q .1) z) (ap (λ q. q .2) z) t₁ t₃ t₄
     where
       parts : (h : ℕ × ℕ) → lookHead plan score spans (getD items (2 * i) 0, getD items (2 * i + 1) 0) ≡ some h → getD items (2 * i + 1) 0 ≡ from
-          → h .0 ≡ x → h .1 ≡ b → leb (2 * r .waiting) (length items) ≡ true
+          → h .0 ≡ x → h .1 ≡ b → (leb (2 * r .waiting) (length items) && numbered (length score) r) ≡ true
           → (all (fine (getD plan 2 0) marks (target (length score) spans (getD items (2 * i + 1) 0))) (outsAt plan (h .1)) && all
           (fine (getD plan 0 0) 65536 (target (length score) spans (getD items (2 * i + 1) 0))) (nextsAt plan (h .1))) ≡ true
           → (ltb (r .logged) log && leb (2 * (r .waiting - 1 + getD plan (middle plan (h .1)) 0)) (length items)) ≡ true → Sighted from x b
       parts h eh ef ex eb t₁ t₃ t₄ = rw (← ef, ← ex, ← eb) (record {
-        fits = leb-is _ _ t₁;
+        fits = leb-is _ _ (and-l _ t₁);
+        number = and-r (leb (2 * r .waiting) (length items)) t₁;
         is-from = refl;
         head = eh;
         outs = and-l _ t₃;
@@ -226,8 +259,19 @@ module _ (plan score spans items : List ℕ) (log marks : ℕ) (r : Record) (i :
     pub sight-block : middle plan b + 1 + 2 * getD plan (middle plan b) 0 ≤ length plan
     sight-block = fits-in plan b (head-fits plan score spans (getD items (2 * i) 0, from) x b (d .head))
 
+    -- a record has room for the bits newly set
+    pub sight-new : (ms : List ℕ) → r .matches + newly (landed (target (length score) spans from) (outsAt plan b)) ms ≤ 2 ^ 63 + length plan
+    sight-new ms =
+        let h : r .matches ≤ 2 ^ 63 = leb-is _ _ (and-r (leb (r .matches) (16 * length score)) (d .number)) in
+        let l = newly-most (landed (target (length score) spans from) (outsAt plan b)) ms in
+        let m = landed-length (target (length score) spans from) (outsAt plan b) in
+        let k = pairList-length (getD plan b 0) plan (b + 1) in
+        let f = sight-block in
+        omega arith
+
 -- ---- the step
-module _ (plan score spans : List ℕ) (i : ℕ) (w : Walk) (h : i < w .count .waiting) (g : 2 * w .count .waiting ≤ length (w .items)) where
+module _ (plan score spans : List ℕ) (i : ℕ) (w : Walk) (h : i < w .count .waiting) (k : numbered (length score) (w .count) ≡ true)
+    (g : 2 * w .count .waiting ≤ length (w .items)) where
   abbrev item : ℕ × ℕ
   item = (getD (w .items) (2 * i) 0, getD (w .items) (2 * i + 1) 0)
 
@@ -246,7 +290,7 @@ module _ (plan score spans : List ℕ) (i : ℕ) (w : Walk) (h : i < w .count .w
       let z : 0 + 2 * i ≡ 2 * i = omega arith in
       let q : getElem? its i ≡ some item =
       pairList-at (w .count .waiting) (w .items) 0 i h ∙ ap (λ (k : ℕ). some (getD (w .items) k 0, getD (w .items) (k + 1) 0)) z in
-      rw (lt-ltb _ _ h, p, q)
+      rw (lt-ltb _ _ h, k, p, q)
 
   pub step-nothing : lookHead plan score spans item ≡ none → stepped plan score spans i w ≡ refuseWalk OutOfRange w
   step-nothing e = step-by ∙ rw (look-head plan score spans item, e)
@@ -355,8 +399,8 @@ module _ (plan score spans : List ℕ) (i : ℕ) (w : Walk) (h : i < w .count .w
   -- no step without a sight
   pub step-unseen : sighted plan score spans (w .items) (length (w .log)) (length (w .marks)) (w .count) i ≡ none
       → stepped plan score spans i w ≡ refuseWalk OutOfRange w
-  unfolding sighted
-  step-unseen e = go (lookHead plan score spans item) refl (rw (le-leb _ _ g) at e)
+  unfolding sighted recordFits
+  step-unseen e = go (lookHead plan score spans item) refl (rw (le-leb _ _ g, k) at e)
     where
       left : (x b : ℕ) → lookHead plan score spans item ≡ some (x, b) → (l m : Bool)
           → leadsFine plan (length score) spans (getD (w .items) (2 * i + 1) 0) b (length (w .marks)) ≡ l
@@ -388,36 +432,41 @@ module _ (plan score spans items log marks : List ℕ) (r : Record) (i : ℕ) wh
   tells-32 h = sym (step-32 plan score spans i W h)
 
   pub tells-34 : i < r .waiting → sighted plan score spans items (length log) (length marks) r i ≡ none → Clauses (Refused OutOfRange) items log marks
-  tells-34 h e = go (decLe (2 * r .waiting) (length items))
+  tells-34 h e = go (test (numbered (length score) r)) (decLe (2 * r .waiting) (length items))
     where
-      go : Dec (2 * r .waiting ≤ length items) → Clauses (Refused OutOfRange) items log marks
-      go (yes g) = sym (step-unseen plan score spans i W h g e)
-      go (no g) = sym (step-few plan score spans i W h (omega arith))
+      go : (numbered (length score) r ≡ true) ⊎ (numbered (length score) r ≡ false) → Dec (2 * r .waiting ≤ length items)
+          → Clauses (Refused OutOfRange) items log marks
+      go (inl k) (yes g) = sym (step-unseen plan score spans i W h k g e)
+      go (inl k) (no g) = sym (step-few plan score spans i W h k (omega arith))
+      go (inr k) d = sym (step-number plan score spans i W h k)
 
-  pub tells-on : {items′ up marks′ : List ℕ} {from x b : ℕ} → i < r .waiting
+  pub tells-on : {items′ up marks′ : List ℕ} {from x b new : ℕ} → i < r .waiting
       → sighted plan score spans items (length log) (length marks) r i ≡ some (from, x, b)
       → up ≡ closedUp items (2 * i) (2 * r .waiting)
       → items′ ≡ sets up (2 * r .waiting - 2) (pairWords (landed (target (length score) spans from) (nextsAt plan b)))
+      → new ≡ newly (landed (target (length score) spans from) (outsAt plan b)) marks
       → marks′ ≡ marked (landed (target (length score) spans from) (outsAt plan b)) marks
-      → Clauses (On (counting (r .waiting - 1 + getD plan (middle plan b) 0) (r .logged + 1))) items′ (set log (r .logged) x) marks′
-  tells-on {items′} {up} {marks′} {from} {x} {b} h e eu it ma = let d = sighted-is plan score spans items (length log) (length marks) r i e in
-      go from (d .is-from) d it ma
+      → Clauses (On (counting (r .waiting - 1 + getD plan (middle plan b) 0) (r .logged + 1) (r .matches + new))) items′ (set log (r .logged) x) marks′
+  tells-on {items′} {up} {marks′} {from} {x} {b} {new} h e eu it ne ma = let d = sighted-is plan score spans items (length log) (length marks) r i e in
+      go from (d .is-from) d it ne ma
     where
       -- from the item's node
       here : Sighted plan score spans items (length log) (length marks) r i (getD items (2 * i + 1) 0) x b
           → items′ ≡ sets up (2 * r .waiting - 2) (pairWords (landed (target (length score) spans (getD items (2 * i + 1) 0)) (nextsAt plan b)))
+          → new ≡ newly (landed (target (length score) spans (getD items (2 * i + 1) 0)) (outsAt plan b)) marks
           → marks′ ≡ marked (landed (target (length score) spans (getD items (2 * i + 1) 0)) (outsAt plan b)) marks
-          → Clauses (On (counting (r .waiting - 1 + getD plan (middle plan b) 0) (r .logged + 1))) items′ (set log (r .logged) x) marks′
-      here d it ma =
-          let lw = sym (done-waiting plan score spans i W h (d .fits) x b (d .head) d) in
+          → Clauses (On (counting (r .waiting - 1 + getD plan (middle plan b) 0) (r .logged + 1) (r .matches + new))) items′ (set log (r .logged) x) marks′
+      here d it ne ma =
+          let lw = sym (done-waiting plan score spans i W h (d .number) (d .fits) x b (d .head) d) in
           let li = ap (λ (l : List ℕ). sets l (2 * r .waiting - 2)
           (pairWords (landed (target (length score) spans (getD items (2 * i + 1) 0)) (nextsAt plan b)))) eu
-          ∙ sym (done-items plan score spans i W h (d .fits) x b (d .head) d) in
-          on-is (set log (r .logged) x) (ap₂ counting lw (add-one (r .logged))) (it ∙ li) ma
-          ∙ sym (step-done plan score spans i W h (d .fits) x b (d .head) d)
+          ∙ sym (done-items plan score spans i W h (d .number) (d .fits) x b (d .head) d) in
+          on-is (set log (r .logged) x) (λ j. counting (lw j) (add-one (r .logged) j) (r .matches + ne j)) (it ∙ li) ma
+          ∙ sym (step-done plan score spans i W h (d .number) (d .fits) x b (d .head) d)
 
       go : (from : ℕ) → from ≡ getD items (2 * i + 1) 0 → Sighted plan score spans items (length log) (length marks) r i from x b
           → items′ ≡ sets up (2 * r .waiting - 2) (pairWords (landed (target (length score) spans from) (nextsAt plan b)))
+          → new ≡ newly (landed (target (length score) spans from) (outsAt plan b)) marks
           → marks′ ≡ marked (landed (target (length score) spans from) (outsAt plan b)) marks
-          → Clauses (On (counting (r .waiting - 1 + getD plan (middle plan b) 0) (r .logged + 1))) items′ (set log (r .logged) x) marks′
-      go from z d it ma = here (rw z at d) (rw z at it) (rw z at ma)
+          → Clauses (On (counting (r .waiting - 1 + getD plan (middle plan b) 0) (r .logged + 1) (r .matches + new))) items′ (set log (r .logged) x) marks′
+      go from z d it ne ma = here (rw z at d) (rw z at it) (rw z at ne) (rw z at ma)

@@ -1,6 +1,7 @@
 -- Inside: a step's parts, by index into the words.
 --   lookHead     the node that an item reads, and where its block begins
 --   leadsFine    each announcement is a shape's and leads to a mark, each successor is a state's and leads to a node
+--   recordFits   the items waiting lie in the words lent, and the stored number may stand
 --   Taking       what is known where room is asked for: an item waits in the words lent, and its block lies in the plan
 --   roomLeft     the log has room for one more, the waiting words for all items after the step
 --   sighted      what a step that is not refused 34 sees: the item's node, the node read, where the block begins
@@ -22,6 +23,7 @@ use Rattle.walk.specs.declared.Head.the-variants as head
 use Rattle.walk.specs.declared.Record.{Record}
 use Rattle.walk.specs.declared.Sight.{Sight}
 use Rattle.walk.specs.declared.Sight.the-variants as sight
+use Rattle.walk.specs.Stepping.{numbered}
 
 unfoldable pub lookHead : List ℕ → List ℕ → List ℕ → ℕ × ℕ → Option (ℕ × ℕ)
 lookHead plan score spans it =
@@ -37,6 +39,10 @@ unfoldable pub leadsFine : List ℕ → ℕ → List ℕ → ℕ → ℕ → ℕ
 leadsFine plan n spans from b marks = all (fine (getD plan 2 0) marks (target n spans from)) (outsAt plan b) && all
     (fine (getD plan 0 0) 65536 (target n spans from)) (nextsAt plan b)
 
+-- so many words of waiting items, and n of score
+unfoldable pub recordFits : ℕ → ℕ → Record → Bool
+recordFits items n r = leb (2 * r .waiting) items && numbered n r
+
 -- an item of the words lent is about to be taken, and its block lies in the plan
 pub record Taking (plan : List ℕ) (b items : ℕ) (r : Record) : Type 0 where
   pub fits : blockFits plan b ≡ true
@@ -49,7 +55,7 @@ roomLeft plan b items log r = ltb (r .logged) log && leb (2 * (r .waiting - 1 + 
 unfoldable pub sighted : List ℕ → List ℕ → List ℕ → List ℕ → ℕ → ℕ → Record → ℕ → Option (ℕ × ℕ × ℕ)
 sighted plan score spans items log marks r i =
     let from = getD items (2 * i + 1) 0 in
-    need (leb (2 * r .waiting) (length items))
+    need (recordFits (length items) (length score) r)
     (bind (lookHead plan score spans (getD items (2 * i) 0, from)) (λ h.
     need (leadsFine plan (length score) spans from (h .1) marks)
     (need (roomLeft plan (h .1) (length items) log r)

@@ -1,4 +1,5 @@
--- "Start clears n mark words and sets one waiting item, state 0 at node 0. The record answered counts items waiting and logged nodes."
+-- "Start clears n mark words and sets one waiting item, state 0 at node 0. The record answered counts items waiting and logged nodes." It keeps the number of
+-- matches too: "Start sets it to 0" (document 02, wish 5).
 --   Walk         all that a walk is lent and hands back, and its record
 --   WalkOutcome          an answer, and the walk as it is then
 --   outcome      the outcome of a call, from its answer and the buffers that it leaves
@@ -31,8 +32,8 @@ pub record WalkOutcome : Type 0 where
   pub answer : Walked
   pub walk : Walk
 
-abbrev pub counting : ℕ → ℕ → Record
-counting w l = record { waiting = w; logged = l }
+abbrev pub counting : ℕ → ℕ → ℕ → Record
+counting w l m = record { waiting = w; logged = l; matches = m }
 
 abbrev pub walkOf : List ℕ → List ℕ → List ℕ → Record → Walk
 walkOf items log marks count = record { items = items; log = log; marks = marks; count = count }
@@ -52,7 +53,7 @@ abbrev pub goOn : Walk → WalkOutcome
 goOn w = record { answer = On (w .count); walk = w }
 
 abbrev pub begun : ℕ → Walk → Walk
-begun n w = walkOf (onto (0 ∷ 0 ∷ []) (w .items)) (w .log) (onto (replicate n 0) (w .marks)) (counting 1 0)
+begun n w = walkOf (onto (0 ∷ 0 ∷ []) (w .items)) (w .log) (onto (replicate n 0) (w .marks)) (counting 1 0 0)
 
 abbrev pub roomFor : ℕ → Walk → Bool
 roomFor n w = leb (2 * n) (length (w .items)) && (leb n (length (w .log)) && leb n (length (w .marks)))
@@ -65,7 +66,7 @@ started ar score spans w =
     (goOn (begun (length score) w)))
 
 abbrev pub recordValues : Record → List ℕ
-recordValues c = c .waiting ∷ c .logged ∷ []
+recordValues c = c .waiting ∷ c .logged ∷ c .matches ∷ []
 
 abbrev pub walkedSays : Walked → Says
 walkedSays (On c) = gives (recordValues c)

@@ -2,14 +2,15 @@
 --   Finding     what an item finds: the node read, what is announced where, what goes on where
 --   look      "The node at the item's node followed by the state's label is read"
 --   onward    "A step takes item i; later ones close up. Successors are appended in block order."
+--   numbered  "34 also if the stored number is above sixteen times n", n the score words lent; or above 2 ^ 63, which no n words come to (docs/DECISIONS.md)
 --   roomy     "the log has room for one more, the waiting list for all items before and after the step, and every place named exists in its buffer"
---   moved     every buffer after the step
+--   moved     every buffer after the step; "single steps and lists keep it equal to the ones in the marks": the number grows by the bits newly set
 --   tried     the step where no condition of 34 fails
 --   stepped   32 before 34; a refusal changes nothing
 --   run       any choices, one after the other
 --   accepted  how many of them are accepted
 --   runBy     by a rule of choice on the number waiting, until none waits
-use Prim.Native.Nat.{ℕ, zero, suc, _+_, _*_}
+use Prim.Native.Nat.{ℕ, zero, suc, _+_, _*_, _^_}
 use mathlib.Core.List.{List, [], _∷_, _++_}
 use mathlib.Core.Bool.{Bool, cond, _&&_}
 use mathlib.Core.Option.{Option, none, some}
@@ -18,9 +19,10 @@ use lib.ListN.{length, getD, getElem?, take, drop, set}
 use Rattle.kinds.specs.Lists.{bind, need, all, onto}
 use Rattle.kinds.specs.declared.Reason.the-variants.{NoSuchItem, OutOfRange}
 use Rattle.following.specs.Following.{target}
+use Rattle.walk.specs.declared.Record.{Record}
 use Rattle.walk.specs.declared.Walked.{Walked}
 use Rattle.walk.specs.declared.Walked.the-variants.{On, Refused}
-use Rattle.queue.specs.Targets.{targets, marked}
+use Rattle.queue.specs.Targets.{targets, marked, newly}
 use Rattle.readers.specs.PlanParts.{countsGood, pairs, pairWords, labelWord, blockOf}
 use Rattle.walk.specs.Starting.{Walk, WalkOutcome, walkOf, counting, refuseWalk, goOn}
 
@@ -46,6 +48,9 @@ look plan score spans it =
 abbrev pub onward : ℕ → List (ℕ × ℕ) → List (ℕ × ℕ) → List (ℕ × ℕ)
 onward i its ns = take i its ++ (drop (suc i) its ++ ns)
 
+abbrev pub numbered : ℕ → Record → Bool
+numbered n r = leb (r .matches) (16 * n) && leb (r .matches) (2 ^ 63)
+
 abbrev pub roomy : Walk → Finding → List (ℕ × ℕ) → Bool
 roomy w found its =
     ltb (w .count .logged) (length (w .log))
@@ -55,15 +60,16 @@ roomy w found its =
 abbrev pub moved : Walk → Finding → List (ℕ × ℕ) → Walk
 moved w found its =
     walkOf (onto (pairWords its) (w .items)) (set (w .log) (w .count .logged) (found .node)) (marked (found .outs) (w .marks))
-    (counting (length its) (suc (w .count .logged)))
+    (counting (length its) (suc (w .count .logged)) (w .count .matches + newly (found .outs) (w .marks)))
 
 unfoldable pub tried : List ℕ → List ℕ → List ℕ → ℕ → Walk → Option Walk
 tried plan score spans i w =
-    bind (pairs (w .count .waiting) (w .items)) (λ its.
+    need (numbered (length score) (w .count))
+    (bind (pairs (w .count .waiting) (w .items)) (λ its.
     bind (getElem? (its .0) i) (λ it.
     bind (look plan score spans it) (λ found.
     need (roomy w found (onward i (its .0) (found .nexts)))
-    (some (moved w found (onward i (its .0) (found .nexts)))))))
+    (some (moved w found (onward i (its .0) (found .nexts))))))))
 
 abbrev pub orRefuse : Walk → Option Walk → WalkOutcome
 orRefuse w none = refuseWalk OutOfRange w

@@ -4,10 +4,11 @@ use kinds::Reason;
 pub mod starting; // a walk begins
 pub mod stepping; // one step of it
 
-// Of a walk: how many items wait, and how many nodes are logged.
+// Of a walk: how many items wait, how many nodes are logged, and how many matches are marked.
 pub struct Record {
     pub waiting: usize,
     pub logged: usize,
+    pub matches: usize,
 }
 
 pub enum Walked {

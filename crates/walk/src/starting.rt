@@ -17,7 +17,7 @@ pub fn start(
     log: &mut [u16],
     marks: &mut [u16],
 ) -> Walked
-    ensures { λ r. ⌜ outcome r (counting 0 0) (now (waiting .exit)) (now (log .exit)) (now (marks .exit)) ≡ started (now (symbols .entry)) (now (score .entry)) (now (spans .entry)) (walkOf (now (waiting .entry)) (now (log .entry)) (now (marks .entry)) (counting 0 0)) ⌝ }
+    ensures { λ r. ⌜ outcome r (counting 0 0 0) (now (waiting .exit)) (now (log .exit)) (now (marks .exit)) ≡ started (now (symbols .entry)) (now (score .entry)) (now (spans .entry)) (walkOf (now (waiting .entry)) (now (log .entry)) (now (marks .entry)) (counting 0 0 0)) ⌝ }
 {
     let good = score_good(symbols, score, spans);
     if !good {
@@ -39,6 +39,7 @@ pub fn start(
     Walked::On(Record {
         waiting: 1,
         logged: 0,
+        matches: 0,
     })
 }
 

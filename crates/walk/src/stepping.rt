@@ -6,7 +6,7 @@ ghost use lib.ListN.{length};
 ghost use Rattle.readers.specs.PlanParts.{countsGood};
 ghost use Rattle.walk.specs.Starting.{outcome, walkOf};
 ghost use Rattle.walk.specs.Stepping.{stepped};
-ghost use Rattle.walk.specs.ByIndex.{headOf, lookHead, leadsFine, Taking, roomLeft, sighted, sightOf};
+ghost use Rattle.walk.specs.ByIndex.{headOf, lookHead, leadsFine, recordFits, Taking, roomLeft, sighted, sightOf};
 ghost use Rattle.readers.specs.BlockWords.{blockFits};
 use crate::Head;
 use crate::Record;
@@ -29,6 +29,9 @@ use readers::Start;
 use readers::parts::block_start;
 use readers::parts::counts_good;
 use readers::parts::state_label;
+
+// Where more score words are lent, the matches are counted up to sixteen times this.
+const COUNTED_NODES: usize = 0x0800000000000000;
 
 // Takes item `choice`. All is decided before the first word is written.
 pub fn step(
@@ -75,7 +78,8 @@ fn look(
     requires { ⌜ choice < «record» .waiting ⌝ }
     ensures { λ r. ⌜ sightOf r ≡ sighted (now (plan .entry)) (now (score .entry)) (now (spans .entry)) (now (items .entry)) log marks «record» choice ⌝ }
 {
-    if items.len() / 2 < record.waiting {
+    let fits = record_fits(items.len(), score.len(), record);
+    if !fits {
         return Sight::Nothing;
     }
     let state = State(items[2 * choice]);
@@ -94,6 +98,19 @@ fn look(
             Sight::Of(Seen { from, node, block })
         }
     }
+}
+
+// The items waiting lie in so many words, and so many nodes may have the matches counted.
+fn record_fits(items: usize, nodes: usize, record: Record) -> bool
+    ensures { λ r. ⌜ r ≡ recordFits items nodes «record» ⌝ }
+{
+    if items / 2 < record.waiting {
+        return false;
+    }
+    if COUNTED_NODES < nodes {
+        return record.matches <= 16 * COUNTED_NODES;
+    }
+    record.matches <= 16 * nodes
 }
 
 // The node that an item reads, and the block of its state and the symbol there.
@@ -181,16 +198,16 @@ fn advance(
     let nexts = plan[mid] as usize;
     let count = record.waiting;
     let logged = record.logged;
-    let after = Record {
-        waiting: count - 1 + nexts,
-        logged: logged + 1,
-    };
     let node = at.node;
     let from = at.from;
     log[logged] = node.0;
     let n = score.len();
-    mark_pairs(plan, n, spans, marks, from, b + 1, outs);
+    let new = mark_pairs(plan, n, spans, marks, from, b + 1, outs);
     close_up(waiting, 2 * choice, 2 * count);
     append_pairs(plan, n, spans, waiting, from, mid + 1, nexts, 2 * count - 2);
-    Walked::On(after)
+    Walked::On(Record {
+        waiting: count - 1 + nexts,
+        logged: logged + 1,
+        matches: record.matches + new,
+    })
 }

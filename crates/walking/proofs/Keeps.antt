@@ -1,4 +1,5 @@
 -- Starting and stepping, on any words: a refusal changes nothing, lengths stay, and words past those written stay.
+--   on-tried               what a step that is taken has found
 --   Cases cases            a step is taken, or refused 34, or refused 32
 --   step-refusal-keeps     a refused step changes nothing
 --   step-counts            the record answered is the walk's
@@ -25,7 +26,7 @@ use Rattle.walk.specs.declared.Record.{Record}
 use Rattle.walk.specs.declared.Walked.the-variants.{On, Refused}
 use Rattle.readers.specs.PlanParts.{pairs, pairWords}
 use Rattle.walk.specs.Starting.{Walk, WalkOutcome, walkOf, refuseWalk, goOn, begun, roomFor, started}
-use Rattle.walk.specs.Stepping.{Finding, look, onward, roomy, moved, tried, stepped}
+use Rattle.walk.specs.Stepping.{Finding, look, onward, numbered, roomy, moved, tried, stepped}
 use Rattle.readers.proofs.LawsPairs.{pairWords-length}
 use Rattle.walking.proofs.MarkLaws.{marked-length}
 
@@ -33,17 +34,18 @@ not-refused {κ} : {Z : Type κ} {c : Record} {r : Reason} → On c ≡ Refused 
 not-refused e = let z : _≡_ {A = ℕ} 0 1 = cc in absurd (omega arith)
 
 module _ (plan score spans : List ℕ) (i : ℕ) (w : Walk) where
-  on-tried {κ} : {Z : Type κ} (v : Walk) → tried plan score spans i w ≡ some v
-      → ((its : List (ℕ × ℕ)) (found : Finding) → roomy w found (onward i its (found .nexts)) ≡ true → v ≡ moved w found (onward i its (found .nexts))
-      → Z) → Z
+  pub on-tried {κ} : {Z : Type κ} (v : Walk) → tried plan score spans i w ≡ some v
+      → ((its : List (ℕ × ℕ)) (it : ℕ × ℕ) (found : Finding) → look plan score spans it ≡ some found → roomy w found (onward i its (found .nexts)) ≡ true
+      → v ≡ moved w found (onward i its (found .nexts)) → Z) → Z
   unfolding tried
   on-tried v e k =
-      on-bind (pairs (w .count .waiting) (w .items)) _ e λ its e₁ d₁.
+      on-need (numbered (length score) (w .count)) _ e λ n d₀.
+      on-bind (pairs (w .count .waiting) (w .items)) _ d₀ λ its e₁ d₁.
       on-bind (getElem? (its .0) i) _ d₁ λ it e₂ d₂.
       on-bind (look plan score spans it) _ d₂ λ found e₃ d₃.
       on-need (roomy w found (onward i (its .0) (found .nexts))) _ d₃ λ t d₄.
       let z : v ≡ moved w found (onward i (its .0) (found .nexts)) = cc in
-      k (its .0) found t z
+      k (its .0) it found e₃ t z
 
   pub data Cases : Type 0 where
     is-taken : (v : Walk) → tried plan score spans i w ≡ some v → stepped plan score spans i w ≡ goOn v → Cases
@@ -86,7 +88,7 @@ module _ (plan score spans : List ℕ) (i : ℕ) (w : Walk) where
     pub log-rest : (n : ℕ) → (n ≡ w .count .logged → ⊥) → getD (v .log) n 0 ≡ getD (w .log) n 0
 
   pub taken-keeps : (v : Walk) → tried plan score spans i w ≡ some v → Kept v
-  taken-keeps v e = on-tried v e λ its found t z. rw z (go (onward i its (found .nexts)) found t)
+  taken-keeps v e = on-tried v e λ its it found l t z. rw z (go (onward i its (found .nexts)) found t)
     where
       go : (ns : List (ℕ × ℕ)) (found : Finding) → roomy w found ns ≡ true → Kept (moved w found ns)
       go ns found t =

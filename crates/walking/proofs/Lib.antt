@@ -1,6 +1,7 @@
 pub mod PlanRead
 pub mod MarkLaws
 pub mod StepParts
+pub mod Numbers
 pub mod Tied
 pub mod TiedRuns
 pub mod AnyWalk

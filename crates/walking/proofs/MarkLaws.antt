@@ -7,19 +7,16 @@ use mathlib.Core.List.{List, [], _∷_}
 use mathlib.Core.Logic.{_⊎_, inl, inr, ⊎-elim, _↔_}
 use Prim.Native.Nat.{ℕ, _<_}
 use native.Mathlib.Decide.{ℕ-discrete}
-use lib.ListN.{length, getD, set, length-set}
+use lib.ListN.{length, getD, length-set}
 use lib.Seq.{getD-set-same, getD-set-other}
 use Rattle.kinds.specs.Bits.{bit, withBit}
 use Rattle.kinds.proofs.BitLaws.{bit-same, bit-other}
 use Rattle.kinds.specs.Members.{_∈_, here, there}
-use Rattle.queue.specs.Targets.{marked}
+use Rattle.queue.specs.Targets.{put, marked}
 
 -- a bit and a node
 abbrev pub Marked : List ℕ → ℕ × ℕ → Type 0
 Marked ms x = bit (getD ms (x .1) 0) (x .0) ≡ 1
-
-abbrev put : ℕ × ℕ → List ℕ → List ℕ
-put x ms = set ms (x .1) (withBit (getD ms (x .1) 0) (x .0))
 
 module _ (ms : List ℕ) (x : ℕ × ℕ) (h : x .1 < length ms) where
   put-new : Marked (put x ms) x

@@ -13,7 +13,7 @@ use Rattle.kinds.specs.Members.{_∈_, here, there}
 use Rattle.following.specs.Following.{target}
 use Rattle.readers.specs.PlanParts.{countsGood, pairs, labelWord, blockOf}
 use Rattle.walk.specs.Starting.{Walk}
-use Rattle.walk.specs.Stepping.{Finding, look, onward, roomy, moved, tried}
+use Rattle.walk.specs.Stepping.{Finding, look, onward, numbered, roomy, moved, tried}
 use Rattle.queue.specs.Targets.{targets}
 
 pub targets-of : {A : Type 0} (limit : ℕ) (to : ℕ → Option ℕ) (N C D : A → ℕ) (xs : List A)
@@ -35,8 +35,8 @@ unfolding look
 look-of plan score spans m k n good em ek en s x c y f os ns os′ ns′ el et ef eb eo es = rw (good, em, ek, en, el, et, ef, eb, eo, es)
 
 pub tried-of : (plan score spans : List ℕ) (i : ℕ) (v : Walk) (its : List (ℕ × ℕ)) (rest : List ℕ) (it : ℕ × ℕ) (found : Finding)
-    → pairs (v .count .waiting) (v .items) ≡ some (its, rest) → getElem? its i ≡ some it
+    → numbered (length score) (v .count) ≡ true → pairs (v .count .waiting) (v .items) ≡ some (its, rest) → getElem? its i ≡ some it
     → look plan score spans it ≡ some found → roomy v found (onward i its (found .nexts)) ≡ true
     → tried plan score spans i v ≡ some (moved v found (onward i its (found .nexts)))
 unfolding tried
-tried-of plan score spans i v its rest it found a b c d = rw (a, b, c, d)
+tried-of plan score spans i v its rest it found k a b c d = rw (k, a, b, c, d)

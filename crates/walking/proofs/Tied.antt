@@ -33,6 +33,7 @@ use Rattle.automaton.specs.Exploring.{Succ, Block}
 use Rattle.automaton.specs.Walking.{Setting, Scored, calculus, Item, looks, placed, announces, Walked, step}
 use Rattle.automaton.proofs.Derivative.{expects-owes}
 use Rattle.automaton.proofs.Sound.{SoundState}
+use Rattle.term.proofs.Sizes.{length-flatten}
 use Rattle.term.proofs.Subterms.{sub-prefix}
 use Rattle.automaton.proofs.Within.{score-arity}
 use Rattle.automaton.proofs.Reachable.{reachable-sound}
@@ -50,6 +51,7 @@ use Rattle.walking.specs.OneFolio.{outPair, succPair, OneFolio, planIn}
 use Rattle.readers.proofs.LawsPairs.{pairs-words}
 use Rattle.walking.proofs.MarkLaws.{Marked, marked-is, marked-length}
 use Rattle.walking.proofs.StepParts.{targets-of, look-of, tried-of}
+use Rattle.walking.proofs.Numbers.{ones, Grows, moved-grows, number-kept, numbered-in}
 
 -- the number of a state, and a position
 abbrev pub wordItem : Term → ℕ × Pos → ℕ × ℕ
@@ -178,6 +180,7 @@ module _ {C : Scored} (F : OneFolio C) where
     pub log-room : span t ≤ length (v .log)
     pub marks-room : span t ≤ length (v .marks)
     pub bits : (j : ℕ) (p : Pos) (u : Term) → sub t p ≡ some u → Marked (v .marks) (j, num t p) ↔ (announced j p ∈ told)
+    pub number-is : v .count .matches ≡ ones (length (flatten t)) v
 
   pub record Next (v : Walk) (i : ℕ) : Type 0 where
     pub walk : Walk
@@ -309,6 +312,10 @@ module _ {C : Scored} (F : OneFolio C) where
         rw (a, T .logged-is) (take-set (v .log) (length (T .read)) (num t q) (omega arith)
         ∙ rw (T .log-are) (sym (map-append (num t) (T .read) (q ∷ []))))
 
+    grows : Grows (length (flatten t)) v (moved v found (map (wordItem t) ns′))
+    grows = moved-grows (planIn F) (flatten t) (sizes t) (wordItem t y) found v (map (wordItem t) ns′)
+        (look-is cs ds (T .read) (T .told) y w₁ yk f ts seen) (λ x m. let k = out-node x m in let d = T .marks-room in omega arith)
+
     next-tied : Tied (moved v found (map (wordItem t) ns′))
     next-tied = record {
       ns = ns′;
@@ -329,6 +336,7 @@ module _ {C : Scored} (F : OneFolio C) where
       log-room = rw length-set (T .log-room);
       marks-room = rw (marked-length (found .outs) (v .marks)) (T .marks-room);
       bits = bits′;
+      number-is = number-kept (length (flatten t)) v (moved v found (map (wordItem t) ns′)) (T .number-is) grows;
     }
 
     clear′ : (x : ℕ × ℕ) → x ∈ found .outs → bit (getD (v .marks) (x .1) 0) (x .0) ≡ 0
@@ -369,6 +377,7 @@ module _ {C : Scored} (F : OneFolio C) where
     next = record {
       walk = moved v found (map (wordItem t) ns′);
       is = rw (← its-are) (tried-of (planIn F) (flatten t) (sizes t) i v (map (wordItem t) (T .ns)) (T .rest) (wordItem t y) found
+          (numbered-in (length (flatten t)) v (T .number-is) (rw (length-flatten t) (F .few-nodes)))
           (rw (T .waiting-is, T .items-are, ← (length-map (T .ns) (wordItem t))) (pairs-words (map (wordItem t) (T .ns)) (T .rest)))
           (at-map (wordItem t) (T .ns) i ey) (look-is cs ds (T .read) (T .told) y w₁ yk f ts seen) (rw its-are room));
       tied = next-tied;

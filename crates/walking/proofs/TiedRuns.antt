@@ -32,6 +32,7 @@ use Rattle.automaton.proofs.Explored.{explored-numbered}
 use Rattle.walk.specs.Starting.{Walk, refuseWalk, goOn, begun}
 use Rattle.walk.specs.Stepping.{stepped, run, one, accepted}
 use Rattle.walking.specs.OneFolio.{OneFolio, planIn, scoreIn, spansIn, EnoughLent, stepIn}
+use Rattle.walking.proofs.Numbers.{begun-number}
 use Rattle.walking.proofs.Tied.{Tied, Next, step-tied}
 
 module _ {C : Scored} (F : OneFolio C) where
@@ -64,6 +65,7 @@ module _ {C : Scored} (F : OneFolio C) where
     marks-room = let a = length-append zeros (drop (length zeros) (w .marks)) in let b = length-replicate {A = ℕ} (length (scoreIn F)) 0 in let c =
         length-drop (length zeros) (w .marks) in let l = length-flatten t in omega (arith, marks-long);
     bits = λ j p u e. (λ m. absurd (no-bit j (rw (clean p u e) at m)), λ m. elim m [ ]);
+    number-is = begun-number (length (scoreIn F)) w;
   }
     where
       r : (leb (length (scoreIn F)) (length (w .log)) && leb (length (scoreIn F)) (length (w .marks))) ≡ true

@@ -57,7 +57,10 @@ enum-known-next : tie.Need-enum-known-next Inv-loop μ-loop
 enum-known-next c = search needs
 
 add-i : tie.Need-add-i Inv-loop μ-loop
-add-i c = search needs
+add-i c =
+    let at-good = c .before .before .before .before .before .before .before .before .before .before .before .before .before .before .before .before .before .before .before .before .before .before .before .good in
+    let at-loop-test = c .before .before .before .before .before .before .before .before .before .before .before .before .before .before .loop-test in
+    omega (arith, at-loop-test .taken, at-good .1 .1 .1 .1 .1 .1 .1 .0)
 
 loop-less : tie.Need-loop-less Inv-loop μ-loop
 loop-less c = search needs
@@ -66,7 +69,8 @@ loop-again : tie.Need-loop-again Inv-loop μ-loop
 loop-again c =
     let at-loop = c .before .before .before .before .before .before .before .before .before .before .before .before .before .before .before .loop in
     let at-loop-test = c .before .before .before .before .before .before .before .before .before .before .before .before .before .before .loop-test in
-    let at-step = c .before .before .before .before .before .before .before .before .before .step in (
+    let at-step = c .before .before .before .before .before .before .before .before .before .step in
+    (
       at-loop .inv .0 ∙ law.next _ _ _ _ _ _ (at-loop-test .taken) _ _ _ _ _ (at-step .ensures) (c .before .next .given .1),
       omega arith,
       search needs,

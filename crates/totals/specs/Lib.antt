@@ -1,0 +1,2 @@
+-- What a report's first line is made of.
+pub mod Totalled
