@@ -24,6 +24,7 @@ use running::texts::next_from;
 use running::texts::value_of;
 use running::words::first_room;
 use running::words::first_words;
+use running::words::twice;
 
 fn main() {
     let mut text = io::large_buffer();
@@ -68,24 +69,30 @@ fn run_line(
     write(line);
     let none = Going::none();
     let going = begin(line, plan, score, spans, waiting, log, marks, none);
+    go_on(line, plan, score, spans, waiting, log, marks, going);
+}
+
+fn go_on(
+    line: &[u8],
+    plan: &[u16],
+    score: &[u16],
+    spans: &[u16],
+    waiting: &mut [u16],
+    log: &mut [u16],
+    marks: &mut [u16],
+    going: Going,
+) {
+    let nodes = going.nodes;
     do_all(
         before(behind(line, b'|'), b'|'),
         first_words(plan, going.words),
-        first_words(score, going.nodes),
-        first_words(spans, going.nodes),
-        first_room(waiting, twice(going.nodes)),
-        first_room(log, going.nodes),
-        first_room(marks, going.nodes),
+        first_words(score, nodes),
+        first_words(spans, nodes),
+        first_room(waiting, twice(nodes)),
+        first_room(log, nodes),
+        first_room(marks, nodes),
         going.record,
     );
-    write(b"\n");
-}
-
-fn twice(n: usize) -> usize {
-    if SCORE_NODES < n {
-        return 0;
-    }
-    2 * n
 }
 
 fn do_all(
@@ -114,6 +121,7 @@ fn do_all(
         from = next_from(text, from, i, b' ');
     }
     show_marks(marks);
+    write(b"\n");
 }
 
 fn do_one(
@@ -133,11 +141,18 @@ fn do_one(
         return with_number(record, value_of(done));
     }
     if has(done, b':') {
-        put_mark(value_of(before(done, b':')), value_of(behind(done, b':')), marks);
+        put_mark(
+            value_of(before(done, b':')),
+            value_of(behind(done, b':')),
+            marks,
+        );
         return record;
     }
     let choice = value_of(done);
-    show_step(step(plan, score, spans, waiting, log, marks, record, choice), record)
+    show_step(
+        step(plan, score, spans, waiting, log, marks, record, choice),
+        record,
+    )
 }
 
 fn with_number(record: Record, matches: usize) -> Record {

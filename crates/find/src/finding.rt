@@ -64,7 +64,15 @@ fn find_opened(
         Marked::By(size, end) => {
             let found = first::words(&marks, counts.nodes);
             match count(
-                counts, size, end, symbols, words, starts, score, spans, found,
+                counts,
+                size,
+                end,
+                symbols,
+                words,
+                starts,
+                score,
+                spans,
+                found,
             ) {
                 Total::Refused(reason) => show_refusal(reason, 0, out, held),
                 Total::Of(totals) => show_report(totals, spans, found, out, held),

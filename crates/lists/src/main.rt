@@ -27,6 +27,7 @@ use running::texts::put_numbers;
 use running::texts::value_of;
 use running::words::first_room;
 use running::words::first_words;
+use running::words::twice;
 
 mod leaving; // what a list leaves behind
 
@@ -76,8 +77,7 @@ fn run_line(
     write(line);
     let begun = begin(line, plan, score, spans, waiting, log, marks, going);
     change_plan(line, plan);
-    let handed = change_number(line, begun);
-    take_list(line, plan, score, spans, waiting, log, marks, handed)
+    take_list(line, plan, score, spans, waiting, log, marks, begun)
 }
 
 // Where a field stands between the name and the choices, it changes a word of the plan, or the stored number.
@@ -93,19 +93,14 @@ fn change_plan(line: &[u8], plan: &mut [u16]) {
     }
 }
 
-fn change_number(line: &[u8], going: Going) -> Going {
+fn change_number(line: &[u8], record: Record) -> Record {
     if !has(line, b'=') {
-        return going;
+        return record;
     }
-    let record = going.record;
-    Going {
-        words: going.words,
-        nodes: going.nodes,
-        record: Record {
-            waiting: record.waiting,
-            logged: record.logged,
-            matches: value_of(before(behind(line, b'='), b'|')),
-        },
+    Record {
+        waiting: record.waiting,
+        logged: record.logged,
+        matches: value_of(before(behind(line, b'='), b'|')),
     }
 }
 
@@ -114,13 +109,6 @@ fn put_word(plan: &mut [u16], at: u16, word: u16) {
     if i < plan.len() {
         plan[i] = word;
     }
-}
-
-fn twice(n: usize) -> usize {
-    if SCORE_NODES < n {
-        return 0;
-    }
-    2 * n
 }
 
 fn take_list(
@@ -142,7 +130,7 @@ fn take_list(
         first_room(waiting, twice(nodes)),
         first_room(log, nodes),
         first_room(marks, nodes),
-        going.record,
+        change_number(line, going.record),
     );
     Going {
         words: going.words,

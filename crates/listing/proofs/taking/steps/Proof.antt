@@ -69,8 +69,7 @@ loop-again : tie.Need-loop-again Inv-loop μ-loop
 loop-again c =
     let at-loop = c .before .before .before .before .before .before .before .before .before .before .before .before .before .before .before .loop in
     let at-loop-test = c .before .before .before .before .before .before .before .before .before .before .before .before .before .before .loop-test in
-    let at-step = c .before .before .before .before .before .before .before .before .before .step in
-    (
+    let at-step = c .before .before .before .before .before .before .before .before .before .step in (
       at-loop .inv .0 ∙ law.next _ _ _ _ _ _ (at-loop-test .taken) _ _ _ _ _ (at-step .ensures) (c .before .next .given .1),
       omega arith,
       search needs,

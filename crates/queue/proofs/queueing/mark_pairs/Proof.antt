@@ -11,11 +11,6 @@ use Rattle.queue.proofs.LawsTargets as law
 use borrow.Author.Needs.{needs}
 use Rattle.queue.proofs.queueing.mark_pairs.Statement.{statement}
 use Rattle.queue.proofs.queueing.mark_pairs.Tie as tie
-use Rattle.queue.proofs.queueing.mark_pairs.Reads as reads
-use Rattle.queue.proofs.queueing.mark_pairs.Lts as lts
-use Rattle.queue.proofs.aiming.aim.Reads as aim-reads
-use Rattle.queue.proofs.queueing.clear_bit.Reads as clear-bit-reads
-use Rattle.queue.proofs.queueing.with_bit.Reads as with-bit-reads
 
 abbrev Inv-loop : tie.InvT-loop
 Inv-loop plan nodes spans marks₀ from at count here₀ left₀ new₀ marks here left new = (here + 2 * left ≤ length plan) × (length marks ≡ length marks₀)
@@ -29,114 +24,92 @@ Inv-loop plan nodes spans marks₀ from at count here₀ left₀ new₀ marks he
 abbrev μ-loop : tie.MeasureT-loop
 μ-loop plan nodes spans marks₀ from at count here₀ left₀ new₀ marks here left new = left
 
--- src/queueing.rt:30:5
 loop-holds : tie.Need-loop-holds Inv-loop μ-loop
 loop-holds c =
     let entry = c .before .before .before in
     (entry .pre .0, refl, entry .pre .1, refl, omega arith, omega arith, omega arith)
 
--- src/queueing.rt:31:55
 add-shape : tie.Need-add-shape Inv-loop μ-loop
 add-shape c = search needs
 
--- src/queueing.rt:31:50
 mul-shape : tie.Need-mul-shape Inv-loop μ-loop
 mul-shape c = search needs
 
--- src/queueing.rt:31:50
 shared-slice-read-shape : tie.Need-shared-slice-read-shape Inv-loop μ-loop
 shared-slice-read-shape c = search needs
 
--- src/queueing.rt:31:17
 aim-requires : tie.Need-aim-requires Inv-loop μ-loop
 aim-requires c κs = search needs
 
--- src/queueing.rt:31:17
 cast-x : tie.Need-cast-x Inv-loop μ-loop
 cast-x c = search needs
 
--- src/queueing.rt:32:20
 mul-mark : tie.Need-mul-mark Inv-loop μ-loop
 mul-mark c = omega (arith, c .aim .ensures, law.first-room _ _ _ _ _ _ (c .before .before .loop-test .taken) (c .before .before .before .loop .inv .2))
 
--- src/queueing.rt:32:20
 slice-read-mark : tie.Need-slice-read-mark Inv-loop μ-loop
 slice-read-mark c = omega (arith, c .before .aim .ensures, law.first-room _ _ _ _ _ _ (c .before .before .before .loop-test .taken) (c .before .before .before .before .loop .inv .2))
 
--- src/queueing.rt:33:21
 mul-shape-2 : tie.Need-mul-shape-2 Inv-loop μ-loop
 mul-shape-2 c = search needs
 
--- src/queueing.rt:33:21
 shared-slice-read-shape-2 : tie.Need-shared-slice-read-shape-2 Inv-loop μ-loop
 shared-slice-read-shape-2 c = search needs
 
--- src/queueing.rt:34:16
 clear-bit-requires : tie.Need-clear-bit-requires Inv-loop μ-loop
 clear-bit-requires c κs = law.first-number _ _ _ _ _ _ (c .before .before .before .before .loop-test .taken) (c .before .before .before .before .before .loop .inv .2)
 
--- src/queueing.rt:34:9
 add-new : tie.Need-add-new Inv-loop μ-loop
 add-new c = omega (arith, c .clear-bit .ensures)
 
--- src/queueing.rt:35:20
 with-bit-requires : tie.Need-with-bit-requires Inv-loop μ-loop
 with-bit-requires c κs =
     let at-loop = c .before .before .before .before .before .before .loop in
     law.first-number _ _ _ _ _ _ (c .before .before .before .before .before .loop-test .taken) (at-loop .inv .2)
 
--- src/queueing.rt:35:9
 mul-marks : tie.Need-mul-marks Inv-loop μ-loop
 mul-marks c =
     let at-loop = c .before .before .before .before .before .before .before .loop in
     let at-loop-test = c .before .before .before .before .before .before .loop-test in
     omega (arith, c .before .before .before .before .aim .ensures, law.first-room _ _ _ _ _ _ (at-loop-test .taken) (at-loop .inv .2))
 
--- src/queueing.rt:35:9
 slice-write-marks : tie.Need-slice-write-marks Inv-loop μ-loop
 slice-write-marks c =
     let at-loop = c .before .before .before .before .before .before .before .loop in
     let at-loop-test = c .before .before .before .before .before .before .loop-test in
     omega (arith, c .before .before .before .before .aim .ensures, law.first-room _ _ _ _ _ _ (at-loop-test .taken) (at-loop .inv .2))
 
--- src/queueing.rt:36:9
 add-here : tie.Need-add-here Inv-loop μ-loop
 add-here c = search needs
 
--- src/queueing.rt:37:9
 sub-left : tie.Need-sub-left Inv-loop μ-loop
 sub-left c = search needs
 
--- src/queueing.rt:30:5
 loop-less : tie.Need-loop-less Inv-loop μ-loop
 loop-less c = search needs
 
--- src/queueing.rt:30:5
 loop-again : tie.Need-loop-again Inv-loop μ-loop
 loop-again c =
     let at-loop = c .before .before .before .before .before .before .before .loop in
     let at-loop-test = c .before .before .before .before .before .before .loop-test in
-    let at-aim = c .before .before .before .before .aim in
-    (
-  omega arith,
-  simp length-set (at-loop .inv .1),
-  law.all-tail _ _ _ _ (at-loop-test .taken) (at-loop .inv .2),
-  at-loop .inv .3 ∙ law.marks-next _ _ _ _ _ _ _ (at-loop-test .taken) (at-aim .ensures) (c .with-bit .ensures),
-  law.newly-next _ _ _ _ _ _ _ _ _ _ (at-loop .inv .4) (at-loop-test .taken) (at-aim .ensures) (c .before .clear-bit .ensures) (c .with-bit .ensures),
-  omega (arith, c .before .clear-bit .ensures),
-  at-loop .inv .6,
-  )
+    let at-aim = c .before .before .before .before .aim in (
+      omega arith,
+      simp length-set (at-loop .inv .1),
+      law.all-tail _ _ _ _ (at-loop-test .taken) (at-loop .inv .2),
+      at-loop .inv .3 ∙ law.marks-next _ _ _ _ _ _ _ (at-loop-test .taken) (at-aim .ensures) (c .with-bit .ensures),
+      law.newly-next _ _ _ _ _ _ _ _ _ _ (at-loop .inv .4) (at-loop-test .taken) (at-aim .ensures) (c .before .clear-bit .ensures) (c .with-bit .ensures),
+      omega (arith, c .before .clear-bit .ensures),
+      at-loop .inv .6,
+    )
 
--- src/queueing.rt:15:1
 same-length : tie.Need-same-length Inv-loop μ-loop
 same-length c = c .before .loop .inv .1
 
--- src/queueing.rt:15:1
 returns : tie.Need-returns Inv-loop μ-loop
 returns c = (
   law.newly-end _ _ _ _ _ _ _ (c .before .loop .inv .4) (c .loop-test .left),
   sym (c .before .loop .inv .3 ∙ law.marks-end _ _ _ _ _ (c .loop-test .left)),
-  )
+)
 
 pub mark-pairs-spec : {M : Type 1} → statement M
 mark-pairs-spec =

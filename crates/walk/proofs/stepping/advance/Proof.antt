@@ -4,168 +4,135 @@ use Rattle.walk.proofs.LawsStep as law
 use borrow.Author.Needs.{needs}
 use Rattle.walk.proofs.stepping.advance.Statement.{statement}
 use Rattle.walk.proofs.stepping.advance.Tie as tie
-use Rattle.walk.proofs.stepping.advance.Reads as reads
-use Rattle.walk.proofs.stepping.advance.Lts as lts
-use Rattle.queue.proofs.queueing.append_pairs.Reads as append-pairs-reads
-use Rattle.queue.proofs.queueing.close_up.Reads as close-up-reads
-use Rattle.queue.proofs.queueing.mark_pairs.Reads as mark-pairs-reads
 
--- src/stepping.rt:196:16
 mul-outs : tie.Need-mul-outs
 mul-outs c =
     let entry = c .before .before .before .before .before .before in
     omega (arith, law.sight-block _ _ _ _ _ _ _ _ (law.sighted-is _ _ _ _ _ _ _ _ (entry .pre .0)))
 
--- src/stepping.rt:196:16
 shared-slice-read-outs : tie.Need-shared-slice-read-outs
 shared-slice-read-outs c =
     let entry = c .before .before .before .before .before .before .before in
     omega (arith, law.sight-block _ _ _ _ _ _ _ _ (law.sighted-is _ _ _ _ _ _ _ _ (entry .pre .0)))
 
--- src/stepping.rt:196:16
 cast-outs : tie.Need-cast-outs
 cast-outs c =
     let entry = c .before .before .before .before .before .before .before in
     omega (arith, c .shared-slice-known4 .given (entry .args .at .block))
 
--- src/stepping.rt:197:15
 add-mid : tie.Need-add-mid
 add-mid c =
     let entry = c .before .before .before .before .before .before .before in
     omega (arith, law.sight-block _ _ _ _ _ _ _ _ (law.sighted-is _ _ _ _ _ _ _ _ (entry .pre .0)))
 
--- src/stepping.rt:197:23
 mul-mid : tie.Need-mul-mid
 mul-mid c =
     let entry = c .before .before .before .before .before .before .before in
     omega (arith, law.sight-block _ _ _ _ _ _ _ _ (law.sighted-is _ _ _ _ _ _ _ _ (entry .pre .0)))
 
--- src/stepping.rt:197:15
 add-mid-2 : tie.Need-add-mid-2
 add-mid-2 c =
     let entry = c .before .before .before .before .before .before .before in
     omega (arith, law.sight-block _ _ _ _ _ _ _ _ (law.sighted-is _ _ _ _ _ _ _ _ (entry .pre .0)))
 
--- src/stepping.rt:198:17
 mul-nexts : tie.Need-mul-nexts
 mul-nexts c =
     let entry = c .before .before .before .before .before .before .before in
     omega (arith, law.sight-block _ _ _ _ _ _ _ _ (law.sighted-is _ _ _ _ _ _ _ _ (entry .pre .0)))
 
--- src/stepping.rt:198:17
 shared-slice-read-nexts : tie.Need-shared-slice-read-nexts
 shared-slice-read-nexts c =
     let entry = c .before .before .before .before .before .before .before .before in
     omega (arith, law.sight-block _ _ _ _ _ _ _ _ (law.sighted-is _ _ _ _ _ _ _ _ (entry .pre .0)))
 
--- src/stepping.rt:198:17
 cast-nexts : tie.Need-cast-nexts
 cast-nexts c =
     let entry = c .before .before .before .before .before .before .before .before in
     omega (arith, c .shared-slice-known5 .given (middle (entry .args .plan .now) (entry .args .at .block)))
 
--- src/stepping.rt:203:5
 mul-log : tie.Need-mul-log
 mul-log c =
     let entry = c .before .before .before .before .before .before .before .before .before .before in
     omega (arith, (law.sighted-is _ _ _ _ _ _ _ _ (entry .pre .0)) .log-room)
 
--- src/stepping.rt:203:5
 slice-write-log : tie.Need-slice-write-log
 slice-write-log c =
     let entry = c .before .before .before .before .before .before .before .before .before .before in
     omega (arith, (law.sighted-is _ _ _ _ _ _ _ _ (entry .pre .0)) .log-room)
 
--- src/stepping.rt:205:55
 add-mark-pairs : tie.Need-add-mark-pairs
 add-mark-pairs c =
     let entry = c .before .before .before .before .before .before .before .before .before .before .before in
     omega (arith, law.sight-block _ _ _ _ _ _ _ _ (law.sighted-is _ _ _ _ _ _ _ _ (entry .pre .0)))
 
--- src/stepping.rt:205:9
 mark-pairs-requires : tie.Need-mark-pairs-requires
 mark-pairs-requires c κs =
     let entry = c .before .before .before .before .before .before .before .before .before .before .before in
     (omega (arith, law.sight-block _ _ _ _ _ _ _ _ (law.sighted-is _ _ _ _ _ _ _ _ (entry .pre .0))), law.sight-outs _ _ _ _ _ _ _ _ (law.sighted-is _ _ _ _ _ _ _ _ (entry .pre .0)))
 
--- src/stepping.rt:206:23
 mul-close-up : tie.Need-mul-close-up
 mul-close-up c =
     let entry = c .before .before .before .before .before .before .before .before .before .before .before .before .before .before .before in
     omega (arith, (law.sighted-is _ _ _ _ _ _ _ _ (entry .pre .0)) .fits)
 
--- src/stepping.rt:206:35
 mul-close-up-2 : tie.Need-mul-close-up-2
 mul-close-up-2 c =
     let entry = c .before .before .before .before .before .before .before .before .before .before .before .before .before .before .before in
     omega (arith, (law.sighted-is _ _ _ _ _ _ _ _ (entry .pre .0)) .fits)
 
--- src/stepping.rt:206:5
 close-up-requires : tie.Need-close-up-requires
 close-up-requires c κs =
     let entry = c .before .before .before .before .before .before .before .before .before .before .before .before .before .before .before in
     omega (arith, (law.sighted-is _ _ _ _ _ _ _ _ (entry .pre .0)) .fits)
 
--- src/stepping.rt:207:49
 add-append-pairs : tie.Need-add-append-pairs
 add-append-pairs c =
     let entry = c .before .before .before .before .before .before .before .before .before .before .before .before .before .before .before .before .before .before .before in
     omega (arith, law.sight-block _ _ _ _ _ _ _ _ (law.sighted-is _ _ _ _ _ _ _ _ (entry .pre .0)))
 
--- src/stepping.rt:207:65
 mul-append-pairs : tie.Need-mul-append-pairs
 mul-append-pairs c =
     let entry = c .before .before .before .before .before .before .before .before .before .before .before .before .before .before .before .before .before .before .before in
     omega (arith, (law.sighted-is _ _ _ _ _ _ _ _ (entry .pre .0)) .fits)
 
--- src/stepping.rt:207:65
 sub-append-pairs : tie.Need-sub-append-pairs
 sub-append-pairs c =
     let entry = c .before .before .before .before .before .before .before .before .before .before .before .before .before .before .before .before .before .before .before in
     omega (arith, (law.sighted-is _ _ _ _ _ _ _ _ (entry .pre .0)) .fits)
 
--- src/stepping.rt:207:5
 append-pairs-requires : tie.Need-append-pairs-requires
 append-pairs-requires c κs =
     let entry = c .before .before .before .before .before .before .before .before .before .before .before .before .before .before .before .before .before .before .before in
     (omega (arith, law.sight-block _ _ _ _ _ _ _ _ (law.sighted-is _ _ _ _ _ _ _ _ (entry .pre .0))), omega (arith, (law.sighted-is _ _ _ _ _ _ _ _ (entry .pre .0)) .room, c .before .before .before .close-up .kept .0))
 
--- src/stepping.rt:209:18
 sub-t20 : tie.Need-sub-t20
 sub-t20 c = search needs
 
--- src/stepping.rt:209:18
 add-t33 : tie.Need-add-t33
 add-t33 c =
     let entry = c .before .before .before .before .before .before .before .before .before .before .before .before .before .before .before .before .before .before .before .before .before .before in
     omega (arith, (law.sighted-is _ _ _ _ _ _ _ _ (entry .pre .0)) .room)
 
--- src/stepping.rt:210:17
 add-t23 : tie.Need-add-t23
 add-t23 c =
     let entry = c .before .before .before .before .before .before .before .before .before .before .before .before .before .before .before .before .before .before .before .before .before .before in
     omega (arith, (law.sighted-is _ _ _ _ _ _ _ _ (entry .pre .0)) .log-room)
 
--- src/stepping.rt:211:18
 add-t34 : tie.Need-add-t34
 add-t34 c =
     let entry = c .before .before .before .before .before .before .before .before .before .before .before .before .before .before .before .before .before .before .before .before .before .before .before in
     let at-mark-pairs = c .before .before .before .before .before .before .before .before .before .before .before .mark-pairs in
     omega (arith, at-mark-pairs .ensures .0, law.sight-new _ _ _ _ _ _ _ _ (law.sighted-is _ _ _ _ _ _ _ _ (entry .pre .0)) (entry .args .marks .now))
 
--- src/stepping.rt:181:1
 same-length : tie.Need-same-length
 same-length c = search needs
 
--- src/stepping.rt:181:1
 same-length-2 : tie.Need-same-length-2
 same-length-2 c = search needs
 
--- src/stepping.rt:181:1
 same-length-3 : tie.Need-same-length-3
 same-length-3 c = search needs
 
--- src/stepping.rt:181:1
 returns : tie.Need-returns
 returns c =
     let entry = c .before .before .before .before .before .before .before .before .before .before .before .before .before .before .before .before .before .before .before .before .before .before .before in

@@ -6,73 +6,52 @@ use Rattle.walk.proofs.LawsStep as law
 use borrow.Author.Needs.{needs}
 use Rattle.walk.proofs.stepping.look.Statement.{statement}
 use Rattle.walk.proofs.stepping.look.Tie as tie
-use Rattle.walk.proofs.stepping.look.Reads as reads
-use Rattle.walk.proofs.stepping.look.Lts as lts
-use Rattle.walk.proofs.stepping.find_head.Reads as find-head-reads
-use Rattle.walk.proofs.stepping.leads_fine.Reads as leads-fine-reads
-use Rattle.walk.proofs.stepping.record_fits.Reads as record-fits-reads
-use Rattle.walk.proofs.stepping.room_left.Reads as room-left-reads
 
--- src/stepping.rt:81:9
 record-fits-requires : tie.Need-record-fits-requires
 record-fits-requires c κs = search needs
 
--- src/stepping.rt:83:9
 returns : tie.Need-returns
 returns c =
     let entry = c .before .before .before .before .before .before in
     sym (law.sight-few (entry .args .plan .now) (entry .args .score .now) (entry .args .spans .now) (entry .args .items .now) (entry .args .log) (entry .args .marks) (entry .args .«record») (entry .args .choice) (sym (c .before .record-fits .ensures) ∙ not-true _ (c .if1 .taken)))
 
--- src/stepping.rt:85:29
 mul-t16 : tie.Need-mul-t16
 mul-t16 c = omega (arith, law.fits-lent _ _ _ (sym (c .before .record-fits .ensures) ∙ not-false _ (c .if1 .left)))
 
--- src/stepping.rt:85:23
 mul-t17 : tie.Need-mul-t17
 mul-t17 c = omega (arith, law.fits-lent _ _ _ (sym (c .before .record-fits .ensures) ∙ not-false _ (c .if1 .left)))
 
--- src/stepping.rt:85:23
 shared-slice-read-t20 : tie.Need-shared-slice-read-t20
 shared-slice-read-t20 c = omega (arith, law.fits-lent _ _ _ (sym (c .before .before .record-fits .ensures) ∙ not-false _ (c .before .if1 .left)))
 
--- src/stepping.rt:86:27
 mul-t16-2 : tie.Need-mul-t16-2
 mul-t16-2 c = omega (arith, law.fits-lent _ _ _ (sym (c .before .before .record-fits .ensures) ∙ not-false _ (c .before .if1 .left)))
 
--- src/stepping.rt:86:27
 add-t17 : tie.Need-add-t17
 add-t17 c = omega (arith, law.fits-lent _ _ _ (sym (c .before .before .record-fits .ensures) ∙ not-false _ (c .before .if1 .left)))
 
--- src/stepping.rt:86:21
 mul-t21 : tie.Need-mul-t21
 mul-t21 c = omega (arith, law.fits-lent _ _ _ (sym (c .before .before .record-fits .ensures) ∙ not-false _ (c .before .if1 .left)))
 
--- src/stepping.rt:86:21
 shared-slice-read-t20-2 : tie.Need-shared-slice-read-t20-2
 shared-slice-read-t20-2 c = omega (arith, law.fits-lent _ _ _ (sym (c .before .before .before .record-fits .ensures) ∙ not-false _ (c .before .before .if1 .left)))
 
--- src/stepping.rt:87:11
 find-head-requires : tie.Need-find-head-requires
 find-head-requires c κs = search needs
 
--- src/stepping.rt:88:26
 enum-told : tie.Need-enum-told
 enum-told c = search needs
 
--- src/stepping.rt:89:18
 enum-known-node : tie.Need-enum-known-node
 enum-known-node c = search needs
 
--- src/stepping.rt:90:17
 leads-fine-requires : tie.Need-leads-fine-requires
 leads-fine-requires c κs =
-    let at-find-head = c .before .before .before .find-head in
-    (
-  law.head-good _ _ _ _ _ _ (sym (at-find-head .ensures) ∙ ap headOf (c .before .node .given .1)),
-  law.head-fits _ _ _ _ _ _ (sym (at-find-head .ensures) ∙ ap headOf (c .before .node .given .1)),
-  )
+    let at-find-head = c .before .before .before .find-head in (
+      law.head-good _ _ _ _ _ _ (sym (at-find-head .ensures) ∙ ap headOf (c .before .node .given .1)),
+      law.head-fits _ _ _ _ _ _ (sym (at-find-head .ensures) ∙ ap headOf (c .before .node .given .1)),
+    )
 
--- src/stepping.rt:92:17
 returns-2 : tie.Need-returns-2
 returns-2 c =
     let entry = c .before .before .before .before .before .before .before .before .before .before .before .before .before .before in
@@ -82,18 +61,16 @@ returns-2 c =
     (sym (c .before .before .before .before .before .find-head .ensures) ∙ ap headOf (c .before .before .before .node .given .1))
     (sym (c .before .leads-fine .ensures) ∙ not-true _ (c .if2 .taken)))
 
--- src/stepping.rt:94:17
 room-left-requires : tie.Need-room-left-requires
 room-left-requires c κs =
     let at-record-fits = c .before .before .before .before .before .before .before .before .before .record-fits in
     let at-if1 = c .before .before .before .before .before .before .before .before .if1 in
     record {
-  fits = law.head-fits _ _ _ _ _ _ (sym (c .before .before .before .before .before .find-head .ensures) ∙ ap headOf (c .before .before .before .node .given .1));
-  waits = omega arith;
-  lent = law.fits-lent _ _ _ (sym (at-record-fits .ensures) ∙ not-false _ (at-if1 .left));
-  }
+      fits = law.head-fits _ _ _ _ _ _ (sym (c .before .before .before .before .before .find-head .ensures) ∙ ap headOf (c .before .before .before .node .given .1));
+      waits = omega arith;
+      lent = law.fits-lent _ _ _ (sym (at-record-fits .ensures) ∙ not-false _ (at-if1 .left));
+    }
 
--- src/stepping.rt:96:17
 returns-3 : tie.Need-returns-3
 returns-3 c =
     let entry = c .before .before .before .before .before .before .before .before .before .before .before .before .before .before .before .before in
@@ -105,7 +82,6 @@ returns-3 c =
     (sym (c .before .before .before .leads-fine .ensures) ∙ not-false _ (c .before .before .if2 .left))
     (sym (c .before .room-left .ensures) ∙ not-true _ (c .if3 .taken)))
 
--- src/stepping.rt:68:1
 returns-4 : tie.Need-returns-4
 returns-4 c =
     let entry = c .before .before .before .before .before .before .before .before .before .before .before in
@@ -113,7 +89,6 @@ returns-4 c =
     sym (law.sight-head (entry .args .plan .now) (entry .args .score .now) (entry .args .spans .now) (entry .args .items .now) (entry .args .log) (entry .args .marks) (entry .args .«record») (entry .args .choice) (sym (at-record-fits .ensures) ∙ not-false _ (c .before .before .before .before .before .if1 .left))
     (sym (c .before .before .find-head .ensures) ∙ ap headOf (c .enum-told .given .1)))
 
--- src/stepping.rt:68:1
 returns-5 : tie.Need-returns-5
 returns-5 c =
     let entry = c .before .before .before .before .before .before .before .before .before .before .before .before .before .before .before .before in

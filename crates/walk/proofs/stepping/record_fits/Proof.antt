@@ -4,26 +4,19 @@ use Rattle.walk.proofs.LawsStep as law
 use borrow.Author.Needs.{needs}
 use Rattle.walk.proofs.stepping.record_fits.Statement.{statement}
 use Rattle.walk.proofs.stepping.record_fits.Tie as tie
-use Rattle.walk.proofs.stepping.record_fits.Reads as reads
-use Rattle.walk.proofs.stepping.record_fits.Lts as lts
 
--- src/stepping.rt:108:9
 returns : tie.Need-returns
 returns c = sym (law.fits-items _ _ _ (c .if1 .taken))
 
--- src/stepping.rt:111:34
 mul-result : tie.Need-mul-result
 mul-result c = search needs
 
--- src/stepping.rt:111:9
 returns-2 : tie.Need-returns-2
 returns-2 c = sym (law.fits-far _ _ _ (c .before .before .if1 .left) (c .before .if2 .taken))
 
--- src/stepping.rt:113:23
 mul-result-2 : tie.Need-mul-result-2
 mul-result-2 c = omega arith
 
--- src/stepping.rt:104:1
 returns-3 : tie.Need-returns-3
 returns-3 c = sym (law.fits-near _ _ _ (c .before .before .if1 .left) (c .before .if2 .left))
 
