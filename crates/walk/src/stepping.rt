@@ -205,9 +205,12 @@ fn advance(
     let new = mark_pairs(plan, n, spans, marks, from, b + 1, outs);
     close_up(waiting, 2 * choice, 2 * count);
     append_pairs(plan, n, spans, waiting, from, mid + 1, nexts, 2 * count - 2);
+    let waits = count - 1 + nexts;
+    let read = logged + 1;
+    let marked = record.matches + new;
     Walked::On(Record {
-        waiting: count - 1 + nexts,
-        logged: logged + 1,
-        matches: record.matches + new,
+        waiting: waits,
+        logged: read,
+        matches: marked,
     })
 }

@@ -14,15 +14,10 @@ enum-known-some : tie.Need-enum-known-some
 enum-known-some c = search needs
 
 returns : tie.Need-returns
-returns c =
-    let entry = c .before .before .before .before .before .before .before .before .before .before in
-    sym (ap (totalled (entry .args .counts) (entry .args .size) (entry .args .end)) (sym (c .before .before .before .clashes .ensures) ∙ c .before .reason .given .1))
+returns c = sym (ap (totalled _ _ _) (sym (c .before .before .before .clashes .ensures) ∙ c .before .reason .given .1))
 
 returns-2 : tie.Need-returns-2
-returns-2 c =
-    let entry = c .before .before .before .before .before .before .before .before .before .before in
-    sym (ap (totalled (entry .args .counts) (entry .args .size) (entry .args .end)) (sym (c .before .before .before .clashes .ensures) ∙ c .before .some .given .1))
+returns-2 c = sym (ap (totalled _ _ _) (sym (c .before .before .before .clashes .ensures) ∙ c .before .some .given .1))
 
 pub count-spec : {M : Type 1} → statement M
-count-spec =
-    tie.close (tie.spec clashes-requires enum-known-reason enum-known-some returns returns-2)
+count-spec = tie.close (tie.spec clashes-requires enum-known-reason enum-known-some returns returns-2)

@@ -105,21 +105,21 @@ append-pairs-requires c κs =
     let entry = c .before .before .before .before .before .before .before .before .before .before .before .before .before .before .before .before .before .before .before in
     (omega (arith, law.sight-block _ _ _ _ _ _ _ _ (law.sighted-is _ _ _ _ _ _ _ _ (entry .pre .0))), omega (arith, (law.sighted-is _ _ _ _ _ _ _ _ (entry .pre .0)) .room, c .before .before .before .close-up .kept .0))
 
-sub-t20 : tie.Need-sub-t20
-sub-t20 c = search needs
+sub-waits : tie.Need-sub-waits
+sub-waits c = search needs
 
-add-t33 : tie.Need-add-t33
-add-t33 c =
+add-waits : tie.Need-add-waits
+add-waits c =
     let entry = c .before .before .before .before .before .before .before .before .before .before .before .before .before .before .before .before .before .before .before .before .before .before in
     omega (arith, (law.sighted-is _ _ _ _ _ _ _ _ (entry .pre .0)) .room)
 
-add-t23 : tie.Need-add-t23
-add-t23 c =
+add-read : tie.Need-add-read
+add-read c =
     let entry = c .before .before .before .before .before .before .before .before .before .before .before .before .before .before .before .before .before .before .before .before .before .before in
     omega (arith, (law.sighted-is _ _ _ _ _ _ _ _ (entry .pre .0)) .log-room)
 
-add-t34 : tie.Need-add-t34
-add-t34 c =
+add-marked : tie.Need-add-marked
+add-marked c =
     let entry = c .before .before .before .before .before .before .before .before .before .before .before .before .before .before .before .before .before .before .before .before .before .before .before in
     let at-mark-pairs = c .before .before .before .before .before .before .before .before .before .before .before .mark-pairs in
     omega (arith, at-mark-pairs .ensures .0, law.sight-new _ _ _ _ _ _ _ _ (law.sighted-is _ _ _ _ _ _ _ _ (entry .pre .0)) (entry .args .marks .now))
@@ -166,10 +166,10 @@ advance-spec =
     mul-append-pairs
     sub-append-pairs
     append-pairs-requires
-    sub-t20
-    add-t33
-    add-t23
-    add-t34
+    sub-waits
+    add-waits
+    add-read
+    add-marked
     same-length
     same-length-2
     same-length-3
