@@ -28,7 +28,7 @@ use Rattle.report.specs.Text.{digitsTo, digits, dotted, pathText, lines, report
 unfoldable pub computing : ℕ
 unfolding decodeTo childrenOf headOf reading over spansOf sibling childAt follow target wordsOf distancesOf trailerOf overAt symbolsOf sectionsOf
     shapesFrom shapesOf scoreOf stored held opened symbolsGood shapesGood scoreGood pieceAt subtreeAt cleared buildOf pairs countedPairs blockAt
-    labelWord blockOf pairAt pairIn labelOf lengthsOf announcementOf successorOf started targets look marked newly tried stepped run runBy listed foundFrom total
-    counted endOf part shapeAt size stands falls falling touched clashNumber nodesOf matched strays clashesIn clashesOf childOn pathTo pathOf digitsTo
+    labelWord blockOf pairAt pairIn labelOf lengthsOf announcementOf successorOf started targets look marked newly tried stepped run runBy listed foundFrom
+    total counted endOf part shapeAt size stands falls falling touched clashNumber nodesOf matched strays clashesIn clashesOf childOn pathTo pathOf digitsTo
     digits dotted pathText lines report written
 computing = 0

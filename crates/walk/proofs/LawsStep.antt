@@ -5,7 +5,7 @@
 --   sight-few sight-head sight-leads sight-room sight-some, Sighted sighted-is sight-outs sight-block sight-new   what a step sees
 --   step-nothing step-unseen step-done done-waiting done-items   the step
 --   Clauses tells-32 tells-34 tells-on       what the code answers and leaves is what the definition says
-use mathlib.Core.Path.{_≡_, refl, ap, ap₂, sym, _∙_}
+use mathlib.Core.Path.{_≡_, refl, ap, sym, _∙_}
 use mathlib.Core.Bool.{Bool, true, false, _&&_}
 use mathlib.Core.List.{List}
 use mathlib.Core.Option.{Option, none, some}

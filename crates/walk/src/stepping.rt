@@ -198,6 +198,8 @@ fn advance(
     let nexts = plan[mid] as usize;
     let count = record.waiting;
     let logged = record.logged;
+    let waits = count - 1 + nexts;
+    let read = logged + 1;
     let node = at.node;
     let from = at.from;
     log[logged] = node.0;
@@ -205,8 +207,6 @@ fn advance(
     let new = mark_pairs(plan, n, spans, marks, from, b + 1, outs);
     close_up(waiting, 2 * choice, 2 * count);
     append_pairs(plan, n, spans, waiting, from, mid + 1, nexts, 2 * count - 2);
-    let waits = count - 1 + nexts;
-    let read = logged + 1;
     let marked = record.matches + new;
     Walked::On(Record {
         waiting: waits,

@@ -6,7 +6,7 @@
 --   moved-grows step-grows run-grows
 --   begun-number number-kept    the number is the ones where a walk begins; and stays so
 --   number-in numbered-in       then it is never refused
-use mathlib.Core.Path.{_≡_, refl, ap, sym, _∙_}
+use mathlib.Core.Path.{_≡_, refl, ap, sym}
 use mathlib.Core.Bool.{true}
 use mathlib.Core.List.{List, [], _∷_}
 use mathlib.Core.Option.{Option, some}

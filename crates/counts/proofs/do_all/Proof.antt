@@ -6,7 +6,8 @@ use Rattle.counts.proofs.do_all.Statement.{statement}
 use Rattle.counts.proofs.do_all.Tie as tie
 
 abbrev Inv-loop : tie.InvT-loop
-Inv-loop text plan score spans waiting₀ log₀ marks₀ record₀ from₀ i₀ t12 i-end waiting log marks «record» from i = (length waiting ≡ length waiting₀) × (length log ≡ length log₀) × (length marks ≡ length marks₀)
+Inv-loop text plan score spans waiting₀ log₀ marks₀ record₀ from₀ i₀ t12 i-end waiting log marks «record» from i =
+    (length waiting ≡ length waiting₀) × (length log ≡ length log₀) × (length marks ≡ length marks₀)
 
 abbrev μ-loop : tie.MeasureT-loop
 μ-loop text plan score spans waiting₀ log₀ marks₀ record₀ from₀ i₀ t12 i-end waiting log marks «record» from i = i-end - i

@@ -6,7 +6,8 @@ use Rattle.counts.proofs.run_lines.Statement.{statement}
 use Rattle.counts.proofs.run_lines.Tie as tie
 
 abbrev Inv-loop : tie.InvT-loop
-Inv-loop text plan₀ score₀ spans₀ waiting₀ log₀ marks₀ from₀ i₀ i-end plan score spans waiting log marks from i = (length plan ≡ length plan₀) × (length score ≡ length score₀) × (length spans ≡ length spans₀) × (length waiting ≡ length waiting₀)
+Inv-loop text plan₀ score₀ spans₀ waiting₀ log₀ marks₀ from₀ i₀ i-end plan score spans waiting log marks from i =
+    (length plan ≡ length plan₀) × (length score ≡ length score₀) × (length spans ≡ length spans₀) × (length waiting ≡ length waiting₀)
     × (length log ≡ length log₀) × (length marks ≡ length marks₀)
 
 abbrev μ-loop : tie.MeasureT-loop

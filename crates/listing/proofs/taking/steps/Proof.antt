@@ -58,7 +58,8 @@ enum-known-next c = search needs
 
 add-i : tie.Need-add-i Inv-loop μ-loop
 add-i c =
-    let at-good = c .before .before .before .before .before .before .before .before .before .before .before .before .before .before .before .before .before .before .before .before .before .before .before .good in
+    let at-good =
+    c .before .before .before .before .before .before .before .before .before .before .before .before .before .before .before .before .before .before .before .before .before .before .before .good in
     let at-loop-test = c .before .before .before .before .before .before .before .before .before .before .before .before .before .before .loop-test in
     omega (arith, at-loop-test .taken, at-good .1 .1 .1 .1 .1 .1 .1 .0)
 

@@ -48,7 +48,13 @@ mul-mark : tie.Need-mul-mark Inv-loop μ-loop
 mul-mark c = omega (arith, c .aim .ensures, law.first-room _ _ _ _ _ _ (c .before .before .loop-test .taken) (c .before .before .before .loop .inv .2))
 
 slice-read-mark : tie.Need-slice-read-mark Inv-loop μ-loop
-slice-read-mark c = omega (arith, c .before .aim .ensures, law.first-room _ _ _ _ _ _ (c .before .before .before .loop-test .taken) (c .before .before .before .before .loop .inv .2))
+slice-read-mark c =
+    omega (
+      arith,
+      c .before .aim .ensures,
+      law.first-room _ _ _ _ _ _ (c .before .before .before .loop-test .taken)
+          (c .before .before .before .before .loop .inv .2),
+    )
 
 mul-shape-2 : tie.Need-mul-shape-2 Inv-loop μ-loop
 mul-shape-2 c = search needs
@@ -57,7 +63,9 @@ shared-slice-read-shape-2 : tie.Need-shared-slice-read-shape-2 Inv-loop μ-loop
 shared-slice-read-shape-2 c = search needs
 
 clear-bit-requires : tie.Need-clear-bit-requires Inv-loop μ-loop
-clear-bit-requires c κs = law.first-number _ _ _ _ _ _ (c .before .before .before .before .loop-test .taken) (c .before .before .before .before .before .loop .inv .2)
+clear-bit-requires c κs =
+    law.first-number _ _ _ _ _ _ (c .before .before .before .before .loop-test .taken)
+    (c .before .before .before .before .before .loop .inv .2)
 
 add-new : tie.Need-add-new Inv-loop μ-loop
 add-new c = omega (arith, c .clear-bit .ensures)

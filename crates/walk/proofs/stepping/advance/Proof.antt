@@ -50,6 +50,19 @@ cast-nexts c =
     let entry = c .before .before .before .before .before .before .before .before in
     omega (arith, c .shared-slice-known5 .given (middle (entry .args .plan .now) (entry .args .at .block)))
 
+sub-waits : tie.Need-sub-waits
+sub-waits c = search needs
+
+add-waits : tie.Need-add-waits
+add-waits c =
+    let entry = c .before .before .before .before .before .before .before .before in
+    omega (arith, (law.sighted-is _ _ _ _ _ _ _ _ (entry .pre .0)) .room)
+
+add-read : tie.Need-add-read
+add-read c =
+    let entry = c .before .before .before .before .before .before .before .before in
+    omega (arith, (law.sighted-is _ _ _ _ _ _ _ _ (entry .pre .0)) .log-room)
+
 mul-log : tie.Need-mul-log
 mul-log c =
     let entry = c .before .before .before .before .before .before .before .before .before .before in
@@ -67,8 +80,10 @@ add-mark-pairs c =
 
 mark-pairs-requires : tie.Need-mark-pairs-requires
 mark-pairs-requires c κs =
-    let entry = c .before .before .before .before .before .before .before .before .before .before .before in
-    (omega (arith, law.sight-block _ _ _ _ _ _ _ _ (law.sighted-is _ _ _ _ _ _ _ _ (entry .pre .0))), law.sight-outs _ _ _ _ _ _ _ _ (law.sighted-is _ _ _ _ _ _ _ _ (entry .pre .0)))
+    let entry = c .before .before .before .before .before .before .before .before .before .before .before in (
+      omega (arith, law.sight-block _ _ _ _ _ _ _ _ (law.sighted-is _ _ _ _ _ _ _ _ (entry .pre .0))),
+      law.sight-outs _ _ _ _ _ _ _ _ (law.sighted-is _ _ _ _ _ _ _ _ (entry .pre .0)),
+    )
 
 mul-close-up : tie.Need-mul-close-up
 mul-close-up c =
@@ -87,40 +102,34 @@ close-up-requires c κs =
 
 add-append-pairs : tie.Need-add-append-pairs
 add-append-pairs c =
-    let entry = c .before .before .before .before .before .before .before .before .before .before .before .before .before .before .before .before .before .before .before in
+    let entry =
+    c .before .before .before .before .before .before .before .before .before .before .before .before .before .before .before .before .before .before .before in
     omega (arith, law.sight-block _ _ _ _ _ _ _ _ (law.sighted-is _ _ _ _ _ _ _ _ (entry .pre .0)))
 
 mul-append-pairs : tie.Need-mul-append-pairs
 mul-append-pairs c =
-    let entry = c .before .before .before .before .before .before .before .before .before .before .before .before .before .before .before .before .before .before .before in
+    let entry =
+    c .before .before .before .before .before .before .before .before .before .before .before .before .before .before .before .before .before .before .before in
     omega (arith, (law.sighted-is _ _ _ _ _ _ _ _ (entry .pre .0)) .fits)
 
 sub-append-pairs : tie.Need-sub-append-pairs
 sub-append-pairs c =
-    let entry = c .before .before .before .before .before .before .before .before .before .before .before .before .before .before .before .before .before .before .before in
+    let entry =
+    c .before .before .before .before .before .before .before .before .before .before .before .before .before .before .before .before .before .before .before in
     omega (arith, (law.sighted-is _ _ _ _ _ _ _ _ (entry .pre .0)) .fits)
 
 append-pairs-requires : tie.Need-append-pairs-requires
 append-pairs-requires c κs =
-    let entry = c .before .before .before .before .before .before .before .before .before .before .before .before .before .before .before .before .before .before .before in
-    (omega (arith, law.sight-block _ _ _ _ _ _ _ _ (law.sighted-is _ _ _ _ _ _ _ _ (entry .pre .0))), omega (arith, (law.sighted-is _ _ _ _ _ _ _ _ (entry .pre .0)) .room, c .before .before .before .close-up .kept .0))
-
-sub-waits : tie.Need-sub-waits
-sub-waits c = search needs
-
-add-waits : tie.Need-add-waits
-add-waits c =
-    let entry = c .before .before .before .before .before .before .before .before .before .before .before .before .before .before .before .before .before .before .before .before .before .before in
-    omega (arith, (law.sighted-is _ _ _ _ _ _ _ _ (entry .pre .0)) .room)
-
-add-read : tie.Need-add-read
-add-read c =
-    let entry = c .before .before .before .before .before .before .before .before .before .before .before .before .before .before .before .before .before .before .before .before .before .before in
-    omega (arith, (law.sighted-is _ _ _ _ _ _ _ _ (entry .pre .0)) .log-room)
+    let entry =
+    c .before .before .before .before .before .before .before .before .before .before .before .before .before .before .before .before .before .before .before in (
+      omega (arith, law.sight-block _ _ _ _ _ _ _ _ (law.sighted-is _ _ _ _ _ _ _ _ (entry .pre .0))),
+      omega (arith, (law.sighted-is _ _ _ _ _ _ _ _ (entry .pre .0)) .room, c .before .before .before .close-up .kept .0),
+    )
 
 add-marked : tie.Need-add-marked
 add-marked c =
-    let entry = c .before .before .before .before .before .before .before .before .before .before .before .before .before .before .before .before .before .before .before .before .before .before .before in
+    let entry =
+    c .before .before .before .before .before .before .before .before .before .before .before .before .before .before .before .before .before .before .before .before .before .before .before in
     let at-mark-pairs = c .before .before .before .before .before .before .before .before .before .before .before .mark-pairs in
     omega (arith, at-mark-pairs .ensures .0, law.sight-new _ _ _ _ _ _ _ _ (law.sighted-is _ _ _ _ _ _ _ _ (entry .pre .0)) (entry .args .marks .now))
 
@@ -135,12 +144,13 @@ same-length-3 c = search needs
 
 returns : tie.Need-returns
 returns c =
-    let entry = c .before .before .before .before .before .before .before .before .before .before .before .before .before .before .before .before .before .before .before .before .before .before .before in
+    let entry =
+    c .before .before .before .before .before .before .before .before .before .before .before .before .before .before .before .before .before .before .before .before .before .before .before in
     let at-mark-pairs = c .before .before .before .before .before .before .before .before .before .before .before .mark-pairs in
     let at-close-up = c .before .before .before .before .before .before .before .close-up in
-    law.tells-on (entry .args .plan .now) (entry .args .score .now) (entry .args .spans .now) (entry .args .waiting .now) (entry .args .log .now) (entry .args .marks .now)
-    (entry .args .«record») (entry .args .choice) (entry .pre .1) (entry .pre .0) (at-close-up .ensures) (c .before .before .before .append-pairs .ensures) (at-mark-pairs .ensures .0)
-    (at-mark-pairs .ensures .1)
+    law.tells-on (entry .args .plan .now) (entry .args .score .now) (entry .args .spans .now) (entry .args .waiting .now) (entry .args .log .now)
+    (entry .args .marks .now) (entry .args .«record») (entry .args .choice) (entry .pre .1) (entry .pre .0) (at-close-up .ensures)
+    (c .before .before .before .append-pairs .ensures) (at-mark-pairs .ensures .0) (at-mark-pairs .ensures .1)
 
 pub advance-spec : {M : Type 1} → statement M
 advance-spec =
@@ -155,6 +165,9 @@ advance-spec =
     mul-nexts
     shared-slice-read-nexts
     cast-nexts
+    sub-waits
+    add-waits
+    add-read
     mul-log
     slice-write-log
     add-mark-pairs
@@ -166,9 +179,6 @@ advance-spec =
     mul-append-pairs
     sub-append-pairs
     append-pairs-requires
-    sub-waits
-    add-waits
-    add-read
     add-marked
     same-length
     same-length-2

@@ -13,7 +13,9 @@ record-fits-requires c κs = search needs
 returns : tie.Need-returns
 returns c =
     let entry = c .before .before .before .before .before .before in
-    sym (law.sight-few (entry .args .plan .now) (entry .args .score .now) (entry .args .spans .now) (entry .args .items .now) (entry .args .log) (entry .args .marks) (entry .args .«record») (entry .args .choice) (sym (c .before .record-fits .ensures) ∙ not-true _ (c .if1 .taken)))
+    sym (law.sight-few (entry .args .plan .now) (entry .args .score .now) (entry .args .spans .now) (entry .args .items .now)
+    (entry .args .log) (entry .args .marks) (entry .args .«record») (entry .args .choice)
+    (sym (c .before .record-fits .ensures) ∙ not-true _ (c .if1 .taken)))
 
 mul-t16 : tie.Need-mul-t16
 mul-t16 c = omega (arith, law.fits-lent _ _ _ (sym (c .before .record-fits .ensures) ∙ not-false _ (c .if1 .left)))
@@ -34,7 +36,8 @@ mul-t21 : tie.Need-mul-t21
 mul-t21 c = omega (arith, law.fits-lent _ _ _ (sym (c .before .before .record-fits .ensures) ∙ not-false _ (c .before .if1 .left)))
 
 shared-slice-read-t20-2 : tie.Need-shared-slice-read-t20-2
-shared-slice-read-t20-2 c = omega (arith, law.fits-lent _ _ _ (sym (c .before .before .before .record-fits .ensures) ∙ not-false _ (c .before .before .if1 .left)))
+shared-slice-read-t20-2 c =
+    omega (arith, law.fits-lent _ _ _ (sym (c .before .before .before .record-fits .ensures) ∙ not-false _ (c .before .before .if1 .left)))
 
 find-head-requires : tie.Need-find-head-requires
 find-head-requires c κs = search needs
@@ -57,7 +60,9 @@ returns-2 c =
     let entry = c .before .before .before .before .before .before .before .before .before .before .before .before .before .before in
     let at-record-fits = c .before .before .before .before .before .before .before .before .before .record-fits in
     let at-if1 = c .before .before .before .before .before .before .before .before .if1 in
-    sym (law.sight-leads (entry .args .plan .now) (entry .args .score .now) (entry .args .spans .now) (entry .args .items .now) (entry .args .log) (entry .args .marks) (entry .args .«record») (entry .args .choice) (sym (at-record-fits .ensures) ∙ not-false _ (at-if1 .left)) _ _
+    sym (law.sight-leads (entry .args .plan .now) (entry .args .score .now) (entry .args .spans .now) (entry .args .items .now)
+    (entry .args .log) (entry .args .marks) (entry .args .«record») (entry .args .choice)
+    (sym (at-record-fits .ensures) ∙ not-false _ (at-if1 .left)) _ _
     (sym (c .before .before .before .before .before .find-head .ensures) ∙ ap headOf (c .before .before .before .node .given .1))
     (sym (c .before .leads-fine .ensures) ∙ not-true _ (c .if2 .taken)))
 
@@ -66,7 +71,8 @@ room-left-requires c κs =
     let at-record-fits = c .before .before .before .before .before .before .before .before .before .record-fits in
     let at-if1 = c .before .before .before .before .before .before .before .before .if1 in
     record {
-      fits = law.head-fits _ _ _ _ _ _ (sym (c .before .before .before .before .before .find-head .ensures) ∙ ap headOf (c .before .before .before .node .given .1));
+      fits = law.head-fits _ _ _ _ _ _
+          (sym (c .before .before .before .before .before .find-head .ensures) ∙ ap headOf (c .before .before .before .node .given .1));
       waits = omega arith;
       lent = law.fits-lent _ _ _ (sym (at-record-fits .ensures) ∙ not-false _ (at-if1 .left));
     }
@@ -77,7 +83,9 @@ returns-3 c =
     let at-record-fits = c .before .before .before .before .before .before .before .before .before .before .before .record-fits in
     let at-if1 = c .before .before .before .before .before .before .before .before .before .before .if1 in
     let at-find-head = c .before .before .before .before .before .before .before .find-head in
-    sym (law.sight-room (entry .args .plan .now) (entry .args .score .now) (entry .args .spans .now) (entry .args .items .now) (entry .args .log) (entry .args .marks) (entry .args .«record») (entry .args .choice) (sym (at-record-fits .ensures) ∙ not-false _ (at-if1 .left)) _ _
+    sym (law.sight-room (entry .args .plan .now) (entry .args .score .now) (entry .args .spans .now) (entry .args .items .now)
+    (entry .args .log) (entry .args .marks) (entry .args .«record») (entry .args .choice)
+    (sym (at-record-fits .ensures) ∙ not-false _ (at-if1 .left)) _ _
     (sym (at-find-head .ensures) ∙ ap headOf (c .before .before .before .before .before .node .given .1))
     (sym (c .before .before .before .leads-fine .ensures) ∙ not-false _ (c .before .before .if2 .left))
     (sym (c .before .room-left .ensures) ∙ not-true _ (c .if3 .taken)))
@@ -86,7 +94,9 @@ returns-4 : tie.Need-returns-4
 returns-4 c =
     let entry = c .before .before .before .before .before .before .before .before .before .before .before in
     let at-record-fits = c .before .before .before .before .before .before .record-fits in
-    sym (law.sight-head (entry .args .plan .now) (entry .args .score .now) (entry .args .spans .now) (entry .args .items .now) (entry .args .log) (entry .args .marks) (entry .args .«record») (entry .args .choice) (sym (at-record-fits .ensures) ∙ not-false _ (c .before .before .before .before .before .if1 .left))
+    sym (law.sight-head (entry .args .plan .now) (entry .args .score .now) (entry .args .spans .now) (entry .args .items .now)
+    (entry .args .log) (entry .args .marks) (entry .args .«record») (entry .args .choice)
+    (sym (at-record-fits .ensures) ∙ not-false _ (c .before .before .before .before .before .if1 .left))
     (sym (c .before .before .find-head .ensures) ∙ ap headOf (c .enum-told .given .1)))
 
 returns-5 : tie.Need-returns-5
@@ -95,7 +105,9 @@ returns-5 c =
     let at-record-fits = c .before .before .before .before .before .before .before .before .before .before .before .record-fits in
     let at-if1 = c .before .before .before .before .before .before .before .before .before .before .if1 in
     let at-find-head = c .before .before .before .before .before .before .before .find-head in
-    sym (law.sight-some (entry .args .plan .now) (entry .args .score .now) (entry .args .spans .now) (entry .args .items .now) (entry .args .log) (entry .args .marks) (entry .args .«record») (entry .args .choice) (sym (at-record-fits .ensures) ∙ not-false _ (at-if1 .left)) _ _
+    sym (law.sight-some (entry .args .plan .now) (entry .args .score .now) (entry .args .spans .now) (entry .args .items .now)
+    (entry .args .log) (entry .args .marks) (entry .args .«record») (entry .args .choice)
+    (sym (at-record-fits .ensures) ∙ not-false _ (at-if1 .left)) _ _
     (sym (at-find-head .ensures) ∙ ap headOf (c .before .before .before .before .before .node .given .1))
     (sym (c .before .before .before .leads-fine .ensures) ∙ not-false _ (c .before .before .if2 .left))
     (sym (c .before .room-left .ensures) ∙ not-false _ (c .if3 .left)))
