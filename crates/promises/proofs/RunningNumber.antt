@@ -34,7 +34,7 @@ module _ (score spans : List ℕ) where
 
   module _ (ar : List ℕ) (w : Walk) (first : Record) (e : started ar score spans w .answer ≡ On first) (v : Walk)
       (h : HandedOn score spans (started ar score spans w .walk) v) where
-    pub kept : v .count .matches ≡ total (take (length score) (v .marks))
+    kept : v .count .matches ≡ total (take (length score) (v .marks))
     kept =
         let s = started-as ar score spans w first e .1 in
         number-kept (length score) (begun (length score) w) v (begun-number (length score) w) (subst (λ u. Grows (length score) u v) s (handed-grows h))

@@ -67,7 +67,7 @@ module _ (plan score spans : List ℕ) where
   same-over f {p} {s} {t} {i} {j} {w} {v} ep es et ew ei =
       ap₂ (λ x y. f x y t j w) ep es ∙ ap₂ (λ x y. f plan score x j y) et ew ∙ ap (λ x. f plan score spans x v) ei
 
-  pub one-step : {i : ℕ} {w v : Walk} → Stepped i w v → v ≡ stepped plan score spans i w .walk
+  one-step : {i : ℕ} {w v : Walk} → Stepped i w v → v ≡ stepped plan score spans i w .walk
   one-step (by-step κs a r e h ep es et ew ei) = ap (λ (o : WalkOutcome). o .walk) (h ∙ same-over stepped ep es et ew ei)
 
   one-call : {choices : List ℕ} {w v : Walk} {k : ℕ} → Listed choices w k v → v ≡ run plan score spans (take k choices) w
@@ -75,7 +75,7 @@ module _ (plan score spans : List ℕ) where
       subst (λ (o : ListOutcome). o .walk ≡ run plan score spans (take (acceptedIn (o .answer)) choices) w) (sym (h ∙ same-over listed ep es et ew ec))
       (one-list plan score spans choices w .walk-is)
 
-  pub listed-walk : {choices : List ℕ} {w v : Walk} {k : ℕ} → Listed choices w k v → v ≡ listed plan score spans choices w .walk
+  listed-walk : {choices : List ℕ} {w v : Walk} {k : ℕ} → Listed choices w k v → v ≡ listed plan score spans choices w .walk
   listed-walk (by-steps κs a r e h ep es et ew ec) = ap (λ (o : ListOutcome). o .walk) (h ∙ same-over listed ep es et ew ec)
 
   pub steps-run : {w u : Walk} {is : List ℕ} → Walked w is u → u ≡ run plan score spans is w

@@ -11,7 +11,7 @@
 --   "each node reached", "each child gone to or stepped over"                           node-read, node: both are in `target`
 --   "the log has room for one more, the waiting list for all items before and after"    log-room; room-before, room-after
 --   "every place named exists in its buffer"                                            symbol-read, marks-there
---   "34 also if the stored number is above sixteen times n" (document 02, wish 5)      number-in; number-held, which no score that can be lent meets
+--   "34 also if the stored number is above sixteen times n" (document 02, wish 5)       number-in; number-held, to which no score comes that can be lent
 use mathlib.Core.Path.{_≡_}
 use mathlib.Core.List.{List}
 use mathlib.Core.Option.{Option, some}

@@ -2,7 +2,8 @@
 --   Finding     what an item finds: the node read, what is announced where, what goes on where
 --   look      "The node at the item's node followed by the state's label is read"
 --   onward    "A step takes item i; later ones close up. Successors are appended in block order."
---   numbered  "34 also if the stored number is above sixteen times n", n the score words lent; or above 2 ^ 63, which no n words come to (docs/DECISIONS.md)
+--   numbered  "34 also if the stored number is above sixteen times n", n the score words lent; or above 2 ^ 63, to which no score comes that can be lent
+--             (docs/DECISIONS.md)
 --   roomy     "the log has room for one more, the waiting list for all items before and after the step, and every place named exists in its buffer"
 --   moved     every buffer after the step; "single steps and lists keep it equal to the ones in the marks": the number grows by the bits newly set
 --   tried     the step where no condition of 34 fails

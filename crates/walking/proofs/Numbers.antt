@@ -50,7 +50,7 @@ module _ (n : ℕ) where
       less : (s a t b c : ℕ) → s + a ≡ t + b → b ≡ a + c → s ≡ t + c
       less s a t b c e d = omega arith
 
-  pub marked-ones : (xs : List (ℕ × ℕ)) (ms : List ℕ) → ((x : ℕ × ℕ) → x ∈ xs → (x .0 < 16) × (x .1 < n) × (x .1 < length ms))
+  marked-ones : (xs : List (ℕ × ℕ)) (ms : List ℕ) → ((x : ℕ × ℕ) → x ∈ xs → (x .0 < 16) × (x .1 < n) × (x .1 < length ms))
       → total (take n (marked xs ms)) ≡ total (take n ms) + newly xs ms
   unfolding marked newly
   marked-ones [] ms h = omega arith
@@ -81,7 +81,7 @@ targets-in limit n to h (p ∷ ps) ys e x m =
     first y zs t ey ih (there k) = ih k
 
 module _ (plan score spans : List ℕ) where
-  pub look-outs : (it : ℕ × ℕ) (found : Finding) → look plan score spans it ≡ some found → (x : ℕ × ℕ) → x ∈ found .outs
+  look-outs : (it : ℕ × ℕ) (found : Finding) → look plan score spans it ≡ some found → (x : ℕ × ℕ) → x ∈ found .outs
       → (x .0 < 16) × (x .1 < length score)
   unfolding look
   look-outs it found e x m =
