@@ -3,6 +3,10 @@
 // goes on. Two numbers in a field of their own before the choices, an index and a value, change that word of the plan; `=` and a number there change
 // the stored number of matches. Printed are the line and, with ` | ` between: how many choices were accepted, and 0 or the refusal's number and index;
 // the items waiting, and after `;` the words that earlier items left behind them; the log; the marks that are not 0; the stored number.
+// With a `.` behind the folio's name the choices are taken by single steps. V:M among them: the caller puts M into the mark at node V; =C: the caller
+// puts C into the stored number. Printed are then for each step the stored number after it, or `r` and the refusal's number; the marks that are not 0.
+use altering::take_singly;
+use altering::with_number;
 use bufferstone::Listed;
 use bufferstone::Record;
 use bufferstone::limits::PLAN_WORDS;
@@ -10,12 +14,12 @@ use bufferstone::limits::SCORE_NODES;
 use bufferstone::limits::WAITING_WORDS;
 use bufferstone::number;
 use bufferstone::steps;
+use going::Going;
+use going::begin;
+use leaving::show_marks;
 use leaving::show_waiting;
 use libc::STDIN_FILENO;
-use running::going::Going;
-use running::going::begin;
 use running::showing::show;
-use running::showing::show_marks;
 use running::showing::show_words;
 use running::showing::write;
 use running::texts::before;
@@ -27,8 +31,9 @@ use running::texts::put_numbers;
 use running::texts::value_of;
 use running::words::first_room;
 use running::words::first_words;
-use running::words::twice;
 
+mod altering; // single steps, and what the caller alters between them
+mod going; // a walk that is begun
 mod leaving; // what a list leaves behind
 
 fn main() {
@@ -97,11 +102,7 @@ fn change_number(line: &[u8], record: Record) -> Record {
     if !has(line, b'=') {
         return record;
     }
-    Record {
-        waiting: record.waiting,
-        logged: record.logged,
-        matches: value_of(before(behind(line, b'='), b'|')),
-    }
+    with_number(record, value_of(before(behind(line, b'='), b'|')))
 }
 
 fn put_word(plan: &mut [u16], at: u16, word: u16) {
@@ -109,6 +110,13 @@ fn put_word(plan: &mut [u16], at: u16, word: u16) {
     if i < plan.len() {
         plan[i] = word;
     }
+}
+
+fn twice(n: usize) -> usize {
+    if SCORE_NODES < n {
+        return 0;
+    }
+    2 * n
 }
 
 fn take_list(
@@ -122,21 +130,41 @@ fn take_list(
     going: Going,
 ) -> Going {
     let nodes = going.nodes;
-    let record = take_choices(
-        choices_of(line),
+    let record = take(
+        line,
         first_words(plan, going.words),
         first_words(score, nodes),
         first_words(spans, nodes),
         first_room(waiting, twice(nodes)),
         first_room(log, nodes),
         first_room(marks, nodes),
-        change_number(line, going.record),
+        going.record,
     );
     Going {
         words: going.words,
         nodes,
         record,
     }
+}
+
+// With a `.` behind the folio's name the steps are single.
+fn take(
+    line: &[u8],
+    plan: &[u16],
+    score: &[u16],
+    spans: &[u16],
+    waiting: &mut [u16],
+    log: &mut [u16],
+    marks: &mut [u16],
+    begun: Record,
+) -> Record {
+    if has(before(line, b'|'), b'.') {
+        let done = before(behind(line, b'|'), b'|');
+        return take_singly(done, plan, score, spans, waiting, log, marks, begun);
+    }
+    let record = change_number(line, begun);
+    let list = choices_of(line);
+    take_choices(list, plan, score, spans, waiting, log, marks, record)
 }
 
 // The last field.

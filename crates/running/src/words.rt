@@ -1,5 +1,3 @@
-use bufferstone::limits::SCORE_NODES;
-
 // The first n words, or all where there are fewer.
 pub fn first_words(words: &[u16], n: usize) -> &[u16] {
     if words.len() < n {
@@ -22,12 +20,4 @@ pub fn first_room(words: &mut [u16], n: usize) -> &mut [u16] {
         return words;
     }
     &mut words[0..n]
-}
-
-// The words of n items, none where that is more than any score has.
-pub fn twice(n: usize) -> usize {
-    if SCORE_NODES < n {
-        return 0;
-    }
-    2 * n
 }

@@ -2,8 +2,8 @@ use mathlib.Core.Path.{_≡_}
 use Prim.Native.Nat.{_-_}
 use lib.ListN.{length}
 use borrow.Author.Needs.{needs}
-use Rattle.running.proofs.going.fill.Statement.{statement}
-use Rattle.running.proofs.going.fill.Tie as tie
+use Rattle.lists.proofs.going.fill.Statement.{statement}
+use Rattle.lists.proofs.going.fill.Tie as tie
 
 abbrev Inv-loop : tie.InvT-loop
 Inv-loop words₀ word i₀ i-end words i = (length words ≡ length words₀) × (i-end ≡ length words₀)

@@ -1,8 +1,3 @@
-use crate::files::read_folio;
-use crate::texts::before;
-use crate::texts::first;
-use crate::texts::has;
-use crate::words::first_words;
 use bufferstone::Built;
 use bufferstone::Counts;
 use bufferstone::Opened;
@@ -15,6 +10,11 @@ use bufferstone::limits::SCRATCH_WORDS;
 use bufferstone::limits::SHAPES_WORDS;
 use bufferstone::open;
 use bufferstone::start;
+use running::files::read_folio;
+use running::texts::before;
+use running::texts::first;
+use running::texts::has;
+use running::words::first_words;
 
 // No item has this word: the waiting words that a walk never wrote.
 pub const UNWRITTEN: u16 = 65535;

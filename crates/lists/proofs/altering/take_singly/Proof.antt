@@ -2,8 +2,8 @@ use mathlib.Core.Path.{_≡_}
 use Prim.Native.Nat.{_-_}
 use lib.ListN.{length}
 use borrow.Author.Needs.{needs}
-use Rattle.counts.proofs.do_all.Statement.{statement}
-use Rattle.counts.proofs.do_all.Tie as tie
+use Rattle.lists.proofs.altering.take_singly.Statement.{statement}
+use Rattle.lists.proofs.altering.take_singly.Tie as tie
 
 abbrev Inv-loop : tie.InvT-loop
 Inv-loop text plan score spans waiting₀ log₀ marks₀ record₀ from₀ i₀ t12 i-end waiting log marks «record» from i =
@@ -54,8 +54,8 @@ same-length-3 c = search needs
 returns : tie.Need-returns Inv-loop μ-loop
 returns c = search needs
 
-pub do-all-spec : {M : Type 1} → statement M
-do-all-spec =
+pub take-singly-spec : {M : Type 1} → statement M
+take-singly-spec =
     tie.close
     (tie.spec
     Inv-loop
