@@ -5,11 +5,12 @@
 --   dotted-few text-few    how long they are at most
 --   Wrote            what a call says of a piece that it wrote
 --   Dots dots-begin dots-next dots-end path-root   what is left of child numbers from a place on
---   field-is first-is refusal-is match-is   a text and a number; the three lines
+--   field-is states-by states-none states-few   a text and a number; the number of states, or none, and how long its text is
+--   first-is refusal-is match-is   the three lines
 --   part-few         a path that is found is short
 --   match-short nowhere line-of line-nowhere   a match's line by the spans: there is no room, none, one; none
 use Prim.Native.Nat.{ℕ, suc, _+_, _*_, _-_, _<_, _≤_}
-use mathlib.Core.Path.{_≡_, refl, ap, ap₂, sym, _∙_}
+use mathlib.Core.Path.{_≡_, refl, ap, ap₂, sym, _∙_, subst}
 use mathlib.Core.List.{List, [], _∷_, _++_}
 use native.Mathlib.Omega.{arith}
 use native.Mathlib.Nat.{zero-add, sub-zero}
@@ -24,11 +25,13 @@ use Rattle.kinds.proofs.ListLaws.{sets-append, from, from-end}
 use Rattle.kinds.specs.declared.Reason.the-variants.{ShortBuffers, OutOfRange}
 use Rattle.counting.specs.Counting.{matchAt}
 use Rattle.report.specs.Paths.{pathOf}
-use Rattle.report.specs.Text.{digits, digitsTo, dotted, field, pathText, matchLine, pathIn}
+use Rattle.report.specs.Text.{digits, digitsTo, dotted, field, statesField, pathText, matchLine, pathIn}
 use Rattle.kinds.specs.Reasons.{numberOf}
 use Rattle.kinds.specs.declared.Reason.{Reason}
 use Rattle.report.specs.Quoted.{bytes}
 use Rattle.report.specs.declared.Totals.{Totals}
+use Rattle.report.specs.declared.States.{States}
+use Rattle.report.specs.declared.States.the-variants as states
 use Rattle.report.specs.Lines.{outOf, written, writtenIf, firstOut, refusalOut, lineOut}
 use Rattle.report.specs.declared.Written.the-variants.{Bytes, Refused}
 use Rattle.report.specs.declared.Depth.{Depth}
@@ -168,14 +171,27 @@ pub field-is : {o′ o″ : List ℕ} {b c : ℕ} (o : List ℕ) (a : ℕ) (ws :
 unfolding digits
 field-is o a ws n h d = let p = put-then (text ws h) (piece 20 (digitsTo 20 n) d) in (p .end, (p .text, omega (arith, h .0, d .1 .1)))
 
+-- the field is the one of what there is
+pub states-by : (o : List ℕ) (a : ℕ) (s : States) (n : ℕ) {o′ : List ℕ} {e : ℕ} → s ≡ states.Of n → Wrote 28 o a (field (bytes " states ") n) o′ e
+    → Wrote 28 o a (statesField s) o′ e
+states-by o a s n {o′} {e} is h = subst (λ t. Wrote 28 o a (statesField t) o′ e) (sym is) h
+
+pub states-none : (o : List ℕ) (a : ℕ) (s : States) {o′ : List ℕ} {e : ℕ} → s ≡ states.NoPlan → (e ≡ a + 9) × (o′ ≡ sets o a (bytes " states -"))
+    → Wrote 28 o a (statesField s) o′ e
+states-none o a s {o′} {e} is h = subst (λ t. Wrote 28 o a (statesField t) o′ e) (sym is) (h .0, (h .1, omega (arith, h .0)))
+
+pub states-few : (s : States) → length (statesField s) ≤ 28
+states-few (states.Of n) = omega (arith, digits-short n)
+states-few states.NoPlan = omega arith
+
 pub first-is : (t : Totals) (o : List ℕ) {o₁ o₂ o₃ o₄ o₅ o₆ : List ℕ} {a₁ a₂ a₃ a₄ a₅ a₆ : ℕ} → 1400 ≤ length o
-    → Wrote 26 o 0 (field (bytes "nodes ") (t .nodes)) o₁ a₁ → Wrote 28 o₁ a₁ (field (bytes " states ") (t .states)) o₂ a₂
+    → Wrote 26 o 0 (field (bytes "nodes ") (t .nodes)) o₁ a₁ → Wrote 28 o₁ a₁ (statesField (t .states)) o₂ a₂
     → Wrote 29 o₂ a₂ (field (bytes " matches ") (t .matches)) o₃ a₃ → Wrote 29 o₃ a₃ (field (bytes " clashes ") (t .clashes)) o₄ a₄
     → Wrote 27 o₄ a₄ (field (bytes " depth ") (t .depth)) o₅ a₅ → (a₆ ≡ a₅ + 1) × (o₆ ≡ sets o₅ a₅ (bytes "\n")) → outOf (Bytes a₆) o₆ ≡ firstOut t o
 first-is t o room p₁ p₂ p₃ p₄ p₅ p₆ =
     line-is room
     (put-then (piece 26 (field (bytes "nodes ") (t .nodes)) p₁)
-    (put-then (piece 28 (field (bytes " states ") (t .states)) p₂)
+    (put-then (piece 28 (statesField (t .states)) p₂)
     (put-then (piece 29 (field (bytes " matches ") (t .matches)) p₃)
     (put-then (piece 29 (field (bytes " clashes ") (t .clashes)) p₄)
     (put-then (piece 27 (field (bytes " depth ") (t .depth)) p₅) (text (bytes "\n") p₆))))))

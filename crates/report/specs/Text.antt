@@ -7,6 +7,7 @@
 --   field         a text and a number behind it
 --   matchLine     one match, its node's position given
 --   line          the same by the spans; none where they do not have the node
+--   statesField   the number of states behind its name; `states -` where there is no plan (document 02, wish 6)
 --   firstLine     its numbers, each behind its name
 --   textOf        a text that there is
 --   lines         by node, then shape; a match whose node the spans do not have has no line
@@ -28,6 +29,8 @@ use Rattle.counting.specs.Counting.{Match, foundIn}
 use Rattle.report.specs.Quoted.{bytes}
 use Rattle.report.specs.Paths.{pathOf}
 use Rattle.report.specs.declared.Totals.{Totals}
+use Rattle.report.specs.declared.States.{States}
+use Rattle.report.specs.declared.States.the-variants as states
 use Rattle.report.specs.declared.Step.{Step}
 use Rattle.report.specs.declared.Step.the-variants.{At, Nowhere}
 use Rattle.report.specs.declared.Depth.{Depth}
@@ -58,10 +61,14 @@ matchLine m p = digits (m .node) ++ (field (bytes " ") (m .shape) ++ (bytes " " 
 abbrev pub line : List ℕ → Match → Option (List ℕ)
 line spans m = Option·map (matchLine m) (pathOf spans (m .node))
 
+abbrev pub statesField : States → List ℕ
+statesField (states.Of n) = field (bytes " states ") n
+statesField states.NoPlan = bytes " states -"
+
 abbrev pub firstLine : Totals → List ℕ
 firstLine t =
     field (bytes "nodes ") (t .nodes)
-    ++ (field (bytes " states ") (t .states)
+    ++ (statesField (t .states)
     ++ (field (bytes " matches ") (t .matches)
     ++ (field (bytes " clashes ") (t .clashes)
     ++ (field (bytes " depth ") (t .depth) ++ bytes "\n"))))

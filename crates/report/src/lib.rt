@@ -3,10 +3,16 @@ use kinds::Reason;
 pub mod lines; // the lines of the report
 mod text; // their pieces
 
+// How many states the plan has that led to the marks, if one did.
+pub enum States {
+    Of(usize),
+    NoPlan,
+}
+
 // The numbers of the first line.
 pub struct Totals {
     pub nodes: usize,
-    pub states: usize,
+    pub states: States,
     pub matches: usize,
     pub clashes: usize,
     pub depth: usize,

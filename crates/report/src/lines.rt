@@ -11,6 +11,7 @@ use crate::text::put_digits;
 use crate::text::put_dotted;
 use crate::text::put_field;
 use crate::text::put_path;
+use crate::text::put_states;
 use crate::text::put_text;
 use kinds::Node;
 use kinds::Reason;
@@ -67,8 +68,9 @@ pub fn put_first(totals: Totals, out: &mut [u8]) -> Written
     if out.len() < LINE_BYTES {
         return Written::Refused(Reason::ShortBuffers);
     }
+    let states = totals.states;
     let a = put_field(b"nodes ", totals.nodes, out, 0);
-    let b = put_field(b" states ", totals.states, out, a);
+    let b = put_states(states, out, a);
     let c = put_field(b" matches ", totals.matches, out, b);
     let d = put_field(b" clashes ", totals.clashes, out, c);
     let e = put_field(b" depth ", totals.depth, out, d);

@@ -3,8 +3,9 @@ ghost use Prim.Native.Nat.{_+_, _*_, _-_, _<_, _≤_};
 ghost use lib.ListN.{length};
 ghost use lib.Seq.{sets};
 ghost use Rattle.report.specs.Paths.{childOf, pathOf};
-ghost use Rattle.report.specs.Text.{digitsTo, field, pathText, stepOf, pathIn, numbersIn};
+ghost use Rattle.report.specs.Text.{digitsTo, field, statesField, pathText, stepOf, pathIn, numbersIn};
 use crate::Depth;
+use crate::States;
 use crate::Step;
 use kinds::limits::NUMBER_DIGITS;
 use kinds::limits::PATH_NUMBERS;
@@ -114,6 +115,19 @@ pub fn put_field(text: &[u8], n: usize, out: &mut [u8], at: usize) -> usize
 {
     let here = put_text(text, out, at);
     put_digits(n, NUMBER_DIGITS, out, here)
+}
+
+// How many states there are, or `-`, behind their name.
+pub fn put_states(states: States, out: &mut [u8], at: usize) -> usize
+    requires { ⌜ at + 28 ≤ length (now out) ⌝ }
+    ensures count { λ r. ⌜ r ≡ at + length (statesField states) ⌝ }
+    ensures buffer { λ r. ⌜ now (out .exit) ≡ sets (now (out .entry)) at (statesField states) ⌝ }
+    ensures few { λ r. ⌜ r ≤ at + 28 ⌝ }
+{
+    match states {
+        States::Of(n) => put_field(b" states ", n, out, at),
+        States::NoPlan => put_text(b" states -", out, at),
+    }
 }
 
 // Child numbers with dots between them, the root as `-`, from `at` on; answers the place after them.
