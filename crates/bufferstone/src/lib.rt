@@ -61,12 +61,16 @@ pub use walk::Walked;
 pub use walk::starting::start;
 pub use walk::stepping::step;
 
+// The same marks without a plan: every shape compared with the subtree at each node.
+pub use comparing::marking::compare;
+
 // How many matches the marks hold, and how many of them clash.
 pub use clashing::marks::clashes;
 pub use counting::Counted;
 pub use counting::marks::matches;
 
 // The report's lines.
+pub use report::States;
 pub use report::Totals;
 pub use report::Written;
 pub use report::lines::put_first;

@@ -1,0 +1,2 @@
+pub mod nodes; // the shapes that match at one node
+pub mod marking; // at every node
