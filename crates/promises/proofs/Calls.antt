@@ -39,6 +39,7 @@ use Rattle.walk.proofs.starting.start.Reads as start
 use Rattle.walk.proofs.stepping.step.Reads as step
 use Rattle.listing.proofs.taking.steps.Reads as steps
 use Rattle.clashing.proofs.marks.clashes.Reads as clashes
+use Rattle.comparing.proofs.marking.compare.Reads as compare
 use Rattle.counting.proofs.marks.matches.Reads as matches
 use Rattle.checks.proofs.showing.subtree.Reads as subtree
 use Rattle.readers.proofs.reading.announcement_of.Reads as announcement-of
@@ -60,7 +61,7 @@ use Rattle.kinds.proofs.Position.child.Reads as child
 use Rattle.following.proofs.positions.follow.Reads as follow
 use Rattle.promises.specs.Told.{told}
 use Rattle.promises.specs.Found.{FoundRow, partSays, pairValues, Standing, LabelFound, BlockFound, AnnouncementFound, SuccessorFound, ChildFound, Reaches}
-use Rattle.promises.specs.Demand1.{OpenRow, openTold, BuildRow, buildTold, StartRow, CountRow, ClashRow, StepRow, walkTold, ListRow, listTold, LineRow, MatchRow, lineTold}
+use Rattle.promises.specs.Demand1.{OpenRow, openTold, BuildRow, buildTold, StartRow, CountRow, ClashRow, CompareRow, compareTold, StepRow, walkTold, ListRow, listTold, LineRow, MatchRow, lineTold}
 use Rattle.promises.proofs.Demand1.{demand-1}
 
 pub open-call : (κs : _) (a : _) (r : _) (e : _) → open-folio.Learnt κs a r e → Below 256 (now (a .0))
@@ -109,6 +110,13 @@ pub clashes-call : (κs : _) (a : _) (r : _) (e : _) → clashes.Learnt κs a r 
 clashes-call κs a r e h small =
     subst (ClashRow (now (a .0)) (now (a .1 .0)) (now (a .1 .1 .0)) (now (a .1 .1 .1 .0)) (now (a .1 .1 .1 .1 .0)) (now (a .1 .1 .1 .1 .1 .0)))
     (ap countedSays (sym h)) (demand-1 .clashes _ _ _ _ _ _ small .0)
+
+pub compare-call : (κs : _) (a : _) (r : _) (e : _) → compare.Learnt κs a r e → Below 65536 (now (a .1 .1 .1 .0))
+    → CompareRow (now (a .0)) (now (a .1 .0)) (now (a .1 .1 .0)) (now (a .1 .1 .1 .0)) (now (a .1 .1 .1 .1 .0)) (now (a .1 .1 .1 .1 .1 .0))
+    (told (countedSays r) (now (e .1 .1 .1 .1 .1 .0)))
+compare-call κs a r e h small =
+    subst (CompareRow (now (a .0)) (now (a .1 .0)) (now (a .1 .1 .0)) (now (a .1 .1 .1 .0)) (now (a .1 .1 .1 .1 .0)) (now (a .1 .1 .1 .1 .1 .0)))
+    (ap compareTold (sym h)) (demand-1 .comparing _ _ _ _ _ _ small .0)
 
 pub subtree-call : (κs : _) (a : _) (r : _) (e : _) → subtree.Learnt κs a r e → Below 65536 (now (a .1 .1 .1 .0))
     → FoundRow (Standing (now (a .1 .0)) (now (a .1 .1 .0)) (now (a .1 .1 .1 .0)) (a .0)) flatten (partSays (now r))
@@ -212,7 +220,7 @@ follow-call κs a r e h = subst (FoundRow (Reaches (now (a .0)) (a .1 .0) (a .1 
 -- ---- the lines
 pub put-first-call : (κs : _) (a : _) (r : _) (e : _) → put-first.Learnt κs a r e
     → LineRow (firstLine (a .0)) (now (a .1 .0)) (told (writtenSays r) (now (e .1 .0)))
-put-first-call κs a r e h = subst (LineRow (firstLine (a .0)) (now (a .1 .0))) (ap lineTold (sym h)) (demand-1 .first-line _ _ .0)
+put-first-call κs a r e h = subst (LineRow (firstLine (a .0)) (now (a .1 .0))) (ap lineTold (sym h)) (demand-1 .first-line (a .0) _ .0)
 
 pub put-line-call : (κs : _) (a : _) (r : _) (e : _) → put-line.Learnt κs a r e
     → MatchRow (now (a .0)) (a .1 .0 .0) (a .1 .1 .0 .0) (now (a .1 .1 .1 .0)) (told (writtenSays r) (now (e .1 .1 .1 .0)))

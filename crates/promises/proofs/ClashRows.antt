@@ -1,4 +1,5 @@
 -- Rows 19, 31, 30 and 35 of counting clashes: what it says is what they give.
+--   says-so    good tables say of matches what the terms that they hold say
 use mathlib.Core.Path.{_≡_, ap, sym, _∙_}
 use mathlib.Core.Bool.{true, false}
 use mathlib.Core.Logic.{_⊎_, inl, inr, ⊎-elim}
@@ -33,7 +34,7 @@ use Rattle.promises.proofs.BuildRows.{good-or-not, is-bad, is-good}
 use Rattle.promises.proofs.WalkRows.{score-or-not, score-bad, score-fine}
 
 -- the tables say what the terms that they hold say
-says-so : (ar ws st score spans : List ℕ) → GoodShapes ar ws st → Good ar score spans → SaysOf ws st score spans (shapeTerms ar ws) (scoreTerm ar score)
+pub says-so : (ar ws st score spans : List ℕ) → GoodShapes ar ws st → Good ar score spans → SaysOf ws st score spans (shapeTerms ar ws) (scoreTerm ar score)
 says-so ar ws st score spans s g =
     let shapes : shapeTerms ar ws ≡ s .1 .trees = ap (shapeTerms ar) (s .1 .words) ∙ shape-terms ar (s .1 .trees) (s .1 .each) (s .1 .few-shapes) in
     let tree : scoreTerm ar score ≡ g .1 .tree = ap (scoreTerm ar) (g .1 .words) ∙ score-term ar (g .1 .tree) (g .1 .is) in

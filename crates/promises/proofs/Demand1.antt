@@ -22,6 +22,7 @@ use Rattle.promises.proofs.LineRows.{by-first-line, by-match-line, by-r
 use Rattle.promises.proofs.BuildRows.{by-build}
 use Rattle.promises.proofs.WalkRows.{by-start, by-count}
 use Rattle.promises.proofs.ClashRows.{by-clash}
+use Rattle.promises.proofs.CompareRows.{by-compare}
 use Rattle.promises.proofs.StepRows.{by-step}
 use Rattle.promises.proofs.ListRows.{by-list}
 
@@ -61,6 +62,7 @@ demand-1 = record {
   listing = by-list;
   matches = λ ar score spans marks small. by-count ar score spans small marks;
   clashes = by-clash;
+  comparing = by-compare;
   subtree = λ w ar shapes score small. by-subtree ar shapes score small w;
   label = by-label;
   lengths = by-lengths;

@@ -1,25 +1,22 @@
 -- Demand 3 holds of every file that opens and whose build is accepted.
---   bits-alike     the marks of two finished walks, node by node
+--   same-…     two finished walks over one file
 use mathlib.Core.Path.{_≡_, ap, ap₂, sym, _∙_, subst}
 use mathlib.Core.List.{List, _++_}
 use mathlib.Core.Logic.{_↔_}
 use Prim.Native.Nat.{ℕ, suc, _+_, _<_, _≤_}
 use native.Mathlib.Omega.{arith}
 use native.Mathlib.Decide.{decLt}
-use lib.ListN.{length, getD, getElem?, take, take-append-drop}
-use lib.Seq.{ext-getD, length-take-le, getD-take}
-use Rattle.kinds.specs.Bits.{bit}
+use lib.ListN.{length, getD, take, take-append-drop}
+use lib.Seq.{length-take-le, getD-take}
 use Rattle.kinds.specs.declared.Reason.the-variants.{NoSuchItem}
-use Rattle.kinds.proofs.BitLaws.{bits-same}
 use Rattle.kinds.proofs.Members.{Distinct}
 use Rattle.kinds.specs.Members.{_∈_}
 use Rattle.kinds.proofs.Places.{on-in, at-below, getD-at, getD-in, distinct-at}
 use Rattle.term.specs.Terms.{span}
-use Rattle.term.specs.Places.{Matches, number}
-use Rattle.term.proofs.Numbers.{node-at}
 use Rattle.term.proofs.Sizes.{length-sizes}
 use Rattle.counting.specs.Counting.{total}
 use Rattle.report.specs.Text.{firstLine, lines, report}
+use Rattle.report.specs.declared.States.the-variants.{Of}
 use Rattle.walk.specs.Starting.{Walk, WalkOutcome, refuseWalk, walkedSays}
 use Rattle.kinds.specs.Reasons.{Says, gives, refusal}
 use Rattle.promises.specs.Told.{Told, told as telling}
@@ -27,11 +24,13 @@ use Rattle.promises.specs.Demand1.{walkTold, recorded}
 use Rattle.walk.specs.declared.Walked.the-variants.{On}
 use Rattle.walking.specs.OneFolio.{walkIn}
 use Rattle.walking.proofs.AnyWalk as any-walk
-use Rattle.promises.specs.OneFile.{OneFile, wordsIn, startsIn, scoreIn, spansIn, bufferIn, after, stepAfter, acceptedIn, reported}
+use Rattle.promises.specs.OneFile.{OpenFile, OneFile, wordsIn, startsIn, scoreIn, spansIn, bufferIn, after, stepAfter, acceptedIn, reported}
 use Rattle.promises.specs.Reported.{totalsOf}
 use Rattle.promises.specs.Demand3.{Demand3}
-use Rattle.promises.proofs.Setting.{number-is, score-spans, told, same-shapes, same-score, same-words, same-starts, same-spans, same-depth, same-states}
-use Rattle.promises.proofs.Demand2.{demand-2, marks-long}
+use Rattle.promises.proofs.OpenFile.{score-spans, same-score, same-words, same-starts, same-spans, same-depth}
+use Rattle.promises.proofs.OpenReport.{exact-over}
+use Rattle.promises.proofs.Setting.{number-is, told, same-states}
+use Rattle.promises.proofs.Demand2.{exact}
 use Rattle.promises.proofs.AnyLists as any-lists
 
 -- the first n entries, as a list and by place
@@ -48,7 +47,7 @@ module _ (n : ℕ) (xs : List ℕ) (long : n ≤ length xs) where
       let h : i < n = omega arith in
       (i, h, sym (getD-take n xs i 0 h) ∙ getD-at (take n xs) i 0 e)
 
-module _ {file : List ℕ} (S : OneFile file) (choices : List ℕ) where
+module _ {file : List ℕ} {O : OpenFile file} (S : OneFile O) (choices : List ℕ) where
   abbrev F-after : Walk
   F-after = walkIn (told S .folio) choices (S .walk)
 
@@ -96,8 +95,8 @@ module _ {file : List ℕ} (S : OneFile file) (choices : List ℕ) where
       go (yes h) = let z : _≡_ {A = ℕ} 0 34 = sym (ap (λ (s : Says). s .number) (taken i h .0)) ∙ e in omega arith
       go (no h) = let z : _≡_ {A = ℕ} 32 34 = sym (ap (λ (t : Told Walk). t .says .number) (refused i (omega arith))) ∙ e in omega arith
 
-  steps : (acceptedIn S choices ≡ after S choices .count .logged) × (acceptedIn S choices ≤ span (scoreIn S))
-      × ((after S choices .count .waiting ≡ 0) ↔ (acceptedIn S choices ≡ span (scoreIn S)))
+  steps : (acceptedIn S choices ≡ after S choices .count .logged) × (acceptedIn S choices ≤ span (scoreIn O))
+      × ((after S choices .count .waiting ≡ 0) ↔ (acceptedIn S choices ≡ span (scoreIn O)))
   steps =
       let a = told S .accepted-is choices in
       let b = any-walk.accepted-logged (told S .folio) (S .walk) (told S .lent) choices in
@@ -105,7 +104,7 @@ module _ {file : List ℕ} (S : OneFile file) (choices : List ℕ) where
       let e = any-walk.steps-end (told S .folio) (S .walk) (told S .lent) choices in
       (a ∙ b ∙ sym logged-is, omega (arith, a, b, u), (λ h. a ∙ e .0 (sym waiting-is ∙ h), λ h. waiting-is ∙ e .1 (sym a ∙ h)))
 
-  log-nodes : (i : ℕ) → i < after S choices .count .logged → getD (after S choices .log) i 0 < span (scoreIn S)
+  log-nodes : (i : ℕ) → i < after S choices .count .logged → getD (after S choices .log) i 0 < span (scoreIn O)
   log-nodes i h =
       let n = after S choices .count .logged in
       let l = length-take-le n (after S choices .log) log-long in
@@ -114,7 +113,7 @@ module _ {file : List ℕ} (S : OneFile file) (choices : List ℕ) where
       any-walk.log-nodes (told S .folio) (S .walk) (told S .lent) choices (getD (after S choices .log) i 0)
       (subst (λ (v : Walk). getD (after S choices .log) i 0 ∈ take (v .count .logged) (v .log)) is m)
 
-  log-all : after S choices .count .waiting ≡ 0 → (n : ℕ) → n < span (scoreIn S) → (i : ℕ) × (i < after S choices .count .logged)
+  log-all : after S choices .count .waiting ≡ 0 → (n : ℕ) → n < span (scoreIn O) → (i : ℕ) × (i < after S choices .count .logged)
       × (getD (after S choices .log) i 0 ≡ n)
   log-all done n h =
       let m : n ∈ take (after S choices .count .logged) (after S choices .log) =
@@ -123,45 +122,27 @@ module _ {file : List ℕ} (S : OneFile file) (choices : List ℕ) where
       found-at (after S choices .count .logged) (after S choices .log) log-long m
 
 -- ---- two finished walks
-module _ {file : List ℕ} (S T : OneFile file) (c d : List ℕ) (c-done : after S c .count .waiting ≡ 0) (d-done : after T d .count .waiting ≡ 0) where
-  bit-over : (j n : ℕ) → n < span (scoreIn S) → bit (getD (after S c .marks) n 0) j ≡ 1 → bit (getD (after T d .marks) n 0) j ≡ 1
-  bit-over j n h b =
-      let ℓ = demand-2 S .no-other c j n h b in
-      let p = node-at (scoreIn S) n h in
-      let m = demand-2 S .exactly c c-done j (ℓ .0) (ℓ .1) n (p .0) (p .1) .0 b in
-      demand-2 T .exactly d d-done j (ℓ .0) (ap (λ xs. getElem? xs j) (sym (same-shapes S T)) ∙ ℓ .1) n (p .0)
-      (ap (λ t. number t (p .0)) (sym (same-score S T)) ∙ p .1) .1
-      (subst (λ t. Matches (ℓ .0) t (p .0)) (same-score S T) m)
-
-module _ {file : List ℕ} (S T : OneFile file) (c d : List ℕ) (c-done : after S c .count .waiting ≡ 0) (d-done : after T d .count .waiting ≡ 0) where
-  pub same-marks : take (span (scoreIn S)) (after S c .marks) ≡ take (span (scoreIn S)) (after T d .marks)
-  same-marks =
-      let n = span (scoreIn S) in
-      let nodes : span (scoreIn T) ≡ n = ap span (sym (same-score S T)) in
-      let a = length-take-le n (after S c .marks) (marks-long S c) in
-      let b = length-take-le n (after T d .marks) (rw nodes at (marks-long T d)) in
-      ext-getD 0 _ _ (a ∙ sym b) λ i h.
-      let l : i < n = omega arith in
-      getD-take n (after S c .marks) i 0 l
-      ∙ bits-same _ _ (λ j. (bit-over S T c d c-done d-done j i l, bit-over T S d c d-done c-done j i (rw nodes l)))
-      ∙ sym (getD-take n (after T d .marks) i 0 l)
+module _ {file : List ℕ} {O P : OpenFile file} (S : OneFile O) (T : OneFile P) (c d : List ℕ) (c-done : after S c .count .waiting ≡ 0)
+    (d-done : after T d .count .waiting ≡ 0) where
+  pub same-marks : take (span (scoreIn O)) (after S c .marks) ≡ take (span (scoreIn O)) (after T d .marks)
+  same-marks = exact-over O P (exact S c c-done) (after T d .marks) (exact T d d-done)
 
   pub same-number : after S c .count .matches ≡ after T d .count .matches
-  same-number = number-is S c ∙ ap total same-marks ∙ ap (λ t. total (take (span t) (after T d .marks))) (same-score S T) ∙ sym (number-is T d)
+  same-number = number-is S c ∙ ap total same-marks ∙ ap (λ t. total (take (span t) (after T d .marks))) (same-score O P) ∙ sym (number-is T d)
 
   pub same-text : reported S c ≡ reported T d
   unfolding report
   same-text =
-      let k : length (spansIn S) ≡ span (scoreIn S) = ap length (score-spans S) ∙ length-sizes (scoreIn S) in
-      let m : take (length (spansIn S)) (after S c .marks) ≡ take (length (spansIn S)) (after T d .marks) = rw k same-marks in
-      ap₂ (λ k ms. firstLine (totalsOf (wordsIn S) (startsIn S) (spansIn S) (S .counts .depth) (S .size .states) k ms) ++ lines (spansIn S) ms)
+      let k : length (spansIn O) ≡ span (scoreIn O) = ap length (score-spans O) ∙ length-sizes (scoreIn O) in
+      let m : take (length (spansIn O)) (after S c .marks) ≡ take (length (spansIn O)) (after T d .marks) = rw k same-marks in
+      ap₂ (λ k ms. firstLine (totalsOf (wordsIn O) (startsIn O) (spansIn O) (O .counts .depth) (Of (S .size .states)) k ms) ++ lines (spansIn O) ms)
       same-number m
       ∙ (λ i. let marks = after T d .marks in
-      report (totalsOf (same-words S T i) (same-starts S T i) (same-spans S T i) (same-depth S T i) (same-states S T i) (after T d .count .matches)
-      (take (length (same-spans S T i)) marks)) (same-spans S T i) marks)
+      report (totalsOf (same-words O P i) (same-starts O P i) (same-spans O P i) (same-depth O P i) (Of (same-states S T i)) (after T d .count .matches)
+      (take (length (same-spans O P i)) marks)) (same-spans O P i) marks)
 
-pub demand-3 : {file : List ℕ} (S : OneFile file) → Demand3 S
-demand-3 S = record {
+pub demand-3 : {file : List ℕ} {O : OpenFile file} (S : OneFile O) → Demand3 S
+demand-3 {O = O} S = record {
   in-buffer = take-append-drop (S .size .words) (bufferIn S);
   never-34 = never-34 S;
   refused = refused S;
@@ -173,7 +154,7 @@ demand-3 S = record {
       (on-after S choices (λ (v : Walk). Distinct (take (v .count .logged) (v .log)))
       (any-walk.log-once (told S .folio) (S .walk) (told S .lent) choices)) i k hi hk e;
   log-all = log-all S;
-  waits = λ choices. on-after S choices (λ (v : Walk). v .count .waiting + v .count .logged ≤ span (scoreIn S))
+  waits = λ choices. on-after S choices (λ (v : Walk). v .count .waiting + v .count .logged ≤ span (scoreIn O))
       (any-walk.waits-unread (told S .folio) (S .walk) (told S .lent) choices);
   number = number-is S;
   same-marks = λ T c d. same-marks S T c d;

@@ -8,6 +8,7 @@ pub mod Answers
 pub mod BuildRows
 pub mod WalkRows
 pub mod ClashRows
+pub mod CompareRows
 pub mod FoundRows
 pub mod ReaderRows
 pub mod LeadRows
@@ -16,6 +17,9 @@ pub mod ListRows
 pub mod LineRows
 pub mod ScorePaths
 pub mod Reported
+pub mod Exact
+pub mod OpenFile
+pub mod OpenReport
 pub mod SubtreeRows
 pub mod Setting
 pub mod Demand1
@@ -23,6 +27,7 @@ pub mod Demand2
 pub mod AnyLists
 pub mod Demand3
 pub mod RunningNumber
+pub mod TwoEngines
 pub mod SampleFile
 pub mod Calls
 pub mod Runs

@@ -17,10 +17,10 @@ use Rattle.kinds.specs.Positions.{Pos}
 use Rattle.kinds.proofs.Options.{none-not}
 use Rattle.report.specs.Paths.{pathOf, Leads}
 use Rattle.report.specs.declared.Totals.{Totals}
-use Rattle.report.specs.Text.{digits, pathText, matchLine, firstLine, refusalText}
+use Rattle.report.specs.Text.{digits, statesField, pathText, matchLine, firstLine, refusalText}
 use Rattle.report.specs.Lines.{written, writtenIf, lineOut, firstOut, refusalOut}
 use Rattle.report.proofs.FollowPath.{path-leads, leads-path}
-use Rattle.report.proofs.TextLaws.{line-short, line-is, digits-short, text-few, match-short, nowhere}
+use Rattle.report.proofs.TextLaws.{line-short, line-is, digits-short, states-few, text-few, match-short, nowhere}
 use Rattle.promises.specs.Demand1.{lineTold, wrote, LineRow, line-30, writes, MatchRow, match-30, match-34, match-writes}
 use Rattle.promises.specs.Told.{Told, By}
 
@@ -47,12 +47,12 @@ pub by-first-line : (t : Totals) (buffer : List ℕ) → By (LineRow (firstLine 
 by-first-line t buffer = by-line (firstLine t) buffer
     (rw (
       length-append (digits (t .nodes)) _,
-      length-append (digits (t .states)) _,
+      length-append (statesField (t .states)) _,
       length-append (digits (t .matches)) _,
       length-append (digits (t .clashes)) _,
       length-append (digits (t .depth)) _,
     )
-    (omega (arith, digits-short (t .nodes), digits-short (t .states), digits-short (t .matches), digits-short (t .clashes), digits-short (t .depth))))
+    (omega (arith, digits-short (t .nodes), states-few (t .states), digits-short (t .matches), digits-short (t .clashes), digits-short (t .depth))))
 
 pub by-refusal-line : (r : Reason) (p : ℕ) (buffer : List ℕ) → By (LineRow (refusalText r p) buffer) (lineTold (refusalOut r p buffer))
 by-refusal-line r p buffer = by-line (refusalText r p) buffer

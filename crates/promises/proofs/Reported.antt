@@ -31,6 +31,7 @@ use Rattle.clashing.specs.Clashes.{clashNumber, nodesIn, nodesOf}
 use Rattle.clashing.specs.Strays.{IsMatch}
 use Rattle.clashing.proofs.OneFolio.{match-of, SaysOf}
 use Rattle.report.specs.Paths.{pathOf}
+use Rattle.report.specs.declared.States.{States}
 use Rattle.report.specs.Text.{matchLine, line, textOf, firstLine, lines, report}
 use Rattle.promises.specs.Reported.{MatchIn, matchOne, matchesAt, matchesIn, totalsIn, reportIn, totalsOf}
 use Rattle.promises.specs.Demand2.{Says}
@@ -134,17 +135,17 @@ module _ (test : Term → Pos → Bool) (shapes : List Term) (t : Term) (ms : Li
       clashes-are : clashNumber (nodesOf words starts (sizes t)) (foundIn ms) ≡ clashNumber (nodesIn shapes t) (map numbers all)
       clashes-are = tables .same-number (foundIn ms) (is-match says) ∙ ap (clashNumber (nodesIn shapes t)) (sym found-matches)
 
-      totals-are : (states : ℕ) → totalsOf words starts (sizes t) (depth t) states (total ms) ms ≡ totalsIn all shapes t states
+      totals-are : (states : States) → totalsOf words starts (sizes t) (depth t) states (total ms) ms ≡ totalsIn all shapes t states
       totals-are states = λ i. record { nodes = length-sizes t i; states = states; matches = total-is i; clashes = clashes-are i; depth = depth t }
 
-      pub right-report : (states : ℕ)
+      pub right-report : (states : States)
           → firstLine (totalsOf words starts (sizes t) (depth t) states (total ms) ms) ++ lines (sizes t) ms ≡ reportIn test shapes t states
       right-report states = λ i. firstLine (totals-are states i) ++ lines-are i
 
 -- the report of marks, the first n of which are right
 pub report-right : (test : Term → Pos → Bool) (shapes : List Term) (t : Term) (marks : List ℕ) → Right test shapes t (take (span t) marks)
     → length shapes ≤ 16 → ((p : Pos) (n : ℕ) → number t p ≡ some n → pathOf (sizes t) n ≡ some p)
-    → (words starts score : List ℕ) → SaysOf words starts score (sizes t) shapes t → Says test t → (states : ℕ)
+    → (words starts score : List ℕ) → SaysOf words starts score (sizes t) shapes t → Says test t → (states : States)
     → report (totalsOf words starts (sizes t) (depth t) states (total (take (span t) marks)) (take (length (sizes t)) marks)) (sizes t) marks
     ≡ reportIn test shapes t states
 unfolding report

@@ -6,7 +6,9 @@
 --   list-singly        a list leaves what its accepted choices leave, taken singly
 --   Handed calls-handed   any number of both, each with plan words of its own: what they leave is handed on by the definitions
 --   started-number number-in-range   so the stored number behind an accepted start is the ones in the first n marks, and no step is refused for it
---   one-file           three calls that the contracts allow, each accepted, are the setting of demands 2 and 3
+--   open-file          opening, as the contract allows it, where it is accepted
+--   engines            so both engines agree on what a call of the simple finder leaves, lent what opening wrote
+--   one-file           two calls more that the contracts allow, each accepted, are the setting of demands 2 and 3
 --   demands            so both demands hold of them, and of every walk that the contracts allow behind them
 use mathlib.Core.Path.{_≡_, refl, ap, ap₂, sym, _∙_, subst}
 use mathlib.Core.List.{List, [], _∷_, _++_}
@@ -26,6 +28,7 @@ use Rattle.walk.specs.declared.Record.{Record}
 use Rattle.walk.specs.declared.Walked.the-variants as walking
 use Rattle.listing.specs.Listing.{ListOutcome, acceptedIn, recordIn, listed}
 use Rattle.counting.specs.Counting.{total}
+use Rattle.counting.specs.declared.Counted.{Counted}
 use Rattle.walk.proofs.LawsRun.{run-append}
 use Rattle.listing.proofs.Singly.{one-list}
 use Rattle.folio.proofs.opening.open.Reads as open-folio
@@ -33,14 +36,19 @@ use Rattle.plan.proofs.building.build.Reads as build
 use Rattle.walk.proofs.starting.start.Reads as start
 use Rattle.walk.proofs.stepping.step.Reads as step
 use Rattle.listing.proofs.taking.steps.Reads as steps
-use Rattle.promises.specs.OneFile.{OneFile, nodesIn, spansIn, lentIn, after}
+use Rattle.comparing.specs.Comparing.{outOf, compared}
+use Rattle.comparing.proofs.marking.compare.Reads as compare
+use Rattle.promises.specs.OneFile.{OpenFile, OneFile, nodesIn, spansIn, lentIn, after}
 use Rattle.promises.specs.Demand2.{Demand2}
 use Rattle.promises.specs.Demand3.{Demand3}
 use Rattle.promises.specs.RunningNumber.{HandedOn}
 use Rattle.promises.specs.RunningNumber as handed
+use Rattle.promises.specs.TwoEngines.{comparedIn, TwoEngines}
 use Rattle.promises.proofs.Demand2.{demand-2}
 use Rattle.promises.proofs.Demand3.{demand-3}
 use Rattle.promises.proofs.RunningNumber.{running-number}
+use Rattle.promises.proofs.OpenFile.{nodes-counted}
+use Rattle.promises.proofs.TwoEngines.{two-engines}
 
 -- ---- steps
 module _ (plan score spans : List ℕ) where
@@ -124,19 +132,9 @@ module _ (score spans : List ℕ) where
 
 -- ---- one file
 module _ {file : List ℕ} (bytes : Below 256 file)
-    (κo : _) (ao : _) (counts : Counts) (eo : _) (opens : open-folio.Learnt κo ao (opening.Folio counts) eo) (of-file : now (ao .0) ≡ file)
-    (κb : _) (ab : _) (size : Size) (eb : _) (builds : build.Learnt κb ab (building.Plan size) eb)
-    (b-symbols : now (ab .0) ≡ take (counts .symbols) file) (b-words : now (ab .1 .0) ≡ take (counts .words) (now (eo .1 .0)))
-    (b-starts : now (ab .1 .1 .0) ≡ take (counts .shapes) (now (eo .1 .1 .0)))
-    (κs : _) (as′ : _) (first : Record) (es : _) (starts : start.Learnt κs as′ (walking.On first) es)
-    (s-symbols : now (as′ .0) ≡ take (counts .symbols) file) (s-score : now (as′ .1 .0) ≡ take (counts .nodes) (now (eo .1 .1 .1 .0)))
-    (s-spans : now (as′ .1 .1 .0) ≡ take (counts .nodes) (now (eo .1 .1 .1 .1 .0)))
-    (behind : List ℕ) where
+    (κo : _) (ao : _) (counts : Counts) (eo : _) (opens : open-folio.Learnt κo ao (opening.Folio counts) eo) (of-file : now (ao .0) ≡ file) where
   abbrev pub tables : Lent
   tables = lent (now (ao .1 .0)) (now (ao .1 .1 .0)) (now (ao .1 .1 .1 .0)) (now (ao .1 .1 .1 .1 .0))
-
-  abbrev pub begun : Walk
-  begun = walkOf (now (as′ .1 .1 .1 .0)) (now (as′ .1 .1 .1 .1 .0)) (now (as′ .1 .1 .1 .1 .1 .0)) (counting 0 0 0)
 
   abbrev pub left : Lent
   left = lent (now (eo .1 .0)) (now (eo .1 .1 .0)) (now (eo .1 .1 .1 .0)) (now (eo .1 .1 .1 .1 .0))
@@ -144,53 +142,82 @@ module _ {file : List ℕ} (bytes : Below 256 file)
   pub was-opened : opened file tables ≡ out (opening.Folio counts) left
   was-opened = ap (λ f. opened f tables) (sym of-file) ∙ sym opens
 
-  same-build : {ar ar′ ws ws′ st st′ : List ℕ} (p s : List ℕ) → ar ≡ ar′ → ws ≡ ws′ → st ≡ st′ → buildOf ar ws st p s ≡ buildOf ar′ ws′ st′ p s
-  same-build {ar′ = ar′} {ws′ = ws′} {st = st} p s ea ew et = ap₂ (λ x y. buildOf x y st p s) ea ew ∙ ap (λ x. buildOf ar′ ws′ x p s) et
+  abbrev pub open-file : OpenFile file
+  open-file = record { bytes = bytes; tables = tables; counts = counts; opens = ap (λ (o : OpenOutcome). o .answer) was-opened }
 
-  same-start : {ar ar′ sc sc′ sp sp′ : List ℕ} (w : Walk) → ar ≡ ar′ → sc ≡ sc′ → sp ≡ sp′ → started ar sc sp w ≡ started ar′ sc′ sp′ w
-  same-start {ar′ = ar′} {sc′ = sc′} {sp = sp} w ea ec ep = ap₂ (λ x y. started x y sp w) ea ec ∙ ap (λ x. started ar′ sc′ x w) ep
+  -- a table by what opening left of it
+  is-left : (part : Lent → List ℕ) → part (opened file tables .tables) ≡ part left
+  is-left part = ap (λ (o : OpenOutcome). part (o .tables)) was-opened
 
-  pub built-is : buildOf (take (counts .symbols) file) (take (counts .words) (opened file tables .tables .words))
-      (take (counts .shapes) (opened file tables .tables .starts)) (now (ab .1 .1 .1 .0)) (now (ab .1 .1 .1 .1 .0))
-      ≡ built-out (building.Plan size) (now (eb .1 .1 .1 .0)) (now (eb .1 .1 .1 .1 .0))
-  built-is =
-      same-build (now (ab .1 .1 .1 .0)) (now (ab .1 .1 .1 .1 .0)) (sym b-symbols)
-      (ap (λ (o : OpenOutcome). take (counts .words) (o .tables .words)) was-opened ∙ sym b-words)
-      (ap (λ (o : OpenOutcome). take (counts .shapes) (o .tables .starts)) was-opened ∙ sym b-starts)
-      ∙ sym builds
+  -- ---- the simple finder, lent a mark for each node
+  module _ (κc : _) (ac : _) (r : Counted) (ec : _) (compares : compare.Learnt κc ac r ec)
+      (c-symbols : now (ac .0) ≡ take (counts .symbols) file) (c-words : now (ac .1 .0) ≡ take (counts .words) (left .words))
+      (c-starts : now (ac .1 .1 .0) ≡ take (counts .shapes) (left .starts)) (c-score : now (ac .1 .1 .1 .0) ≡ take (counts .nodes) (left .score))
+      (c-spans : now (ac .1 .1 .1 .1 .0) ≡ take (counts .nodes) (left .spans)) where
+    pub compared-is : outOf r (now (ec .1 .1 .1 .1 .1 .0)) ≡ comparedIn open-file (now (ac .1 .1 .1 .1 .1 .0))
+    compared-is = compares ∙ λ i. compared (c-symbols i) ((c-words ∙ ap (take (counts .words)) (sym (is-left (λ l. l .words)))) i)
+        ((c-starts ∙ ap (take (counts .shapes)) (sym (is-left (λ l. l .starts)))) i)
+        ((c-score ∙ ap (take (counts .nodes)) (sym (is-left (λ l. l .score)))) i)
+        ((c-spans ∙ ap (take (counts .nodes)) (sym (is-left (λ l. l .spans)))) i) (now (ac .1 .1 .1 .1 .1 .0))
 
-  pub started-is : started (take (counts .symbols) file) (take (counts .nodes) (opened file tables .tables .score))
-      (take (counts .nodes) (opened file tables .tables .spans)) begun
-      ≡ outcome (walking.On first) (counting 0 0 0) (now (es .1 .1 .1 .0)) (now (es .1 .1 .1 .1 .0)) (now (es .1 .1 .1 .1 .1 .0))
-  started-is =
-      same-start begun (sym s-symbols)
-      (ap (λ (o : OpenOutcome). take (counts .nodes) (o .tables .score)) was-opened ∙ sym s-score)
-      (ap (λ (o : OpenOutcome). take (counts .nodes) (o .tables .spans)) was-opened ∙ sym s-spans)
-      ∙ sym starts
+    pub engines : counts .nodes ≤ length (now (ac .1 .1 .1 .1 .1 .0)) → TwoEngines open-file (now (ac .1 .1 .1 .1 .1 .0))
+    engines room = two-engines open-file (now (ac .1 .1 .1 .1 .1 .0))
+        (subst (λ n. n ≤ length (now (ac .1 .1 .1 .1 .1 .0))) (nodes-counted open-file) room)
 
-  abbrev pub one-file : OneFile file
-  one-file = record {
-    bytes = bytes;
-    tables = tables;
-    counts = counts;
-    opens = ap (λ (o : OpenOutcome). o .answer) was-opened;
-    plan = now (ab .1 .1 .1 .0);
-    scratch = now (ab .1 .1 .1 .1 .0);
-    size = size;
-    builds = ap (λ (o : BuildOutcome). o .answer) built-is;
-    behind = behind;
-    walk = begun;
-    first = first;
-    starts = ap (λ (o : WalkOutcome). o .answer) started-is;
-  }
+  -- ---- building and starting
+  module _ (κb : _) (ab : _) (size : Size) (eb : _) (builds : build.Learnt κb ab (building.Plan size) eb)
+      (b-symbols : now (ab .0) ≡ take (counts .symbols) file) (b-words : now (ab .1 .0) ≡ take (counts .words) (left .words))
+      (b-starts : now (ab .1 .1 .0) ≡ take (counts .shapes) (left .starts))
+      (κs : _) (as′ : _) (first : Record) (es : _) (starts : start.Learnt κs as′ (walking.On first) es)
+      (s-symbols : now (as′ .0) ≡ take (counts .symbols) file) (s-score : now (as′ .1 .0) ≡ take (counts .nodes) (left .score))
+      (s-spans : now (as′ .1 .1 .0) ≡ take (counts .nodes) (left .spans))
+      (behind : List ℕ) where
+    abbrev pub begun : Walk
+    begun = walkOf (now (as′ .1 .1 .1 .0)) (now (as′ .1 .1 .1 .1 .0)) (now (as′ .1 .1 .1 .1 .1 .0)) (counting 0 0 0)
 
-  pub demands : Demand2 one-file × Demand3 one-file
-  demands = (demand-2 one-file, demand-3 one-file)
+    same-build : {ar ar′ ws ws′ st st′ : List ℕ} (p s : List ℕ) → ar ≡ ar′ → ws ≡ ws′ → st ≡ st′ → buildOf ar ws st p s ≡ buildOf ar′ ws′ st′ p s
+    same-build {ar′ = ar′} {ws′ = ws′} {st = st} p s ea ew et = ap₂ (λ x y. buildOf x y st p s) ea ew ∙ ap (λ x. buildOf ar′ ws′ x p s) et
 
-  -- the walk as starting left it, and after any steps and lists that the contracts allow, is the one that the demands speak of
-  pub walk-is : {is : List ℕ} {u : Walk}
-      → Walked (lentIn one-file) (nodesIn one-file) (spansIn one-file)
-      (walkOf (now (es .1 .1 .1 .0)) (now (es .1 .1 .1 .1 .0)) (now (es .1 .1 .1 .1 .1 .0)) first) is u
-      → u ≡ after one-file is
-  walk-is {is} s = steps-run (lentIn one-file) (nodesIn one-file) (spansIn one-file) s
-      ∙ ap (run (lentIn one-file) (nodesIn one-file) (spansIn one-file) is) (sym (ap (λ (o : WalkOutcome). o .walk) started-is))
+    same-start : {ar ar′ sc sc′ sp sp′ : List ℕ} (w : Walk) → ar ≡ ar′ → sc ≡ sc′ → sp ≡ sp′ → started ar sc sp w ≡ started ar′ sc′ sp′ w
+    same-start {ar′ = ar′} {sc′ = sc′} {sp = sp} w ea ec ep = ap₂ (λ x y. started x y sp w) ea ec ∙ ap (λ x. started ar′ sc′ x w) ep
+
+    pub built-is : buildOf (take (counts .symbols) file) (take (counts .words) (opened file tables .tables .words))
+        (take (counts .shapes) (opened file tables .tables .starts)) (now (ab .1 .1 .1 .0)) (now (ab .1 .1 .1 .1 .0))
+        ≡ built-out (building.Plan size) (now (eb .1 .1 .1 .0)) (now (eb .1 .1 .1 .1 .0))
+    built-is =
+        same-build (now (ab .1 .1 .1 .0)) (now (ab .1 .1 .1 .1 .0)) (sym b-symbols)
+        (ap (take (counts .words)) (is-left (λ l. l .words)) ∙ sym b-words)
+        (ap (take (counts .shapes)) (is-left (λ l. l .starts)) ∙ sym b-starts)
+        ∙ sym builds
+
+    pub started-is : started (take (counts .symbols) file) (take (counts .nodes) (opened file tables .tables .score))
+        (take (counts .nodes) (opened file tables .tables .spans)) begun
+        ≡ outcome (walking.On first) (counting 0 0 0) (now (es .1 .1 .1 .0)) (now (es .1 .1 .1 .1 .0)) (now (es .1 .1 .1 .1 .1 .0))
+    started-is =
+        same-start begun (sym s-symbols)
+        (ap (take (counts .nodes)) (is-left (λ l. l .score)) ∙ sym s-score)
+        (ap (take (counts .nodes)) (is-left (λ l. l .spans)) ∙ sym s-spans)
+        ∙ sym starts
+
+    abbrev pub one-file : OneFile open-file
+    one-file = record {
+      plan = now (ab .1 .1 .1 .0);
+      scratch = now (ab .1 .1 .1 .1 .0);
+      size = size;
+      builds = ap (λ (o : BuildOutcome). o .answer) built-is;
+      behind = behind;
+      walk = begun;
+      first = first;
+      starts = ap (λ (o : WalkOutcome). o .answer) started-is;
+    }
+
+    pub demands : Demand2 one-file × Demand3 one-file
+    demands = (demand-2 one-file, demand-3 one-file)
+
+    -- the walk as starting left it, and after any steps and lists that the contracts allow, is the one that the demands speak of
+    pub walk-is : {is : List ℕ} {u : Walk}
+        → Walked (lentIn one-file) (nodesIn open-file) (spansIn open-file)
+        (walkOf (now (es .1 .1 .1 .0)) (now (es .1 .1 .1 .1 .0)) (now (es .1 .1 .1 .1 .1 .0)) first) is u
+        → u ≡ after one-file is
+    walk-is {is} s = steps-run (lentIn one-file) (nodesIn open-file) (spansIn open-file) s
+        ∙ ap (run (lentIn one-file) (nodesIn open-file) (spansIn open-file) is) (sym (ap (λ (o : WalkOutcome). o .walk) started-is))

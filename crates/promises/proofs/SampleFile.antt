@@ -1,5 +1,5 @@
 -- The sample file opens, is built and is walked: demands 2 and 3 speak of it, and say there what document 01 shows.
---   one-file        the sample, with buffers full of nines; a step is lent the whole plan buffer, a word longer than the plan
+--   open-file one-file   the sample, with buffers full of nines; a step is lent the whole plan buffer, a word longer than the plan
 --   ended           ten choices of item 0, and none waits
 --   shape-0-at-2-1  by demand 2, shape 0 matches at 2.1; no-shape-1-at-1: shape 1 does not at 1
 --   always-ten      by demand 3, every walk to the end has ten accepted steps
@@ -28,8 +28,8 @@ use Rattle.report.specs.Text.{report}
 use Rattle.promises.specs.Computing.{computing}
 use Rattle.promises.specs.Sample.{file, symbols, shapeWords, starts, score, spans, plan, marks, text, nines}
 use Rattle.promises.specs.Reported.{totalsOf}
-use Rattle.promises.specs.OneFile.{OneFile, openedWords, openedStarts, openedNodes, openedSpans}
-use Rattle.promises.specs.OneFile.{nodesIn, spansIn, shapesIn, scoreIn, lentIn, begunIn, after, acceptedIn, reported}
+use Rattle.promises.specs.OneFile.{OpenFile, OneFile, wordsIn, startsIn, nodesIn, spansIn, shapesIn, scoreIn, lentIn, begunIn, after, acceptedIn, reported}
+use Rattle.report.specs.declared.States.the-variants.{Of}
 use Rattle.promises.proofs.Demand2.{demand-2}
 use Rattle.promises.proofs.Demand3.{demand-3}
 use Rattle.kinds.specs.Members.{Below}
@@ -51,19 +51,22 @@ pub opens-are : opened file tables .answer ≡ opening.Folio known
 unfolding computing
 opens-are = refl
 
-pub words-are : openedWords file tables known ≡ shapeWords
+abbrev pub open-file : OpenFile file
+open-file = record { bytes = bytes-are; tables = tables; counts = known; opens = opens-are }
+
+pub words-are : wordsIn open-file ≡ shapeWords
 unfolding computing
 words-are = refl
 
-pub starts-are : openedStarts file tables known ≡ starts
+pub starts-are : startsIn open-file ≡ starts
 unfolding computing
 starts-are = refl
 
-pub nodes-are : openedNodes file tables known ≡ score
+pub nodes-are : nodesIn open-file ≡ score
 unfolding computing
 nodes-are = refl
 
-pub spans-are : openedSpans file tables known ≡ spans
+pub spans-are : spansIn open-file ≡ spans
 unfolding computing
 spans-are = refl
 
@@ -79,12 +82,8 @@ pub start-is : started symbols score spans walk ≡ goOn (begun 10 walk)
 unfolding computing
 start-is = refl
 
-abbrev pub one-file : OneFile file
+abbrev pub one-file : OneFile open-file
 one-file = record {
-  bytes = bytes-are;
-  tables = tables;
-  counts = known;
-  opens = opens-are;
   plan = nines 57;
   scratch = nines 32768;
   size = size 3 56;
@@ -109,7 +108,7 @@ after-is choices =
     ap₂ (λ w s. take 56 (buildOf symbols w s (nines 57) (nines 32768) .plan) ++ (9 ∷ [])) words-are starts-are ∙ ap (λ l. l ++ (9 ∷ [])) plan-is in
     let b : begunIn one-file ≡ begun 10 walk =
     ap₂ (λ n s. started symbols n s walk .walk) nodes-are spans-are ∙ ap (λ (o : WalkOutcome). o .walk) start-is in
-    ap (λ q. run q (nodesIn one-file) (spansIn one-file) choices (begunIn one-file)) p
+    ap (λ q. run q (nodesIn open-file) (spansIn open-file) choices (begunIn one-file)) p
     ∙ ap₂ (λ n s. run buffer n s choices (begunIn one-file)) nodes-are spans-are
     ∙ ap (run buffer score spans choices) b
 
@@ -137,21 +136,21 @@ joinJoin = node 1 (tcons (node 1 (tcons (blank 65535) (tcons (blank 65535) tnil)
 abbrev tree : Term
 tree = scoreTerm symbols score
 
-shapes-are : shapesIn one-file ≡ joinClose ∷ joinJoin ∷ []
+shapes-are : shapesIn open-file ≡ joinClose ∷ joinJoin ∷ []
 shapes-are = ap (shapeTerms symbols) words-are
 
-tree-is : scoreIn one-file ≡ tree
+tree-is : scoreIn open-file ≡ tree
 tree-is = ap (scoreTerm symbols) nodes-are
 
 -- ---- demand 2
 bit-is : (n j : ℕ) → bit (getD (after one-file zeros .marks) n 0) j ≡ bit (getD marks n 0) j
 bit-is n j = ap (λ m. bit (getD m n 0) j) marks-are
 
-pub shape-0-at-2-1 : Matches joinClose (scoreIn one-file) (2 ∷ 1 ∷ [])
+pub shape-0-at-2-1 : Matches joinClose (scoreIn open-file) (2 ∷ 1 ∷ [])
 shape-0-at-2-1 = demand-2 one-file .exactly zeros ended 0 joinClose (ap (λ s. getElem? s 0) shapes-are) 6 (2 ∷ 1 ∷ [])
     (ap (λ t. number t (2 ∷ 1 ∷ [])) tree-is) .0 (bit-is 6 0)
 
-pub no-shape-1-at-1 : Matches joinJoin (scoreIn one-file) (1 ∷ []) → ⊥
+pub no-shape-1-at-1 : Matches joinJoin (scoreIn open-file) (1 ∷ []) → ⊥
 no-shape-1-at-1 h =
     let b = demand-2 one-file .exactly zeros ended 1 joinJoin (ap (λ s. getElem? s 1) shapes-are) 1 (1 ∷ []) (ap (λ t. number t (1 ∷ [])) tree-is) .1
     h in
@@ -162,13 +161,13 @@ no-shape-1-at-1 h =
 pub always-ten : (choices : List ℕ) → after one-file choices .count .waiting ≡ 0 → acceptedIn one-file choices ≡ 10
 always-ten choices e = demand-3 one-file .steps choices .2 .0 e ∙ ap span tree-is
 
-text-is : report (totalsOf shapeWords starts spans 4 3 4 marks) spans marks ≡ text
+text-is : report (totalsOf shapeWords starts spans 4 (Of 3) 4 marks) spans marks ≡ text
 unfolding computing
 text-is = refl
 
-pub always-reported : (T : OneFile file) (choices : List ℕ) → after T choices .count .waiting ≡ 0 → reported T choices ≡ text
+pub always-reported : {P : OpenFile file} (T : OneFile P) (choices : List ℕ) → after T choices .count .waiting ≡ 0 → reported T choices ≡ text
 always-reported T choices e =
     demand-3 T .same-text one-file choices zeros e ended
-    ∙ (λ i. report (totalsOf (words-are i) (starts-are i) (spans-are i) 4 3 (number-is i) (take (length (spans-are i)) (marks-are i))) (spans-are i)
+    ∙ (λ i. report (totalsOf (words-are i) (starts-are i) (spans-are i) 4 (Of 3) (number-is i) (take (length (spans-are i)) (marks-are i))) (spans-are i)
     (marks-are i))
     ∙ text-is

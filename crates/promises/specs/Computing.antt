@@ -21,6 +21,7 @@ use Rattle.matching.specs.Falling.{size, stands, falls, falling, touched}
 use Rattle.clashing.specs.Clashes.{clashNumber, nodesOf}
 use Rattle.clashing.specs.Strays.{matched, strays}
 use Rattle.clashing.specs.Clashing.{clashesIn, clashesOf}
+use Rattle.comparing.specs.Comparing.{markAt, answerOf}
 use Rattle.report.specs.Lines.{written}
 use Rattle.report.specs.Paths.{childOn, pathTo, pathOf}
 use Rattle.report.specs.Text.{digitsTo, digits, dotted, pathText, lines, report}
@@ -29,6 +30,6 @@ unfoldable pub computing : ℕ
 unfolding decodeTo childrenOf headOf reading over spansOf sibling childAt follow target wordsOf distancesOf trailerOf overAt symbolsOf sectionsOf
     shapesFrom shapesOf scoreOf stored held opened symbolsGood shapesGood scoreGood pieceAt subtreeAt cleared buildOf pairs countedPairs blockAt
     labelWord blockOf pairAt pairIn labelOf lengthsOf announcementOf successorOf started targets look marked newly tried stepped run runBy listed foundFrom
-    total counted endOf part shapeAt size stands falls falling touched clashNumber nodesOf matched strays clashesIn clashesOf childOn pathTo pathOf digitsTo
+    total counted endOf part shapeAt size stands falls falling touched clashNumber nodesOf matched strays clashesIn clashesOf markAt answerOf childOn pathTo pathOf digitsTo
     digits dotted pathText lines report written
 computing = 0

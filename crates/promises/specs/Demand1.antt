@@ -9,19 +9,20 @@
 --   AllTaken ListRow   each of these choices is taken, one after the other; 32 or 34 at the first choice that is not; or all are taken
 --   CountRow    31, 30; or the number of matches
 --   ClashRow    19, 31, 30; 35 for a bit that is no match; or the number of matches that clash, by the terms
+--   CompareRow  19, 31, 30; or the marks that hold exactly the matches, in front of those lent behind them, and how many matches they hold
 --   lineTold wrote   what is said and left in the buffer; a line at the buffer's start, the bytes behind it as they were
 --   LineRow     30 for a buffer under 1,400 bytes (docs/DECISIONS.md); or the line
 --   MatchRow    30; 34 for a node to which no path leads by the spans lent; or the line with the path that does
 --   FoundRow    34; or what is found: in `Found`, for subtree, the plan readers and a position's child
---   openTold buildTold walkTold listTold   what opening, building, starting and stepping, and a list of choices say and leave; building leaves the plan's
---               buffer and scratch
+--   openTold buildTold walkTold listTold compareTold   what opening, building, starting and stepping, a list of choices and comparing say and leave;
+--               building leaves the plan's buffer and scratch
 use mathlib.Core.Path.{_≡_}
 use mathlib.Core.List.{List, [], _∷_, _++_, map}
 use mathlib.Core.Option.{some}
 use Prim.Native.Nat.{ℕ, _*_, _<_, _≤_}
 use lib.ListN.{length, getD, getElem?, take, drop}
 use lib.Seq.{sets}
-use Rattle.kinds.specs.Lists.{gather, greatest}
+use Rattle.kinds.specs.Lists.{gather, greatest, onto}
 use Rattle.kinds.specs.Reasons.{Says, gives, refusal, refusalWith}
 use Rattle.kinds.specs.Kinds.{childOf, childSays}
 use Rattle.kinds.specs.Positions.{Pos}
@@ -46,6 +47,7 @@ use Rattle.counting.specs.Counting.{Match, matchAt, foundIn, total, matchesOf, 
 use Rattle.clashing.specs.Clashes.{clashNumber, nodesIn}
 use Rattle.clashing.specs.Strays.{IsMatch}
 use Rattle.clashing.specs.Clashing.{clashesOf}
+use Rattle.comparing.specs.Comparing.{CompareOutcome, compared}
 use Rattle.readers.specs.BlockWords.{middle}
 use Rattle.readers.specs.PlanParts.{labelOf, labelSays, lengthsOf, blockSays, announcementOf, announcementSays, successorOf, successorSays}
 use Rattle.following.specs.Following.{target, reached, reachedSays}
@@ -56,6 +58,7 @@ use Rattle.report.specs.Lines.{LineOutcome, lineOut, firstOut, refusalOut, writ
 use Rattle.promises.specs.Found.{FoundRow, partSays, pairValues, Standing, LabelFound, BlockFound, AnnouncementFound, SuccessorFound, ChildFound, Reaches}
 use Rattle.promises.specs.Told.{Told, told, By}
 use Rattle.promises.specs.StepFound.{StepFound}
+use Rattle.promises.specs.Exact.{Exact}
 use Rattle.promises.specs.Refusals.{Given, Framed}
 use Rattle.kinds.specs.Members.{_∈_, Below}
 use Rattle.sections.specs.Sections.{symbolsAt}
@@ -71,6 +74,9 @@ walkTold o = told (walkedSays (o .answer)) (o .walk)
 
 abbrev pub listTold : ListOutcome → Told Walk
 listTold o = told (listedSays (o .answer)) (o .walk)
+
+abbrev pub compareTold : CompareOutcome → Told (List ℕ)
+compareTold o = told (countedSays (o .answer)) (o .marks)
 
 -- ---- opening
 -- it answers the counts of symbols, shapes, shape words and nodes, "the score's depth and the deepest shape's"
@@ -130,7 +136,7 @@ module _ (ar score spans : List ℕ) where
     count-30 : Good → length marks < length score → CountRow marks (refusal 30 0)
     counts : Good → length score ≤ length marks → CountRow marks (gives (total (take (length score) marks) ∷ []))
 
--- ---- counting clashes
+-- ---- counting clashes, and comparing
 module _ (ar ws st score spans marks : List ℕ) where
   -- the matches that the first n marks hold, and whether one is a match of the shapes in the score
   abbrev pub heldIn : List Match
@@ -147,6 +153,14 @@ module _ (ar ws st score spans marks : List ℕ) where
         → ClashRow (refusal 35 0)
     clashes : GoodShapes ar ws st → Good ar score spans → length score ≤ length marks → ((m : Match) → m ∈ heldIn → IsThere m)
         → ClashRow (gives (clashNumber (nodesIn (shapeTerms ar ws) (scoreTerm ar score)) heldIn ∷ []))
+
+  -- ---- comparing
+  pub data CompareRow : Told (List ℕ) → Type 0 where
+    compare-19 : (GoodShapes ar ws st → ⊥) → CompareRow (told (refusal 19 0) marks)
+    compare-31 : GoodShapes ar ws st → (Good ar score spans → ⊥) → CompareRow (told (refusal 31 0) marks)
+    compare-30 : GoodShapes ar ws st → Good ar score spans → length marks < length score → CompareRow (told (refusal 30 0) marks)
+    compares : GoodShapes ar ws st → Good ar score spans → length score ≤ length marks → (ms : List ℕ)
+        → Exact (shapeTerms ar ws) (scoreTerm ar score) ms → CompareRow (told (gives (total ms ∷ [])) (onto ms marks))
 
 -- ---- stepping
 -- "The record answered counts items waiting and logged nodes"; "Keep the count in the walk's record" (document 02, wish 5)
@@ -200,6 +214,8 @@ pub record Demand1 : Type 0 where
       → By (CountRow ar score spans marks) (countedSays (matchesOf ar score spans marks))
   pub clashes : (ar ws st score spans marks : List ℕ) → Below 65536 score
       → By (ClashRow ar ws st score spans marks) (countedSays (clashesOf ar ws st score spans marks))
+  pub comparing : (ar ws st score spans marks : List ℕ) → Below 65536 score
+      → By (CompareRow ar ws st score spans marks) (compareTold (compared ar ws st score spans marks))
   pub subtree : (w : Asked) (ar shapes score : List ℕ) → Below 65536 score
       → By (FoundRow (Standing ar shapes score w) flatten) (partSays (subtreeAt w ar shapes score))
   pub label : (plan : List ℕ) (m k s : ℕ) → By (FoundRow (LabelFound plan m k s) (λ c. c ∷ [])) (labelSays (labelOf plan m k s))

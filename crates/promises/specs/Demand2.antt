@@ -28,7 +28,8 @@ use Rattle.automaton.specs.PlanWords.{plan-of}
 use Rattle.plan.specs.Building.{planOf}
 use Rattle.counting.specs.Counting.{matchAt}
 use Rattle.report.specs.Text.{line, matchLine}
-use Rattle.promises.specs.OneFile.{OneFile, symbolsIn, wordsIn, nodesIn, spansIn, shapesIn, scoreIn, planIn, after, reported}
+use Rattle.report.specs.declared.States.the-variants.{Of}
+use Rattle.promises.specs.OneFile.{OpenFile, OneFile, symbolsIn, wordsIn, nodesIn, spansIn, shapesIn, scoreIn, planIn, after, reported}
 use Rattle.promises.specs.Construction.{PaperSays}
 use Rattle.promises.specs.Reported.{reportIn}
 
@@ -36,23 +37,23 @@ use Rattle.promises.specs.Reported.{reportIn}
 abbrev pub Says : (Term → Pos → Bool) → Term → Type 0
 Says test t = (ℓ : Term) (p : Pos) → (test ℓ p ≡ true) ↔ Matches ℓ t p
 
-pub record Demand2 {file : List ℕ} (S : OneFile file) : Type 0 where
-  pub is-folio : Folio (symbolsIn S) (shapesIn S) (scoreIn S)
-  pub shape-words : wordsIn S ≡ gather flatten (shapesIn S)
-  pub score-words : nodesIn S ≡ flatten (scoreIn S)
-  pub score-spans : spansIn S ≡ sizes (scoreIn S)
-  pub score-depth : S .counts .depth ≡ depth (scoreIn S)
-  pub shapes-depth : S .counts .deepest ≡ greatest (map depth (shapesIn S))
-  pub plan : planOf (symbolsIn S) (shapesIn S) (length (S .plan)) ≡ plan-of (S .size .states) (planIn S)
-  pub construction : PaperSays (symbolsIn S) (shapesIn S)
-  pub exactly : (choices : List ℕ) → after S choices .count .waiting ≡ 0 → (j : ℕ) (ℓ : Term) → getElem? (shapesIn S) j ≡ some ℓ → (n : ℕ) (p : Pos)
-      → number (scoreIn S) p ≡ some n
-      → (bit (getD (after S choices .marks) n 0) j ≡ 1) ↔ Matches ℓ (scoreIn S) p
-  pub no-other : (choices : List ℕ) (j n : ℕ) → n < span (scoreIn S) → bit (getD (after S choices .marks) n 0) j ≡ 1 → (ℓ : Term)
-      × (getElem? (shapesIn S) j ≡ some ℓ)
-  pub path : (n j : ℕ) → n < span (scoreIn S)
-      → (p : Pos) × (number (scoreIn S) p ≡ some n) × (line (spansIn S) (matchAt n j) ≡ some (matchLine (matchAt n j) p))
-  pub order : (p : Pos) (n : ℕ) → number (scoreIn S) p ≡ some n → getElem? (dom (scoreIn S)) n ≡ some p
-  pub text : (test : Term → Pos → Bool) → Says test (scoreIn S) → (choices : List ℕ) → after S choices .count .waiting ≡ 0
-      → reported S choices ≡ reportIn test (shapesIn S) (scoreIn S) (S .size .states)
-  pub tested : (test : Term → Pos → Bool) × Says test (scoreIn S)
+pub record Demand2 {file : List ℕ} {O : OpenFile file} (S : OneFile O) : Type 0 where
+  pub is-folio : Folio (symbolsIn O) (shapesIn O) (scoreIn O)
+  pub shape-words : wordsIn O ≡ gather flatten (shapesIn O)
+  pub score-words : nodesIn O ≡ flatten (scoreIn O)
+  pub score-spans : spansIn O ≡ sizes (scoreIn O)
+  pub score-depth : O .counts .depth ≡ depth (scoreIn O)
+  pub shapes-depth : O .counts .deepest ≡ greatest (map depth (shapesIn O))
+  pub plan : planOf (symbolsIn O) (shapesIn O) (length (S .plan)) ≡ plan-of (S .size .states) (planIn S)
+  pub construction : PaperSays (symbolsIn O) (shapesIn O)
+  pub exactly : (choices : List ℕ) → after S choices .count .waiting ≡ 0 → (j : ℕ) (ℓ : Term) → getElem? (shapesIn O) j ≡ some ℓ → (n : ℕ) (p : Pos)
+      → number (scoreIn O) p ≡ some n
+      → (bit (getD (after S choices .marks) n 0) j ≡ 1) ↔ Matches ℓ (scoreIn O) p
+  pub no-other : (choices : List ℕ) (j n : ℕ) → n < span (scoreIn O) → bit (getD (after S choices .marks) n 0) j ≡ 1 → (ℓ : Term)
+      × (getElem? (shapesIn O) j ≡ some ℓ)
+  pub path : (n j : ℕ) → n < span (scoreIn O)
+      → (p : Pos) × (number (scoreIn O) p ≡ some n) × (line (spansIn O) (matchAt n j) ≡ some (matchLine (matchAt n j) p))
+  pub order : (p : Pos) (n : ℕ) → number (scoreIn O) p ≡ some n → getElem? (dom (scoreIn O)) n ≡ some p
+  pub text : (test : Term → Pos → Bool) → Says test (scoreIn O) → (choices : List ℕ) → after S choices .count .waiting ≡ 0
+      → reported S choices ≡ reportIn test (shapesIn O) (scoreIn O) (Of (S .size .states))
+  pub tested : (test : Term → Pos → Bool) × Says test (scoreIn O)

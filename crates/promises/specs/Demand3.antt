@@ -29,9 +29,9 @@ use Rattle.listing.specs.Listing.{listedSays}
 use Rattle.counting.specs.Counting.{total}
 use Rattle.promises.specs.Told.{told}
 use Rattle.promises.specs.Demand1.{walkTold, listTold, recorded}
-use Rattle.promises.specs.OneFile.{OneFile, scoreIn, bufferIn, planIn, after, stepAfter, acceptedIn, afterLists, listAfter, singlyIn, acceptedByLists, reported}
+use Rattle.promises.specs.OneFile.{OpenFile, OneFile, scoreIn, bufferIn, planIn, after, stepAfter, acceptedIn, afterLists, listAfter, singlyIn, acceptedByLists, reported}
 
-pub record Demand3 {file : List ℕ} (S : OneFile file) : Type 0 where
+pub record Demand3 {file : List ℕ} {O : OpenFile file} (S : OneFile O) : Type 0 where
   pub in-buffer : planIn S ++ drop (S .size .words) (bufferIn S) ≡ bufferIn S
   pub never-34 : (choices : List ℕ) (i : ℕ) → walkedSays (stepAfter S choices i .answer) .number ≡ 34 → ⊥
   pub refused : (choices : List ℕ) (i : ℕ) → after S choices .count .waiting ≤ i
@@ -40,20 +40,20 @@ pub record Demand3 {file : List ℕ} (S : OneFile file) : Type 0 where
       → (walkedSays (stepAfter S choices i .answer) ≡ gives (recorded (stepAfter S choices i .walk)))
       × (stepAfter S choices i .walk .count .logged ≡ suc (after S choices .count .logged))
   pub steps : (choices : List ℕ)
-      → (acceptedIn S choices ≡ after S choices .count .logged) × (acceptedIn S choices ≤ span (scoreIn S))
-      × ((after S choices .count .waiting ≡ 0) ↔ (acceptedIn S choices ≡ span (scoreIn S)))
-  pub log-nodes : (choices : List ℕ) (i : ℕ) → i < after S choices .count .logged → getD (after S choices .log) i 0 < span (scoreIn S)
+      → (acceptedIn S choices ≡ after S choices .count .logged) × (acceptedIn S choices ≤ span (scoreIn O))
+      × ((after S choices .count .waiting ≡ 0) ↔ (acceptedIn S choices ≡ span (scoreIn O)))
+  pub log-nodes : (choices : List ℕ) (i : ℕ) → i < after S choices .count .logged → getD (after S choices .log) i 0 < span (scoreIn O)
   pub log-once : (choices : List ℕ) (i k : ℕ) → i < after S choices .count .logged → k < after S choices .count .logged
       → getD (after S choices .log) i 0 ≡ getD (after S choices .log) k 0 → i ≡ k
-  pub log-all : (choices : List ℕ) → after S choices .count .waiting ≡ 0 → (n : ℕ) → n < span (scoreIn S) → (i : ℕ)
+  pub log-all : (choices : List ℕ) → after S choices .count .waiting ≡ 0 → (n : ℕ) → n < span (scoreIn O) → (i : ℕ)
       × (i < after S choices .count .logged) × (getD (after S choices .log) i 0 ≡ n)
-  pub waits : (choices : List ℕ) → after S choices .count .waiting + after S choices .count .logged ≤ span (scoreIn S)
-  pub number : (choices : List ℕ) → after S choices .count .matches ≡ total (take (span (scoreIn S)) (after S choices .marks))
-  pub same-marks : (T : OneFile file) (choices choices′ : List ℕ) → after S choices .count .waiting ≡ 0 → after T choices′ .count .waiting ≡ 0
-      → take (span (scoreIn S)) (after S choices .marks) ≡ take (span (scoreIn S)) (after T choices′ .marks)
-  pub same-number : (T : OneFile file) (choices choices′ : List ℕ) → after S choices .count .waiting ≡ 0 → after T choices′ .count .waiting ≡ 0
+  pub waits : (choices : List ℕ) → after S choices .count .waiting + after S choices .count .logged ≤ span (scoreIn O)
+  pub number : (choices : List ℕ) → after S choices .count .matches ≡ total (take (span (scoreIn O)) (after S choices .marks))
+  pub same-marks : {P : OpenFile file} (T : OneFile P) (choices choices′ : List ℕ) → after S choices .count .waiting ≡ 0 → after T choices′ .count .waiting ≡ 0
+      → take (span (scoreIn O)) (after S choices .marks) ≡ take (span (scoreIn O)) (after T choices′ .marks)
+  pub same-number : {P : OpenFile file} (T : OneFile P) (choices choices′ : List ℕ) → after S choices .count .waiting ≡ 0 → after T choices′ .count .waiting ≡ 0
       → after S choices .count .matches ≡ after T choices′ .count .matches
-  pub same-text : (T : OneFile file) (choices choices′ : List ℕ) → after S choices .count .waiting ≡ 0 → after T choices′ .count .waiting ≡ 0
+  pub same-text : {P : OpenFile file} (T : OneFile P) (choices choices′ : List ℕ) → after S choices .count .waiting ≡ 0 → after T choices′ .count .waiting ≡ 0
       → reported S choices ≡ reported T choices′
   pub lists : (ls : List (List ℕ)) → afterLists S ls ≡ after S (singlyIn S ls)
   pub lists-accepted : (ls : List (List ℕ))

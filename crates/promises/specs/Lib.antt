@@ -4,6 +4,7 @@ pub mod Told
 pub mod Refusals
 pub mod Found
 pub mod StepFound
+pub mod Exact
 pub mod Demand1
 pub mod Reported
 pub mod Sample
@@ -11,4 +12,5 @@ pub mod OneFile
 pub mod Demand2
 pub mod Demand3
 pub mod RunningNumber
+pub mod TwoEngines
 pub mod Construction

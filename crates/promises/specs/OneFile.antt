@@ -1,7 +1,8 @@
 -- The setting of demands 2 and 3: one file that opens, whose build is accepted, and a walk over it that is started; the buffers lent are any.
+--   OpenFile        a file that opens, and the buffers lent to opening
 --   symbolsIn …     what opening wrote, each by the count answered
---   OneFile         the three calls, each with what the one before it wrote; and the words that a step is lent behind the plan, which are any
 --   shapesIn scoreIn   the terms that opening read
+--   OneFile         the two calls behind it, each with what the one before it wrote; and the words that a step is lent behind the plan, which are any
 --   bufferIn planIn begunIn  the buffer as building left it, the plan in it; the walk that starting began
 --   lentIn          the plan words lent to a step: the plan, and what is lent behind it. None behind it is the plan alone; the rest of its buffer behind it
 --                   is the whole buffer (`Demand3.in-buffer`)
@@ -29,56 +30,31 @@ use Rattle.walk.specs.declared.Record.{Record}
 use Rattle.listing.specs.Listing.{ListOutcome, listed, runLists, singly, acceptedBy}
 use Rattle.walk.specs.declared.Walked.the-variants as walking
 use Rattle.report.specs.Text.{report}
+use Rattle.report.specs.declared.States.the-variants as states
 use Rattle.kinds.specs.Members.{Below}
 use Rattle.promises.specs.Reported.{totalsOf}
 
-module _ (file : List ℕ) (tables : Lent) (counts : Counts) where
-  abbrev pub openedSymbols : List ℕ
-  openedSymbols = take (counts .symbols) file
-
-  abbrev pub openedWords : List ℕ
-  openedWords = take (counts .words) (opened file tables .tables .words)
-
-  abbrev pub openedStarts : List ℕ
-  openedStarts = take (counts .shapes) (opened file tables .tables .starts)
-
-  abbrev pub openedNodes : List ℕ
-  openedNodes = take (counts .nodes) (opened file tables .tables .score)
-
-  abbrev pub openedSpans : List ℕ
-  openedSpans = take (counts .nodes) (opened file tables .tables .spans)
-
-pub record OneFile (file : List ℕ) : Type 0 where
+pub record OpenFile (file : List ℕ) : Type 0 where
   pub bytes : Below 256 file
   pub tables : Lent
   pub counts : Counts
   pub opens : opened file tables .answer ≡ opening.Folio counts
-  pub plan : List ℕ
-  pub scratch : List ℕ
-  pub size : Size
-  pub builds : buildOf (openedSymbols file tables counts) (openedWords file tables counts) (openedStarts file tables counts) plan
-      scratch .answer ≡ building.Plan size
-  pub behind : List ℕ
-  pub walk : Walk
-  pub first : Record
-  pub starts : started (openedSymbols file tables counts) (openedNodes file tables counts) (openedSpans file tables counts) walk .answer ≡ walking.On
-      first
 
-module _ {file : List ℕ} (S : OneFile file) where
+module _ {file : List ℕ} (O : OpenFile file) where
   abbrev pub symbolsIn : List ℕ
-  symbolsIn = openedSymbols file (S .tables) (S .counts)
+  symbolsIn = take (O .counts .symbols) file
 
   abbrev pub wordsIn : List ℕ
-  wordsIn = openedWords file (S .tables) (S .counts)
+  wordsIn = take (O .counts .words) (opened file (O .tables) .tables .words)
 
   abbrev pub startsIn : List ℕ
-  startsIn = openedStarts file (S .tables) (S .counts)
+  startsIn = take (O .counts .shapes) (opened file (O .tables) .tables .starts)
 
   abbrev pub nodesIn : List ℕ
-  nodesIn = openedNodes file (S .tables) (S .counts)
+  nodesIn = take (O .counts .nodes) (opened file (O .tables) .tables .score)
 
   abbrev pub spansIn : List ℕ
-  spansIn = openedSpans file (S .tables) (S .counts)
+  spansIn = take (O .counts .nodes) (opened file (O .tables) .tables .spans)
 
   abbrev pub shapesIn : List Term
   shapesIn = shapeTerms symbolsIn wordsIn
@@ -86,8 +62,19 @@ module _ {file : List ℕ} (S : OneFile file) where
   abbrev pub scoreIn : Term
   scoreIn = scoreTerm symbolsIn nodesIn
 
+pub record OneFile {file : List ℕ} (O : OpenFile file) : Type 0 where
+  pub plan : List ℕ
+  pub scratch : List ℕ
+  pub size : Size
+  pub builds : buildOf (symbolsIn O) (wordsIn O) (startsIn O) plan scratch .answer ≡ building.Plan size
+  pub behind : List ℕ
+  pub walk : Walk
+  pub first : Record
+  pub starts : started (symbolsIn O) (nodesIn O) (spansIn O) walk .answer ≡ walking.On first
+
+module _ {file : List ℕ} {O : OpenFile file} (S : OneFile O) where
   abbrev pub bufferIn : List ℕ
-  bufferIn = buildOf symbolsIn wordsIn startsIn (S .plan) (S .scratch) .plan
+  bufferIn = buildOf (symbolsIn O) (wordsIn O) (startsIn O) (S .plan) (S .scratch) .plan
 
   abbrev pub planIn : List ℕ
   planIn = take (S .size .words) bufferIn
@@ -96,31 +83,31 @@ module _ {file : List ℕ} (S : OneFile file) where
   lentIn = planIn ++ S .behind
 
   abbrev pub begunIn : Walk
-  begunIn = started symbolsIn nodesIn spansIn (S .walk) .walk
+  begunIn = started (symbolsIn O) (nodesIn O) (spansIn O) (S .walk) .walk
 
   abbrev pub after : List ℕ → Walk
-  after choices = run lentIn nodesIn spansIn choices begunIn
+  after choices = run lentIn (nodesIn O) (spansIn O) choices begunIn
 
   abbrev pub stepAfter : List ℕ → ℕ → WalkOutcome
-  stepAfter choices i = stepped lentIn nodesIn spansIn i (after choices)
+  stepAfter choices i = stepped lentIn (nodesIn O) (spansIn O) i (after choices)
 
   abbrev pub acceptedIn : List ℕ → ℕ
-  acceptedIn choices = accepted lentIn nodesIn spansIn choices begunIn
+  acceptedIn choices = accepted lentIn (nodesIn O) (spansIn O) choices begunIn
 
   abbrev pub afterLists : List (List ℕ) → Walk
-  afterLists lists = runLists lentIn nodesIn spansIn lists begunIn
+  afterLists lists = runLists lentIn (nodesIn O) (spansIn O) lists begunIn
 
   abbrev pub listAfter : List (List ℕ) → List ℕ → ListOutcome
-  listAfter lists choices = listed lentIn nodesIn spansIn choices (afterLists lists)
+  listAfter lists choices = listed lentIn (nodesIn O) (spansIn O) choices (afterLists lists)
 
   abbrev pub singlyIn : List (List ℕ) → List ℕ
-  singlyIn lists = singly lentIn nodesIn spansIn lists begunIn
+  singlyIn lists = singly lentIn (nodesIn O) (spansIn O) lists begunIn
 
   abbrev pub acceptedByLists : List (List ℕ) → ℕ
-  acceptedByLists lists = acceptedBy lentIn nodesIn spansIn lists begunIn
+  acceptedByLists lists = acceptedBy lentIn (nodesIn O) (spansIn O) lists begunIn
 
   abbrev pub reported : List ℕ → List ℕ
   reported choices =
       let w : Walk = after choices in
-      report (totalsOf wordsIn startsIn spansIn (S .counts .depth) (S .size .states) (w .count .matches) (take (length spansIn) (w .marks))) spansIn
+      report (totalsOf (wordsIn O) (startsIn O) (spansIn O) (O .counts .depth) (states.Of (S .size .states)) (w .count .matches) (take (length (spansIn O)) (w .marks))) (spansIn O)
       (w .marks)

@@ -19,6 +19,7 @@ use Rattle.term.specs.Places.{dom}
 use Rattle.counting.specs.Counting.{Match, matchAt, foundIn}
 use Rattle.clashing.specs.Clashes.{clashNumber, nodesIn, nodesOf}
 use Rattle.report.specs.declared.Totals.{Totals}
+use Rattle.report.specs.declared.States.{States}
 use Rattle.report.specs.Text.{matchLine, firstLine}
 
 pub record MatchIn : Type 0 where
@@ -36,7 +37,7 @@ module _ (test : Term → Pos → Bool) (shapes : List Term) where
   abbrev pub matchesIn : Term → List MatchIn
   matchesIn t = concat (mapAt matchesAt 0 (dom t))
 
-abbrev pub totalsIn : List MatchIn → List Term → Term → ℕ → Totals
+abbrev pub totalsIn : List MatchIn → List Term → Term → States → Totals
 totalsIn ms shapes t states = record {
   nodes = span t;
   states = states;
@@ -45,13 +46,13 @@ totalsIn ms shapes t states = record {
   depth = depth t;
 }
 
-abbrev pub reportIn : (Term → Pos → Bool) → List Term → Term → ℕ → List ℕ
+abbrev pub reportIn : (Term → Pos → Bool) → List Term → Term → States → List ℕ
 reportIn test shapes t states =
     let ms = matchesIn test shapes t in
     firstLine (totalsIn ms shapes t states) ++ gather (λ m. matchLine (m .match) (m .place)) ms
 
 -- d is the score's depth, ms are the marks of the nodes
-abbrev pub totalsOf : List ℕ → List ℕ → List ℕ → ℕ → ℕ → ℕ → List ℕ → Totals
+abbrev pub totalsOf : List ℕ → List ℕ → List ℕ → ℕ → States → ℕ → List ℕ → Totals
 totalsOf words starts spans d states number ms = record {
   nodes = length spans;
   states = states;

@@ -1,5 +1,5 @@
--- The sample folio: P1 to P10 of document 01, the whole plan and the whole report, the plan's readers and a list of choices on it, as one table of the
--- definitions with one claim.
+-- The sample folio: P1 to P10 of document 01, the whole plan and the whole report, the plan's readers, a list of choices and the simple finder on it, as
+-- one table of the definitions with one claim.
 --   file      the 49 bytes
 --   table     what the definitions give: from the file its opening, from that the building, from that the plan, from that the walks and the report
 --   claimed   what documents 01 and 02 say
@@ -22,7 +22,9 @@ use Rattle.walk.specs.Stepping.{stepped, runBy}
 use Rattle.listing.specs.Listing.{ListOutcome, listed, listedSays}
 use Rattle.counting.specs.Counting.{matchesOf, countedSays}
 use Rattle.clashing.specs.Clashing.{clashesOf}
+use Rattle.comparing.specs.Comparing.{CompareOutcome, compared}
 use Rattle.report.specs.Quoted.{bytes}
+use Rattle.report.specs.declared.States.the-variants.{Of, NoPlan}
 use Rattle.report.specs.Lines.{lineOut, writtenSays}
 use Rattle.report.specs.Text.{report}
 use Rattle.promises.specs.Computing.{computing}
@@ -62,9 +64,15 @@ plan = 3 ∷ 3 ∷ 2 ∷ 56 ∷ 0 ∷ 1 ∷ 2 ∷ 16 ∷ 18 ∷ 24 ∷ 28 ∷ 30
 abbrev pub marks : List ℕ
 marks = 3 ∷ 1 ∷ 0 ∷ 0 ∷ 0 ∷ 0 ∷ 1 ∷ 0 ∷ 0 ∷ 0 ∷ []
 
--- what find prints
+-- what find prints, and simple
+abbrev matchLines : List ℕ
+matchLines = bytes "0 0 -\n0 1 -\n1 0 1\n6 0 2.1\n"
+
 abbrev pub text : List ℕ
-text = bytes "nodes 10 states 3 matches 4 clashes 3 depth 4\n0 0 -\n0 1 -\n1 0 1\n6 0 2.1\n"
+text = bytes "nodes 10 states 3 matches 4 clashes 3 depth 4\n" ++ matchLines
+
+abbrev simpleText : List ℕ
+simpleText = bytes "nodes 10 states - matches 4 clashes 3 depth 4\n" ++ matchLines
 
 abbrev pub nines : ℕ → List ℕ
 nines n = replicate n 9
@@ -96,6 +104,10 @@ partly = listed plan score spans (0 ∷ 0 ∷ 0 ∷ 0 ∷ 0 ∷ 0 ∷ 4 ∷ 0 �
 pub nothing : ListOutcome
 nothing = listed plan score spans [] (begun score spans)
 
+-- the simple finder, lent a mark more than there are nodes
+pub simple : CompareOutcome
+simple = compared symbols shapeWords starts score spans (nines 11)
+
 -- an answer's number and its values
 abbrev row : Says → List ℕ
 row s = s .number ∷ s .values
@@ -117,7 +129,8 @@ table =
     ∷ row (childSays (childOf (position 2) 1)) ∷ row (reachedSays (reached (target 10 spans 0 11))) ∷ row
     (writtenSays (lineOut spans 6 0 (nines 1399) .answer))
     ∷ row (writtenSays (lineOut spans 10 0 (nines 1400) .answer))
-    ∷ report (totalsOf shapeWords starts spans 4 3 4 marks) spans marks ∷ []
+    ∷ report (totalsOf shapeWords starts spans 4 (Of 3) 4 marks) spans marks
+    ∷ row (countedSays (simple .answer)) ∷ simple .marks ∷ report (totalsOf shapeWords starts spans 4 NoPlan 4 marks) spans marks ∷ []
 
 abbrev pub claimed : List (List ℕ)
 claimed =
@@ -134,8 +147,9 @@ claimed =
     ∷ (0 ∷ 4 ∷ []) ∷ (0 ∷ 3 ∷ [])
     ∷ (0 ∷ 1 ∷ []) ∷ (0 ∷ 1 ∷ 2 ∷ []) ∷ (0 ∷ 1 ∷ 0 ∷ []) ∷ (0 ∷ 0 ∷ 11 ∷ []) ∷ (34 ∷ 0 ∷ [])
     ∷ (0 ∷ 11 ∷ []) ∷ (0 ∷ 6 ∷ []) ∷ (30 ∷ 0 ∷ []) ∷ (34 ∷ 0 ∷ [])
-    ∷ text ∷ []
+    ∷ text
+    ∷ (0 ∷ 4 ∷ []) ∷ (marks ++ (9 ∷ [])) ∷ simpleText ∷ []
 
 pub sample : table ≡ claimed
-unfolding table opening building firsts lasts alone partly nothing computing
+unfolding table opening building firsts lasts alone partly nothing simple computing
 sample = refl
