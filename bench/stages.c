@@ -17,6 +17,8 @@ size_t stage_step(const uint16_t *, size_t, const uint16_t *, size_t, const uint
                   uint16_t *, size_t, size_t, size_t, size_t, size_t);
 size_t stage_list(const uint16_t *, size_t, const uint16_t *, size_t, const uint16_t *, size_t, uint16_t *, size_t, uint16_t *, size_t,
                   uint16_t *, size_t, const uint16_t *, size_t);
+size_t stage_compare(const uint8_t *, size_t, const uint16_t *, size_t, const uint16_t *, size_t, const uint16_t *, size_t, const uint16_t *, size_t,
+                     uint16_t *, size_t);
 size_t stage_matches(const uint8_t *, size_t, const uint16_t *, size_t, const uint16_t *, size_t, const uint16_t *, size_t);
 size_t stage_count(const uint8_t *, size_t, const uint16_t *, size_t, const uint16_t *, size_t, const uint16_t *, size_t, const uint16_t *, size_t,
                    const uint16_t *, size_t);
@@ -84,6 +86,12 @@ static size_t walk_list(void) {
                       WORDS(choices, nodes));
 }
 
+static size_t compare_score(void) {
+    size_t answer =
+        stage_compare(BYTES(file, symbols), WORDS(words, shape_words), WORDS(starts, shapes), WORDS(score, nodes), WORDS(spans, nodes), WORDS(marks, 4096));
+    return answer == 0 ? 0 : nodes;
+}
+
 static size_t count_marks(void) {
     return stage_count(BYTES(file, symbols), WORDS(words, shape_words), WORDS(starts, shapes), WORDS(score, nodes), WORDS(spans, nodes), WORDS(marks, 4096));
 }
@@ -115,6 +123,16 @@ static size_t row_of(int rounds, const char *name, size_t (*stage)(void), const 
 }
 
 static size_t row(const char *name, size_t (*stage)(void), const char *what) { return row_of(ROUNDS, name, stage, what); }
+
+// The two engines on the first shapes of the folio.
+static void rows_for(size_t first) {
+    if (first < shapes) shape_words = starts[first];
+    shapes = first;
+    plan_words = build_plan();
+    printf("of the first %zu shapes:\n", first);
+    if (plan_words > 0) row("walk", walk_score, "steps");
+    row("simple", compare_score, "nodes");
+}
 
 // How many bytes of a stack of its own a call touches.
 static size_t touched(void (*call)(void)) {
@@ -153,5 +171,8 @@ int main(void) {
     row("screen", screen_stored, "matches, the number stored after every step");
     row_of(FEW_ROUNDS, "recount", screen_counted, "matches, the number counted after every step");
     printf("build's stack: %zu bytes\n", touched(build_alone) - touched(nothing));
+    static const size_t firsts[] = {16, 3, 1};
+    for (int i = 0; i < 3; i++)
+        if (firsts[i] <= shapes) rows_for(firsts[i]);
     return 0;
 }
