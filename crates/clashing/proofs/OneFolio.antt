@@ -1,24 +1,21 @@
 -- Over one folio's tables: words say of matches and of the nodes that they touch what the terms say.
---   shape-words               the words of shape j
 --   match-of matched-is is-matched clashes-same   a match by the tables is one by the terms; the clash number is the same by both
 --   SaysOf says-of            the three together, for tables that are those of terms
-use Prim.Native.Nat.{ℕ, zero, suc, _+_, _-_, _<_}
-use mathlib.Core.Path.{_≡_, refl, ap, ap₂, sym, _∙_}
-use mathlib.Core.List.{List, [], _∷_, _++_, append-assoc}
-use mathlib.Core.Bool.{Bool, true, cond, _&&_}
+use Prim.Native.Nat.{ℕ, _<_}
+use mathlib.Core.Path.{_≡_, refl, ap}
+use mathlib.Core.List.{List, [], _++_}
+use mathlib.Core.Bool.{true, _&&_}
 use mathlib.Core.Option.{some}
 use mathlib.Core.Logic.{⊎-elim}
 use native.Mathlib.Omega.{arith}
 use lib.Dec.{ltb}
-use lib.ListN.{length, getD, getElem?, length-append}
-use lib.Seq.{drop-at, take-at}
+use lib.ListN.{length, getElem?}
 use Rattle.kinds.specs.Lists.{gather}
 use Rattle.kinds.specs.Members.{_∈_}
 use Rattle.kinds.specs.Positions.{Pos}
-use Rattle.kinds.proofs.Bools.{and-l, and-r, both, is-ltb, ltb-is, ltb-suc}
+use Rattle.kinds.proofs.Bools.{and-l, and-r, both, is-ltb, ltb-is}
 use Rattle.kinds.proofs.ListLaws.{any-same, filter-same}
 use Rattle.kinds.proofs.Members.{∈-left, ∈-append, in-none}
-use Rattle.kinds.proofs.Options.{none-not}
 use Rattle.kinds.proofs.Places.{at-in, at-below, at-some}
 use Rattle.term.specs.Terms.{Term, span, flatten, sizes, Fits}
 use Rattle.term.specs.Places.{number, Matches}
@@ -28,43 +25,14 @@ use Rattle.term.specs.Admitted.{AreShapes, IsScore}
 use Rattle.folio.specs.Folio.{startsAt}
 use Rattle.folio.proofs.ShapesFound.{length-starts}
 use Rattle.counting.specs.Counting.{Match}
-use Rattle.matching.specs.Shapes.{endOf, part, shapeAt}
+use Rattle.matching.specs.Shapes.{shapeAt}
 use Rattle.matching.specs.Touching.{touchedAt}
-use Rattle.matching.proofs.LawsShapes.{part-is, words-are}
+use Rattle.matching.proofs.ShapeWords.{shape-words}
 use Rattle.matching.proofs.FallsTree.{falls-matches, matches-falls}
 use Rattle.matching.proofs.TouchesTree.{touched-in, in-touched}
 use Rattle.clashing.specs.Clashes.{other, clash, clashing, clashNumber, nodesIn, nodesOf}
 use Rattle.clashing.specs.Strays.{IsMatch, matched}
 use Rattle.clashing.proofs.ClashLaws.{same-share}
-
--- ---- the words of a shape
-first-end : (pre : List ℕ) (s : Term) (ss : List Term) (at : ℕ) → length pre ≡ at
-    → endOf (pre ++ (flatten s ++ gather flatten ss)) (startsAt at (s ∷ ss)) 0 ≡ at + span s
-unfolding endOf
-first-end pre s [] at e = let l = length-flatten s in simp length-append (omega arith)
-first-end pre s (u ∷ ss) at e = rw (is-ltb 1 (suc (suc (length (startsAt (at + span s + span u) ss)))) (omega arith))
-
-first-part : (pre w r : List ℕ) (at n : ℕ) → length pre ≡ at → length w ≡ n → part (pre ++ (w ++ r)) at (at + n) ≡ w
-first-part pre w r at n e d =
-    let a : length (pre ++ (w ++ r)) ≡ length pre + (length w + length r) = rw (length-append, length-append) in
-    let z : at + n - at ≡ n = omega arith in
-    part-is (pre ++ (w ++ r)) at (at + n) (omega arith) (omega arith) ∙ rw (z, drop-at pre (w ++ r) at e) (take-at w r n d)
-
-shape-part : (ss : List Term) (j : ℕ) (ℓ : Term) (at : ℕ) (pre : List ℕ) → length pre ≡ at → getElem? ss j ≡ some ℓ
-    → part (pre ++ gather flatten ss) (getD (startsAt at ss) j 0) (endOf (pre ++ gather flatten ss) (startsAt at ss) j) ≡ flatten ℓ
-unfolding endOf
-shape-part [] j ℓ at pre e h = none-not h
-shape-part (s ∷ ss) zero ℓ at pre e h =
-    let z : s ≡ ℓ = cc in
-    rw (first-end pre s ss at e, ← z) (first-part pre (flatten s) (gather flatten ss) at (span s) e (length-flatten s))
-shape-part (s ∷ ss) (suc j) ℓ at pre e h =
-    let l : length (pre ++ flatten s) ≡ at + span s = let k = length-flatten s in rw length-append (omega arith) in
-    ap₂ (λ (w : List ℕ) (b : Bool). part w (getD (startsAt (at + span s) ss) j 0) (cond b (getD (startsAt (at + span s) ss) (suc j) 0) (length w)))
-    (sym (append-assoc pre (flatten s) (gather flatten ss))) (ltb-suc (suc j) (length (startsAt (at + span s) ss)))
-    ∙ shape-part ss j ℓ (at + span s) (pre ++ flatten s) l h
-
-pub shape-words : (ss : List Term) (j : ℕ) (ℓ : Term) → getElem? ss j ≡ some ℓ → shapeAt (gather flatten ss) (startsAt 0 ss) j ≡ flatten ℓ
-shape-words ss j ℓ h = let b = at-below ss j h in words-are (gather flatten ss) (startsAt 0 ss) j (rw (length-starts 0 ss) b) ∙ shape-part ss j ℓ 0 [] refl h
 
 -- a shape and a node that exist are a match if the shape matches there
 pub match-of : (ss : List Term) (t : Term) (m : Match) → m .shape < length ss → m .node < span t

@@ -3,6 +3,7 @@ ghost use Prim.Native.Nat.{_≤_};
 ghost use lib.ListN.{length};
 ghost use lib.Seq.{sets};
 ghost use Rattle.counting.specs.Counting.{total};
+ghost use Rattle.matching.specs.Shapes.{Laid};
 ghost use Rattle.comparing.specs.Comparing.{marksTo, outOf, compared};
 use crate::nodes::mark_at;
 use checks::checking::shapes_good;
@@ -41,7 +42,7 @@ fn mark_all(
     n: usize,
     marks: &mut [u16],
 ) -> usize
-    requires { ⌜ (length (now starts) ≤ 16) × (n ≤ 4096) × (n ≤ length (now marks)) ⌝ }
+    requires { ⌜ (length (now starts) ≤ 16) × Laid (now words) (now starts) × (n ≤ 4096) × (n ≤ length (now marks)) ⌝ }
     ensures count { λ r. ⌜ r ≡ total (marksTo (now (words .entry)) (now (starts .entry)) (now (score .entry)) (now (spans .entry)) n) ⌝ }
     ensures buffer { λ r. ⌜ now (marks .exit) ≡ sets (now (marks .entry)) 0 (marksTo (now (words .entry)) (now (starts .entry)) (now (score .entry)) (now (spans .entry)) n) ⌝ }
 {

@@ -1,4 +1,4 @@
-use Rattle.comparing.proofs.LawsComparing.{few-shapes, tells-bad, tells-refused, tells-number}
+use Rattle.comparing.proofs.LawsComparing.{good-shapes, tells-bad, tells-refused, tells-number}
 use Rattle.counting.proofs.CountLaws.{looked}
 use Rattle.kinds.proofs.Bools.{of-not, of-not-false}
 use mathlib.Core.Path.{sym, _∙_}
@@ -26,11 +26,9 @@ mark-all-requires : tie.Need-mark-all-requires
 mark-all-requires c κs =
     let at-shapes-good = c .before .before .before .before .before .before .before .shapes-good in
     let at-if1 = c .before .before .before .before .before .before .if1 in
-    let l = looked _ _ _ _ _ (sym (c .before .before .before .before .looked-at .ensures) ∙ c .before .before .n .given .1) in (
-      few-shapes _ _ _ (sym (at-shapes-good .ensures) ∙ of-not-false _ (at-if1 .left)),
-      omega (arith, l .nodes, l .few),
-      omega (arith, l .nodes, l .inside),
-    )
+    let l = looked _ _ _ _ _ (sym (c .before .before .before .before .looked-at .ensures) ∙ c .before .before .n .given .1) in
+    let g = good-shapes _ _ _ (sym (at-shapes-good .ensures) ∙ of-not-false _ (at-if1 .left)) in
+    (g .0, g .1, omega (arith, l .few), omega (arith, l .inside))
 
 same-length : tie.Need-same-length
 same-length c = search needs

@@ -20,10 +20,14 @@ loop-holds c =
     marks-begin _ (entry .args .n) (entry .args .marks .now)
 
 cast-node : tie.Need-cast-node Inv-loop μ-loop
-cast-node c = search needs
+cast-node c =
+    let entry = c .before .before .before .before .before .before .before in
+    omega (arith, c .loop-test .taken, entry .pre .2)
 
 mark-at-requires : tie.Need-mark-at-requires Inv-loop μ-loop
-mark-at-requires c κs = search needs
+mark-at-requires c κs =
+    let entry = c .before .before .before .before .before .before .before in
+    (entry .pre .0, entry .pre .1)
 
 mul-marks : tie.Need-mul-marks Inv-loop μ-loop
 mul-marks c = search needs
@@ -31,7 +35,7 @@ mul-marks c = search needs
 slice-write-marks : tie.Need-slice-write-marks Inv-loop μ-loop
 slice-write-marks c =
     let entry = c .before .before .before .before .before .before .before .before in
-    omega (arith, c .before .before .loop .inv .long, c .before .loop-test .taken, entry .pre .2)
+    omega (arith, c .before .before .loop .inv .long, c .before .loop-test .taken, entry .pre .3)
 
 cast-sum : tie.Need-cast-sum Inv-loop μ-loop
 cast-sum c =
