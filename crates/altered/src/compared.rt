@@ -4,7 +4,7 @@ use bufferstone::compare;
 use bufferstone::limits::SCORE_NODES;
 use bufferstone::number;
 use running::showing::show;
-use running::showing::write;
+use running::showing::show_marks;
 use running::words::first_room;
 use running::words::first_words;
 
@@ -45,26 +45,6 @@ fn show_answer(answer: Counted, marks: &[u16]) -> usize {
             marks.len()
         }
     }
-}
-
-// The marks that are not 0, each with its node.
-fn show_marks(marks: &[u16]) {
-    let mut shown = false;
-    for i in 0..marks.len() {
-        shown = show_mark(i, marks[i], shown);
-    }
-}
-
-fn show_mark(node: usize, mark: u16, shown: bool) -> bool {
-    if mark == 0 {
-        return shown;
-    }
-    if shown {
-        write(b" ");
-    }
-    show(b"", node);
-    show(b":", mark as usize);
-    true
 }
 
 // The marks from n on that are not as before.

@@ -1,4 +1,4 @@
-use crate::leaving::show_marks;
+use crate::leaving::show_marked;
 use bufferstone::Record;
 use bufferstone::Walked;
 use bufferstone::number;
@@ -39,7 +39,7 @@ pub fn take_singly(
         );
         from = next_from(text, from, i, b' ');
     }
-    show_marks(marks);
+    show_marked(marks);
     write(b"\n");
     record
 }

@@ -1,5 +1,6 @@
 use crate::going::UNWRITTEN;
 use running::showing::show;
+use running::showing::show_marks;
 use running::showing::show_words;
 use running::showing::write;
 use running::words::first_words;
@@ -41,23 +42,8 @@ fn show_spaced(word: u16) {
     show(b" ", word as usize);
 }
 
-// The nodes that have a mark, each with its mark.
-pub fn show_marks(marks: &[u16]) {
+// The marks, in a field of their own.
+pub fn show_marked(marks: &[u16]) {
     write(b" | ");
-    let mut shown = false;
-    for i in 0..marks.len() {
-        shown = show_mark(i, marks[i], shown);
-    }
-}
-
-fn show_mark(node: usize, mark: u16, shown: bool) -> bool {
-    if mark == 0 {
-        return shown;
-    }
-    if shown {
-        write(b" ");
-    }
-    show(b"", node);
-    show(b":", mark as usize);
-    true
+    show_marks(marks);
 }

@@ -16,7 +16,7 @@ use bufferstone::number;
 use bufferstone::steps;
 use going::Going;
 use going::begin;
-use leaving::show_marks;
+use leaving::show_marked;
 use leaving::show_waiting;
 use libc::STDIN_FILENO;
 use running::showing::show;
@@ -194,7 +194,7 @@ fn take_choices(
     show_waiting(waiting, twice(record.waiting));
     write(b" | ");
     show_words(first_words(log, record.logged));
-    show_marks(marks);
+    show_marked(marks);
     show(b" | ", record.matches);
     write(b"\n");
     record

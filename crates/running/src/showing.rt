@@ -23,3 +23,23 @@ fn show_word(word: u16, spaced: bool) {
     }
     show(b"", word as usize);
 }
+
+// The nodes that have a mark, each with its mark, with spaces between.
+pub fn show_marks(marks: &[u16]) {
+    let mut shown = false;
+    for i in 0..marks.len() {
+        shown = show_mark(i, marks[i], shown);
+    }
+}
+
+fn show_mark(node: usize, mark: u16, shown: bool) -> bool {
+    if mark == 0 {
+        return shown;
+    }
+    if shown {
+        write(b" ");
+    }
+    show(b"", node);
+    show(b":", mark as usize);
+    true
+}

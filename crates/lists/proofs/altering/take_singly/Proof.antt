@@ -33,8 +33,8 @@ loop-less c = search needs
 loop-again : tie.Need-loop-again Inv-loop μ-loop
 loop-again c = search needs
 
-show-marks-requires : tie.Need-show-marks-requires Inv-loop μ-loop
-show-marks-requires c κs = search needs
+show-marked-requires : tie.Need-show-marked-requires Inv-loop μ-loop
+show-marked-requires c κs = search needs
 
 slice-aggregate-write : tie.Need-slice-aggregate-write Inv-loop μ-loop
 slice-aggregate-write c = search needs
@@ -67,7 +67,7 @@ take-singly-spec =
     add-i
     loop-less
     loop-again
-    show-marks-requires
+    show-marked-requires
     slice-aggregate-write
     write-requires
     same-length

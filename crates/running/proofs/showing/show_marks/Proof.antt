@@ -1,7 +1,7 @@
 use Prim.Native.Nat.{_-_}
 use borrow.Author.Needs.{needs}
-use Rattle.altered.proofs.compared.show_marks.Statement.{statement}
-use Rattle.altered.proofs.compared.show_marks.Tie as tie
+use Rattle.running.proofs.showing.show_marks.Statement.{statement}
+use Rattle.running.proofs.showing.show_marks.Tie as tie
 
 abbrev Inv-loop : tie.InvT-loop
 Inv-loop marks shown₀ i₀ i-end shown i = Unit {0}
