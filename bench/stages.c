@@ -129,7 +129,7 @@ static void rows_for(size_t first) {
     if (first < shapes) shape_words = starts[first];
     shapes = first;
     plan_words = build_plan();
-    printf("of the first %zu shapes:\n", first);
+    printf("its first shapes, %zu:\n", first);
     if (plan_words > 0) row("walk", walk_score, "steps");
     row("simple", compare_score, "nodes");
 }
