@@ -21,7 +21,7 @@ use Rattle.kinds.specs.Limits.{blankWord}
 use Rattle.kinds.specs.Lists.{gather, range, onto}
 use Rattle.kinds.specs.declared.Reason.{Reason}
 use Rattle.kinds.specs.declared.Reason.the-variants.{BadShapes}
-use Rattle.kinds.proofs.ListLaws.{onto-sets}
+use Rattle.kinds.proofs.ListLaws.{onto-sets, range-at}
 use Rattle.kinds.proofs.Members.{length-range}
 use Rattle.checks.specs.Again.{shapesGood}
 use Rattle.term.specs.Terms.{Term, flatten}
@@ -37,7 +37,7 @@ use Rattle.matching.specs.Falling.{falls}
 use Rattle.matching.proofs.LawsShapes.{end-last, end-next, part-is, words-are}
 use Rattle.matching.proofs.ShapeWords.{shapes-laid}
 use Rattle.comparing.specs.Comparing.{matchedAt, markAt, marksTo, marksOf, answerOf, outOf, compared}
-use Rattle.comparing.proofs.MarkLaws.{bits-fit, BitsFrom, bits-begin, bits-room, bits-down, bits-end, bit-of, mark-is}
+use Rattle.comparing.proofs.MarkLaws.{bits-fit, BitsFrom, bits-begin, bits-room, bits-down, bits-end, bit-of}
 
 trees-laid : (ss : List Term) {ws st : List ℕ} → ws ≡ gather flatten ss → st ≡ startsAt 0 ss → Laid ws st
 trees-laid ss a b = rw (a, b) (shapes-laid ss)
@@ -141,6 +141,6 @@ module _ (ws st score spans : List ℕ) where
       → found (marksOf ws st score spans) (matchAt x j) ≡ (ltb j (length st) && matchedAt ws st score spans x j)
   unfolding markAt
   found-is x j h =
-      ap (λ m. eqb (bit m j) 1) (mark-is (markAt ws st score spans) (length score) 0 x h ∙ ap (markAt ws st score spans) (zero-add x))
+      ap (λ m. eqb (bit m j) 1) (range-at (markAt ws st score spans) 0 (length score) 0 x h ∙ ap (markAt ws st score spans) (zero-add x))
       ∙ bit-of (matchedAt ws st score spans x) (length st) 0 j
       ∙ ap (λ i. ltb j (length st) && matchedAt ws st score spans x i) (zero-add j)

@@ -4,7 +4,6 @@
 --   bits-begin bits-half bits-room bits-down bits-end   none, how large it is, one more below them, all
 --   MarksFrom                         the marks that f tells are written and counted up to a node
 --   marks-begin marks-next marks-end  none, one more, all
---   mark-is                           the mark of one node
 use Prim.Native.Nat.{ℕ, zero, suc, _+_, _-_, _*_, _/_, _%_, _^_, _<_, _≤_}
 use mathlib.Core.Path.{_≡_, refl, ap, ap₂, sym, _∙_}
 use mathlib.Core.Bool.{Bool, true, false, cond, _&&_}
@@ -14,7 +13,7 @@ use native.Mathlib.Nat.{add-zero, div-one, pow-succ', sub-zero, zero-add}
 use borrow.Author.Tests.{lt-ltb, le-ltb}
 use lib.Count.{ones, ones-le}
 use lib.Dec.{eqb, ltb}
-use lib.ListN.{length, getD, set, length-map, length-set}
+use lib.ListN.{length, set, length-map, length-set}
 use lib.Pow.{pow-pos}
 use lib.Seq.{sets}
 use Rattle.kinds.specs.Bits.{bit}
@@ -140,8 +139,3 @@ module _ {f : ℕ → ℕ} {n : ℕ} {marks₀ marks : List ℕ} {sum x : ℕ} (
   marks-end h =
       let e = none-left x n h in
       (sym (add-zero sum) ∙ ap (λ l. sum + total (map f l)) (sym e) ∙ b .counted, ap (λ l. sets marks x (map f l)) (sym e) ∙ b .written)
-
-pub mark-is : (f : ℕ → ℕ) (n c x : ℕ) → x < n → getD (map f (range c n)) x 0 ≡ f (c + x)
-mark-is f zero c x h = absurd (omega arith)
-mark-is f (suc n) c zero h = ap f (sym (add-zero c))
-mark-is f (suc n) c (suc x) h = let e : suc c + x ≡ c + suc x = omega arith in mark-is f n (suc c) x (omega arith) ∙ ap f e

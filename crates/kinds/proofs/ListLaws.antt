@@ -9,7 +9,7 @@
 --   any-map any-same any-append, all-map all-same all-append
 --   gather-append gather-map gather-same map-gather, concat-append , insert-map sort-map
 --   insert-map-in sort-map-in nil-same            where the order is kept of the elements at hand; no element
---   , range-append range-next         with their places; numbers in a row
+--   , range-append range-next range-at   with their places; numbers in a row
 use Prim.Native.Nat.{ℕ, zero, suc, _+_, _-_, _<_, _≤_}
 use mathlib.Core.Path.{_≡_, refl, ap, ap₂, sym, _∙_}
 use mathlib.Core.List.{List, [], _∷_, _++_, map, append-assoc}
@@ -316,3 +316,8 @@ range-append c (suc m) n =
 
 pub range-next : (c n : ℕ) → range c (suc n) ≡ range c n ++ ((c + n) ∷ [])
 range-next c n = let e : suc n ≡ n + 1 = omega arith in ap (range c) e ∙ range-append c n 1
+
+pub range-at : {A : Type 0} (f : ℕ → A) (d : A) (n c i : ℕ) → i < n → getD (map f (range c n)) i d ≡ f (c + i)
+range-at f d zero c i h = absurd (omega arith)
+range-at f d (suc n) c zero h = ap f (sym (add-zero c))
+range-at f d (suc n) c (suc i) h = let e : suc c + i ≡ c + suc i = omega arith in range-at f d n (suc c) i (omega arith) ∙ ap f e

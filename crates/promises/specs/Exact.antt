@@ -1,4 +1,4 @@
--- Marks that hold exactly the matches: "Bit j of node n is set exactly if shape j matches there".
+-- Marks that hold exactly the matches: demand 2's "a shape is reported at a place exactly if it matches there", of marks alone, whatever made them.
 --   long      a mark for each node of the score
 --   exactly   of every node, and every number of a bit: it is set exactly if there is such a shape and it matches there
 use mathlib.Core.Path.{_≡_}

@@ -1,4 +1,4 @@
-// Each says on standard error which program's call failed just before, and why.
+// Each says on standard error which program's call failed last, and why.
 pub fn fail_output(by_plan: bool) {
     if by_plan {
         os::fail(b"find: standard output");

@@ -4,7 +4,7 @@ use bufferstone::Written;
 use bufferstone::limits::LINE_BYTES;
 use libc::STDOUT_FILENO;
 
-// How many bytes are held; `Lost` from the first write on that fails. No call is made then whose failure would hide why.
+// How many bytes are held; `Lost` from the first write on that fails. Nothing more is written then, so that at the end it can be said why.
 pub enum Held {
     Bytes(usize),
     Lost,

@@ -9,14 +9,14 @@ use mathlib.Core.List.{List, [], _∷_, _++_, map}
 use mathlib.Core.Bool.{Bool, true, false}
 use Prim.Native.Nat.{ℕ, zero, suc, _+_, _-_, _<_, _≤_}
 use native.Mathlib.Omega.{arith}
-use native.Mathlib.Nat.{sub-zero, zero-add, add-zero}
+use native.Mathlib.Nat.{sub-zero, zero-add}
 use native.Mathlib.Numerals.{add-one}
 use native.Mathlib.Decide.{ℕ-discrete}
 use lib.ListN.{length, getD, set, length-set, length-map}
 use lib.Seq.{sets, length-sets, drop-set-lt, getD-set-same, getD-set-other, getD-take}
 use Rattle.kinds.specs.Lists.{find, range, orElse}
 use Rattle.kinds.proofs.Members.{length-range, in-range}
-use Rattle.kinds.proofs.ListLaws.{map-append, map-same, range-next, sets-at, sets-before, sets-behind}
+use Rattle.kinds.proofs.ListLaws.{map-append, map-same, range-next, range-at, sets-at, sets-before, sets-behind}
 use Rattle.goals.specs.GoalWords.{GoalWords, goalsFrom}
 use Rattle.goals.specs.WordStages.{sameStateW}
 use Rattle.decoding.specs.WordMachine.{placeIn, usedWords, stateIn, statesIn, Kept}
@@ -142,9 +142,4 @@ module _ {sc : List ℕ} {m : ℕ} (kept : Kept sc m) (room : m < 128) (k : ℕ)
 
 pub states-at : (sc : List ℕ) (m i : ℕ) (d : List GoalWords) → i < m → getD (statesIn sc m) i d ≡ stateIn sc i
 unfolding statesIn
-states-at sc m i d h = go m 0 i h ∙ ap (stateIn sc) (zero-add i)
-  where
-    go : (m b i : ℕ) → i < m → getD (map (stateIn sc) (range b m)) i d ≡ stateIn sc (b + i)
-    go zero b i h = absurd (omega arith)
-    go (suc m) b zero h = ap (stateIn sc) (sym (add-zero b))
-    go (suc m) b (suc i) h = let e : suc b + i ≡ b + suc i = omega arith in go m (suc b) i (omega arith) ∙ ap (stateIn sc) e
+states-at sc m i d h = range-at (stateIn sc) d m 0 i h ∙ ap (stateIn sc) (zero-add i)
