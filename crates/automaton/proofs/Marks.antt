@@ -1,8 +1,6 @@
--- W4: what is announced, after every step and at the end.
+-- W4: what is announced, after every step.
 --   ReadWhole        each node of a shape that is no blank falls on a position read
 --   told-exactly     announced so far is what matches and was read whole
---   told-matches     at the end: what matches
---   same-told        two finished walks announce the same
 use mathlib.Core.Path.{_≡_}
 use mathlib.Core.List.{List, [], _++_, append-assoc, append-nil}
 use mathlib.Core.Option.{some}
@@ -10,11 +8,10 @@ use mathlib.Core.Logic.{_↔_}
 use Prim.Native.Nat.{ℕ}
 use lib.ListN.{getElem?}
 use Rattle.kinds.specs.Positions.{Pos, strip}
-use Rattle.kinds.proofs.Options.{on-bind}
-use Rattle.kinds.specs.Members.{_∈_, _⊆_}
+use Rattle.kinds.specs.Members.{_∈_}
 use Rattle.kinds.proofs.Prefixes.{_≼_, strip-join}
 use Rattle.term.specs.Terms.{Term, node, Terms}
-use Rattle.term.specs.Places.{sub, hd, headAt, Matches}
+use Rattle.term.specs.Places.{sub, headAt, Matches}
 use Rattle.automaton.specs.Goals.{Goal, Announcement}
 use Rattle.automaton.specs.Walking.{Setting, Scored, Item}
 use Rattle.automaton.proofs.Within.{shape-node}
@@ -22,7 +19,6 @@ use Rattle.automaton.proofs.Derivative.{owes}
 use Rattle.automaton.proofs.Sound.{Real}
 use Rattle.automaton.proofs.Reachable.{reachable-sound}
 use Rattle.automaton.proofs.Invariant.{announced, Due, is-told, is-waiting, is-refuted, Invariant, unread}
-use Rattle.automaton.proofs.Counts.{read-all}
 
 abbrev pub ReadWhole : Term → Pos → List Pos → Type 0
 ReadWhole x q R = (r : Pos) (k : ℕ) → headAt x r ≡ some k → (q ++ r) ∈ R
@@ -60,13 +56,3 @@ module _ (C : Scored) where
               let w = reachable-sound S (inv .reach it m) in
               let o = w .goals .owing g k in
               absurd (unmet it g m k es eq (o .0) (o .1) (w .goals .low g k (o .0) (o .1)) (w .goals .real g k (o .0) (o .1)))
-
-  -- none waits: all of the score is read
-  pub told-matches : {R : List Pos} {told : List Announcement} → Invariant C [] R told → (i : ℕ) (x : Term)
-      → getElem? (S .shapes) i ≡ some x → (q : Pos) → (announced i q ∈ told) ↔ Matches x (C .score) q
-  told-matches {R} inv i x gx q = let e = told-exactly inv i x gx q in
-      (λ m. (e .0 m) .0, λ mt. e .1 (mt, λ r k h. on-bind (sub (C .score) (q ++ r)) hd (mt r k h) λ u eu d. read-all C inv (q ++ r) u eu))
-
-  pub same-told : {R₁ R₂ : List Pos} {told₁ told₂ : List Announcement} → Invariant C [] R₁ told₁ → Invariant C [] R₂ told₂ → told₁ ⊆ told₂
-  same-told v w a m = let x = v .shape a m in
-      (told-matches w (a .shape) (x .0) (x .1) (a .at)) .1 ((told-matches v (a .shape) (x .0) (x .1) (a .at)) .0 m)

@@ -4,8 +4,6 @@
 --   waiting-at-most   no more items wait than positions are unread
 --   ends-read         none waits exactly if all are read
 --   announced-so-far  after every step: announced is what matches, with every score node read on which a node of the shape falls that is no blank
---   announced-at-end  at the end: announced is what matches
---   ends-alike        two finished walks announce the same
 use mathlib.Core.Path.{_≡_, refl}
 use mathlib.Core.List.{List, [], _∷_, _++_}
 use mathlib.Core.Option.{some}
@@ -14,7 +12,7 @@ use Prim.Native.Nat.{ℕ, _+_, _≤_}
 use lib.ListN.{length, getElem?}
 use Rattle.kinds.specs.Positions.{Pos}
 use Rattle.kinds.proofs.Members.{∈-right, Distinct}
-use Rattle.kinds.specs.Members.{_∈_, here, _⊆_}
+use Rattle.kinds.specs.Members.{_∈_, here}
 use Rattle.term.specs.Terms.{Term, Terms, count, span}
 use Rattle.term.specs.Places.{headAt, Matches}
 use Rattle.automaton.specs.Goals.{Announcement}
@@ -22,7 +20,7 @@ use Rattle.automaton.specs.Walking.{Scored, Item, looks, follows, announ
 use Rattle.automaton.proofs.Invariant.{announced}
 use Rattle.automaton.proofs.Steps.{walked-invariant}
 use Rattle.automaton.proofs.Counts as counts
-use Rattle.automaton.proofs.Marks.{told-exactly, told-matches, same-told}
+use Rattle.automaton.proofs.Marks.{told-exactly}
 
 module _ (C : Scored) {items : List Item} {read : List Pos} {told : List Announcement} (w : Walked C items read told) where
   pub each-read-once : Distinct read × (length read ≡ counts.steps C w)
@@ -50,11 +48,3 @@ module _ (C : Scored) where
         step before after read told it (n .0) (n .1) (follows (C .setting) it (n .0) (count (n .1))) w (n .2)
             (counts.goes-self C it (inv .reach it (∈-right before (here refl))) (n .0) (n .1) (n .2)),
       )
-
-  pub announced-at-end : {read : List Pos} {told : List Announcement} → Walked C [] read told → (i : ℕ) (x : Term)
-      → getElem? (C .setting .shapes) i ≡ some x → (q : Pos) → (announced i q ∈ told) ↔ Matches x (C .score) q
-  announced-at-end w = told-matches C (walked-invariant C w)
-
-  pub ends-alike : {read₁ read₂ : List Pos} {told₁ told₂ : List Announcement} → Walked C [] read₁ told₁ → Walked C [] read₂ told₂ → (told₁ ⊆ told₂)
-      × (told₂ ⊆ told₁)
-  ends-alike v w = (same-told C (walked-invariant C v) (walked-invariant C w), same-told C (walked-invariant C w) (walked-invariant C v))

@@ -6,7 +6,7 @@
 --   clashes-are             the number that the passes find, where no bit strays
 use Prim.Native.Nat.{ℕ, zero, suc, _+_, _*_, _/_, _%_, _<_, _≤_}
 use mathlib.Core.Path.{_≡_, refl, ap, sym, _∙_}
-use mathlib.Core.List.{List, [], _∷_, _++_}
+use mathlib.Core.List.{List, _∷_, _++_}
 use mathlib.Core.Bool.{true, false, not, _&&_}
 use mathlib.Core.Logic.{_⊎_, inl, inr}
 use native.Mathlib.Omega.{arith}
@@ -17,9 +17,9 @@ use lib.ListN.{length, getD, replicate, length-replicate}
 use borrow.Author.Tests.{eq-eqb, ne-eqb}
 use Rattle.kinds.specs.Lists.{any, filter, gather, range}
 use Rattle.kinds.specs.Members.{_∈_, here, there, Pairwise}
-use Rattle.kinds.proofs.Bools.{and-l, and-r, both, bool-ext, eqb-is, is-eqb, ltb-is, is-ltb, test, false-true, of-not}
+use Rattle.kinds.proofs.Bools.{and-l, and-r, both, bool-ext, ltb-is, is-ltb, test, false-true, of-not}
 use Rattle.kinds.proofs.ListLaws.{filter-same}
-use Rattle.kinds.proofs.Members.{on-any, any-of, any-none, gather-in, on-gather}
+use Rattle.kinds.proofs.Members.{on-any, any-of, any-none, eqb-in, in-eqb, gather-in, on-gather}
 use Rattle.kinds.proofs.Pairwise.{pairwise-filter, pairwise-map, pairwise-range}
 use Rattle.counting.specs.Counting.{Match, matchOf, found, foundFrom, foundIn}
 use Rattle.matching.specs.Shapes.{shapeAt}
@@ -63,10 +63,10 @@ found-others ms =
 
 -- ---- a node in common
 share-of : (xs ys : List ℕ) (y : ℕ) → y ∈ xs → y ∈ ys → meet xs ys ≡ true
-share-of xs ys y i j = any-of (λ x. any (eqb x) ys) i (any-of (eqb y) j (is-eqb y y refl))
+share-of xs ys y i j = any-of (λ x. any (eqb x) ys) i (in-eqb j)
 
 on-share {κ} : {C : Type κ} (xs ys : List ℕ) → meet xs ys ≡ true → ((y : ℕ) → y ∈ xs → y ∈ ys → C) → C
-on-share xs ys e c = on-any (λ x. any (eqb x) ys) xs e λ y i f. on-any (eqb y) ys f λ z j g. c y i (rw (eqb-is y z g) j)
+on-share xs ys e c = on-any (λ x. any (eqb x) ys) xs e λ y i f. c y i (eqb-in y ys f)
 
 -- two lists of nodes that have the same nodes share with the same
 pub same-share : (xs ys vs ws : List ℕ) → ((y : ℕ) → y ∈ xs → y ∈ vs) → ((y : ℕ) → y ∈ vs → y ∈ xs) → ((y : ℕ) → y ∈ ys → y ∈ ws)

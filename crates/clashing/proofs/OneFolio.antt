@@ -1,12 +1,14 @@
 -- Over one folio's tables: words say of matches and of the nodes that they touch what the terms say.
---   match-of matched-is is-matched clashes-same   a match by the tables is one by the terms; the clash number is the same by both
---   SaysOf says-of            the three together, for tables that are those of terms
+--   match-of matched-is is-matched   a match by the tables is one by the terms
+--   nodes-at nodes-in in-nodes       the nodes that it touches are the same by both
+--   clashes-same                     and so is the clash number
+--   SaysOf says-of                   all together, for tables that are those of terms
 use Prim.Native.Nat.{ℕ, _<_}
-use mathlib.Core.Path.{_≡_, refl, ap}
+use mathlib.Core.Path.{_≡_, ap}
 use mathlib.Core.List.{List, [], _++_}
 use mathlib.Core.Bool.{true, _&&_}
 use mathlib.Core.Option.{some}
-use mathlib.Core.Logic.{⊎-elim}
+use mathlib.Core.Logic.{⊎-elim, _↔_}
 use native.Mathlib.Omega.{arith}
 use lib.Dec.{ltb}
 use lib.ListN.{length, getElem?}
@@ -26,10 +28,9 @@ use Rattle.folio.specs.Folio.{startsAt}
 use Rattle.folio.proofs.ShapesFound.{length-starts}
 use Rattle.counting.specs.Counting.{Match}
 use Rattle.matching.specs.Shapes.{shapeAt}
-use Rattle.matching.specs.Touching.{touchedAt}
 use Rattle.matching.proofs.ShapeWords.{shape-words}
 use Rattle.matching.proofs.FallsTree.{falls-matches, matches-falls}
-use Rattle.matching.proofs.TouchesTree.{touched-in, in-touched}
+use Rattle.matching.proofs.TouchesTree.{Touches, touches-at, at-touches, touched-touches, touches-touched}
 use Rattle.clashing.specs.Clashes.{other, clash, clashing, clashNumber, nodesIn, nodesOf}
 use Rattle.clashing.specs.Strays.{IsMatch, matched}
 use Rattle.clashing.proofs.ClashLaws.{same-share}
@@ -41,6 +42,16 @@ match-of ss t m a b c =
     let s = at-some ss (m .shape) a in
     let p = node-at t (m .node) b in
     record { shape = s .0; place = p .0; has-shape = s .1; has-node = p .1; matches = c (s .0) (p .0) (s .1) (p .1) }
+
+-- the nodes that it touches, where shape and position are known
+pub nodes-at : {ss : List Term} {t : Term} {m : Match} (is : IsMatch ss t m) (y : ℕ) → (y ∈ nodesIn ss t m) ↔ Touches (is .shape) t (is .place) y
+nodes-at {ss} {t} {m} is y = rw (is .has-shape, number-place (is .place) t (m .node) (is .has-node)) (
+  λ i. at-touches (is .shape) t (is .place) y (first (first i)),
+  λ h. ∈-left [] (∈-left [] (touches-at (is .shape) t (is .place) y h)),
+)
+  where
+    first : {xs : List ℕ} → y ∈ (xs ++ []) → y ∈ xs
+    first {xs} k = ⊎-elim (λ a. a) (λ a. in-none a) (∈-append xs k)
 
 -- ---- over a folio
 module _ (ar : List ℕ) (ss : List Term) (t : Term) (are : AreShapes ar ss) (score : IsScore ar t) where
@@ -79,25 +90,17 @@ module _ (ar : List ℕ) (ss : List Term) (t : Term) (are : AreShapes ar ss) (sc
         (rw words (matches-falls ar 65535 65536 (is .shape) t (shape-fits (m .shape) (is .has-shape)) (score .fits)
         (score .whole) (is .place) (m .node) (is .has-node) (is .matches)))
 
-    -- the nodes by the terms, where shape and position are known
-    nodes-at : nodesIn ss t m ≡ (touchedAt (is .shape) t (is .place) ++ []) ++ []
-    nodes-at = rw (is .has-shape, number-place (is .place) t (m .node) (is .has-node)) refl
-
     nodes-in : (y : ℕ) → y ∈ nodesOf W A S m → y ∈ nodesIn ss t m
     unfolding nodesOf
     nodes-in y i =
-        rw nodes-at (∈-left [] (∈-left [] (touched-in ar 65535 65536 (is .shape) t (shape-fits (m .shape) (is .has-shape))
-        (score .fits) (is .place) (m .node) (is .has-node) (is .matches) y (rw words at i))))
+        nodes-at is y .1 (touched-touches ar 65535 65536 (is .shape) t (shape-fits (m .shape) (is .has-shape))
+        (score .fits) (is .place) (m .node) (is .has-node) (is .matches) y (rw words at i))
 
     in-nodes : (y : ℕ) → y ∈ nodesIn ss t m → y ∈ nodesOf W A S m
     unfolding nodesOf
     in-nodes y i =
-        let j : y ∈ touchedAt (is .shape) t (is .place) = first (first (rw nodes-at at i)) in
-        rw words (in-touched ar 65535 65536 (is .shape) t (shape-fits (m .shape) (is .has-shape))
-        (score .fits) (is .place) (m .node) (is .has-node) (is .matches) y j)
-      where
-        first : {xs : List ℕ} → y ∈ (xs ++ []) → y ∈ xs
-        first {xs} k = ⊎-elim (λ a. a) (λ a. in-none a) (∈-append xs k)
+        rw words (touches-touched ar 65535 65536 (is .shape) t (shape-fits (m .shape) (is .has-shape))
+        (score .fits) (is .place) (m .node) (is .has-node) (is .matches) y (nodes-at is y .0 i))
 
   clashes-same : (all : List Match) → ((m : Match) → m ∈ all → IsMatch ss t m) → clashNumber (nodesOf W A S) all ≡ clashNumber (nodesIn ss t) all
   unfolding clashNumber
@@ -110,6 +113,7 @@ module _ (ar : List ℕ) (ss : List Term) (t : Term) (are : AreShapes ar ss) (sc
 pub record SaysOf (ws st score spans : List ℕ) (ss : List Term) (t : Term) : Type 0 where
   pub is-match : (m : Match) → m .node < length score → matched ws st score spans m ≡ true → IsMatch ss t m
   pub is-matched : (m : Match) → IsMatch ss t m → matched ws st score spans m ≡ true
+  pub same-nodes : (m : Match) → IsMatch ss t m → (y : ℕ) → (y ∈ nodesOf ws st spans m) ↔ (y ∈ nodesIn ss t m)
   pub same-number : (all : List Match) → ((m : Match) → m ∈ all → IsMatch ss t m) → clashNumber (nodesOf ws st spans) all ≡ clashNumber (nodesIn ss t) all
 
 pub says-of : (ar ws st score spans : List ℕ) (ss : List Term) (t : Term) → AreShapes ar ss → IsScore ar t → ws ≡ gather flatten ss → st ≡ startsAt 0 ss
@@ -117,5 +121,6 @@ pub says-of : (ar ws st score spans : List ℕ) (ss : List Term) (t : Term) → 
 says-of ar ws st score spans ss t are is a b c d = rw (a, b, c, d) (record {
   is-match = λ m h e. matched-is ar ss t are is m (rw (length-flatten t) at h) e;
   is-matched = is-matched ar ss t are is;
+  same-nodes = λ m h y. (nodes-in ar ss t are is m h y, in-nodes ar ss t are is m h y);
   same-number = clashes-same ar ss t are is;
 })

@@ -4,13 +4,15 @@
 --   in-filter filter-in, on-any any-of any-none, all-at all-of   by a test
 --   map-in on-map, gather-in on-gather           in what is made of each
 --   same-is same-refl                            equality of lists of numbers as a test
+--   eqb-in in-eqb                                a number in a list, as a test
+--   one-outside                                  where not each of a list's numbers is in another, one is not
 --   Distinct distinct-map, Without without distinct-le   no element twice; the pigeonhole
 --   gather-length              how many
 --   Perm perm-refl perm-sym perm-length perm-in insert-perm sort-perm sort-in in-sort   the same elements, each as often
 --   range-in in-range length-range       numbers in a row
 --   in-take in-drop                              in a part
 use mathlib.Core.Path.{_≡_, refl, ap, sym, _∙_}
-use mathlib.Core.Bool.{Bool, true, false, cond, false≢true}
+use mathlib.Core.Bool.{Bool, true, false, cond, not, false≢true}
 use mathlib.Core.List.{List, [], _∷_, _++_, map}
 use mathlib.Core.Logic.{_⊎_, inl, inr, ⊎-elim, ⊎-map}
 use Prim.Native.Nat.{ℕ, zero, suc, _+_, _*_, _<_, _≤_}
@@ -20,7 +22,7 @@ use lib.Dec.{eqb}
 use lib.ListN.{length, take, drop, length-append}
 use Rattle.kinds.specs.Members.{_∈_, here, there, _⊆_}
 use Rattle.kinds.specs.Lists.{same, filter, any, all, gather, range, insert, sort}
-use Rattle.kinds.proofs.Bools.{and-l, and-r, both, or-l, or-r, or-case, neither, eqb-is, is-eqb}
+use Rattle.kinds.proofs.Bools.{and-l, and-r, both, or-l, or-r, or-case, neither, false-true, test, of-not, eqb-is, is-eqb}
 
 module _ {ℓ} {A : Type ℓ} where
   pub in-none {κ} : {C : Type κ} {x : A} → x ∈ [] → C
@@ -107,6 +109,24 @@ same-is (i ∷ p) (j ∷ q) e = rw (eqb-is i j (and-l _ e), same-is p q (and-r (
 pub same-refl : (p : List ℕ) → same p p ≡ true
 same-refl [] = refl
 same-refl (i ∷ p) = both (is-eqb i i refl) (same-refl p)
+
+pub eqb-in : (x : ℕ) (ys : List ℕ) → any (eqb x) ys ≡ true → x ∈ ys
+eqb-in x ys e = on-any (eqb x) ys e λ y i d. rw (eqb-is x y d) i
+
+pub in-eqb : {x : ℕ} {ys : List ℕ} → x ∈ ys → any (eqb x) ys ≡ true
+in-eqb {x} i = any-of (eqb x) i (is-eqb x x refl)
+
+pub one-outside : (xs ys : List ℕ) → (xs ⊆ ys → ⊥) → (x : ℕ) × (x ∈ xs) × (x ∈ ys → ⊥)
+one-outside xs ys n = ⊎-elim one (λ e. absurd (n (λ x i. each x i e))) (test (any outside xs))
+  where
+    outside : ℕ → Bool
+    outside x = not (any (eqb x) ys)
+
+    one : any outside xs ≡ true → (x : ℕ) × (x ∈ xs) × (x ∈ ys → ⊥)
+    one e = on-any outside xs e λ x i h. (x, i, λ j. false-true (sym (of-not (any (eqb x) ys) h) ∙ in-eqb j))
+
+    each : (x : ℕ) → x ∈ xs → any outside xs ≡ false → x ∈ ys
+    each x i e = ⊎-elim (eqb-in x ys) (λ h. false-true (sym e ∙ any-of outside i (ap not h))) (test (any (eqb x) ys))
 
 module _ {ℓ} {A : Type ℓ} where
   -- no element twice

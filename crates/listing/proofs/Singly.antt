@@ -5,8 +5,9 @@
 --   Ends ends              each list is one of the two
 --   Singly one-list        its accepted choices are all accepted singly, and leave the same walk
 --   lists-run lists-number lists-length   the same of any lists, one after the other
+--   lists-append           lists behind lists
 use mathlib.Core.Path.{_≡_, refl, ap, ap₂, sym, _∙_, subst}
-use mathlib.Core.List.{List, [], _∷_}
+use mathlib.Core.List.{List, [], _∷_, _++_}
 use mathlib.Core.Option.{some}
 use Prim.Native.Nat.{ℕ, zero, suc, _+_, _≤_}
 use native.Mathlib.Omega.{arith}
@@ -130,6 +131,12 @@ module _ (plan score spans : List ℕ) where
       let rest = singly plan score spans ls (o .walk) in
       lists-run ls (o .walk) ∙ ap (run plan score spans rest) (one-list is w .walk-is)
       ∙ sym (run-append plan score spans (take (acceptedIn (o .answer)) is) rest w)
+
+  pub lists-append : (ls ms : List (List ℕ)) (w : Walk)
+      → runLists plan score spans (ls ++ ms) w ≡ runLists plan score spans ms (runLists plan score spans ls w)
+  unfolding runLists
+  lists-append [] ms w = refl
+  lists-append (is ∷ ls) ms w = lists-append ls ms (listed plan score spans is w .walk)
 
   pub lists-number : (ls : List (List ℕ)) (w : Walk) → acceptedBy plan score spans ls w ≡ accepted plan score spans (singly plan score spans ls w) w
   unfolding acceptedBy singly accepted

@@ -2,7 +2,8 @@
 --   over overs                      those nodes, term against term, where the subtree's node is x
 --   touched-tree touched-trees      by words
 --   Touches over-touches touches-over   exactly those on which a non-blank node falls
---   touched-in in-touched           both together, where the shape matches
+--   touches-at at-touches           the definition's are those
+--   touched-touches touches-touched   and, where the shape matches, those by words
 use Prim.Native.Nat.{ℕ, zero, suc, _+_}
 use mathlib.Core.Path.{_≡_, refl, ap, sym, _∙_}
 use mathlib.Core.List.{List, [], _∷_, _++_, append-assoc, append-nil}
@@ -31,11 +32,11 @@ use Rattle.matching.proofs.LawsFalling.{size-one, size-span, falling-so
 use Rattle.matching.proofs.FallsTree.{Below, below-next, below-first, below-kids, below-at, span-here}
 
 -- a non-blank node q of a shape that stands at a position falls on node x
-record Touches (ℓ t : Term) (p : Pos) (x : ℕ) : Type 0 where
-  q : Pos
-  f : ℕ
-  symbol : headAt ℓ q ≡ some f
-  falls : number t (p ++ q) ≡ some x
+pub record Touches (ℓ t : Term) (p : Pos) (x : ℕ) : Type 0 where
+  pub q : Pos
+  pub f : ℕ
+  pub symbol : headAt ℓ q ≡ some f
+  pub falls : number t (p ++ q) ≡ some x
 
 abbrev mutual
   over : Term → Term → ℕ → List ℕ
@@ -149,7 +150,7 @@ touches-over (suc i ∷ q) (node g ts) (node h us) x k f e n =
     let z : x + 1 + skip us i + j ≡ x + k = omega arith in
     there (overs-in ts us i a b (x + 1) (x + k) ea eb (rw z at m))
 
--- ---- where the shape matches
+-- ---- as the definition has them
 in-perhaps : (o : Option ℕ) {y : ℕ} → y ∈ perhaps o → o ≡ some y
 in-perhaps none m = in-none m
 in-perhaps (some z) m = ap some (sym (in-one m))
@@ -158,6 +159,20 @@ not-nil : (o : Option ℕ) → not (isNil (perhaps o)) ≡ true → (f : ℕ) ×
 not-nil none e = false-true e
 not-nil (some f) e = (f, refl)
 
+module _ (ℓ t : Term) (p : Pos) (y : ℕ) where
+  pub touches-at : Touches ℓ t p y → y ∈ touchedAt ℓ t p
+  touches-at h =
+      on-bind (sub ℓ (h .q)) _ (h .symbol) λ u e d.
+      gather-in (λ q. perhaps (number t (p ++ q)))
+      (filter-in (λ q. not (isNil (perhaps (headAt ℓ q)))) (dom-in (h .q) ℓ e) (rw (h .symbol) refl)) (rw (h .falls) (here refl))
+
+  pub at-touches : y ∈ touchedAt ℓ t p → Touches ℓ t p y
+  at-touches i =
+      on-gather (λ q. perhaps (number t (p ++ q))) (symbolPlaces ℓ) i λ q j k.
+      let s = not-nil (headAt ℓ q) (in-filter (λ q. not (isNil (perhaps (headAt ℓ q)))) (dom ℓ) j .1) in
+      record { q = q; f = s .0; symbol = s .1; falls = in-perhaps (number t (p ++ q)) k }
+
+-- ---- where the shape matches
 module _ (ar : List ℕ) (bl sb : ℕ) (ℓ t : Term) (fits : Fits ar bl ℓ) (good : Fits ar sb t) (p : Pos) (x : ℕ) (n : number t p ≡ some x)
     (m : Matches ℓ t p) where
   touched-is : (u : Term) → sub t p ≡ some u → touched bl (sizes t) (flatten ℓ) x ≡ over ℓ u x
@@ -168,7 +183,7 @@ module _ (ar : List ℕ) (bl sb : ℕ) (ℓ t : Term) (fits : Fits ar bl ℓ) (g
       (below-at t p u x e n)
       ∙ append-nil (over ℓ u x)
 
-  touched-touches : (y : ℕ) → y ∈ touched bl (sizes t) (flatten ℓ) x → Touches ℓ t p y
+  pub touched-touches : (y : ℕ) → y ∈ touched bl (sizes t) (flatten ℓ) x → Touches ℓ t p y
   touched-touches y i =
       let s = sub-number p t x n in
       let h = over-touches ℓ (s .0) x y (rw (touched-is (s .0) (s .1)) at i) in
@@ -180,21 +195,8 @@ module _ (ar : List ℕ) (bl sb : ℕ) (ℓ t : Term) (fits : Fits ar bl ℓ) (g
             ∙ ap (Option·map (λ k. x + k)) (h .1 .falls) ∙ ap some (sym (h .2));
       }
 
-  touches-touched : (y : ℕ) → Touches ℓ t p y → y ∈ touched bl (sizes t) (flatten ℓ) x
+  pub touches-touched : (y : ℕ) → Touches ℓ t p y → y ∈ touched bl (sizes t) (flatten ℓ) x
   touches-touched y h =
       let s = sub-number p t x n in
       on-map (number (s .0) (h .q)) _ (sym (number-append p (h .q) t (s .0) x (s .1) n) ∙ h .falls) λ k ek d.
       rw (touched-is (s .0) (s .1), ← d) (touches-over (h .q) ℓ (s .0) x k (h .f) (h .symbol) ek)
-
-  pub touched-in : (y : ℕ) → y ∈ touched bl (sizes t) (flatten ℓ) x → y ∈ touchedAt ℓ t p
-  touched-in y i =
-      let h = touched-touches y i in
-      on-bind (sub ℓ (h .q)) _ (h .symbol) λ u e d.
-      gather-in (λ q. perhaps (number t (p ++ q)))
-      (filter-in (λ q. not (isNil (perhaps (headAt ℓ q)))) (dom-in (h .q) ℓ e) (rw (h .symbol) refl)) (rw (h .falls) (here refl))
-
-  pub in-touched : (y : ℕ) → y ∈ touchedAt ℓ t p → y ∈ touched bl (sizes t) (flatten ℓ) x
-  in-touched y i =
-      on-gather (λ q. perhaps (number t (p ++ q))) (symbolPlaces ℓ) i λ q j k.
-      let s = not-nil (headAt ℓ q) (in-filter (λ q. not (isNil (perhaps (headAt ℓ q)))) (dom ℓ) j .1) in
-      touches-touched y (record { q = q; f = s .0; symbol = s .1; falls = in-perhaps (number t (p ++ q)) k })

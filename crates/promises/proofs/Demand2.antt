@@ -4,26 +4,21 @@
 use mathlib.Core.Path.{_≡_, ap, sym, _∙_, subst}
 use mathlib.Core.Bool.{Bool}
 use mathlib.Core.List.{List}
-use mathlib.Core.Logic.{_↔_}
 use mathlib.Core.Option.{some, Option·map}
 use Prim.Native.Nat.{ℕ, _<_, _≤_}
-use lib.Dec.{eqb}
 use lib.ListN.{length, getD, getElem?, take}
-use lib.Seq.{length-take-le, getD-take}
 use Rattle.kinds.specs.Bits.{bit}
 use Rattle.kinds.specs.Positions.{Pos}
-use Rattle.kinds.proofs.Bools.{eqb-is, is-eqb}
-use Rattle.kinds.proofs.Places.{at-below}
+use Rattle.kinds.proofs.Bools.{is-eqb}
 use Rattle.term.specs.Terms.{Term, span}
-use Rattle.term.specs.Places.{Matches, sub, number}
+use Rattle.term.specs.Places.{sub}
 use Rattle.term.proofs.MatchTest.{agreesAt, matches-of, matches-is}
 use Rattle.term.proofs.Numbers.{number-place, node-at, dom-place}
 use Rattle.counting.specs.Counting.{matchAt}
-use Rattle.clashing.proofs.OneFolio.{match-of}
 use Rattle.report.specs.Text.{matchLine}
 use Rattle.report.specs.declared.States.the-variants.{Of}
 use Rattle.walk.specs.Starting.{Walk}
-use Rattle.walking.proofs.AnyWalk.{same-walk, marks-right, marks-shapes}
+use Rattle.walking.proofs.AnyWalk.{same-walk}
 use Rattle.promises.specs.OneFile.{OpenFile, OneFile, shapesIn, scoreIn, after, reported}
 use Rattle.promises.specs.Reported.{reportIn}
 use Rattle.promises.specs.Exact.{Exact}
@@ -31,45 +26,25 @@ use Rattle.promises.specs.Demand2.{Demand2, Says}
 use Rattle.promises.proofs.OpenFile.{is-folio, shape-words, score-words, score-spans, score-depth, shapes-depth}
 use Rattle.promises.proofs.OpenReport.{path, exact-report}
 use Rattle.promises.proofs.Setting.{number-is, plan-is, told}
+use Rattle.promises.proofs.Exact.{exact-bit}
+use Rattle.promises.proofs.SoFar.{so-far, all-logged, exact-at-end}
 use Rattle.promises.proofs.Construction.{paper-says}
 
 module _ {file : List ℕ} {O : OpenFile file} (S : OneFile O) where
   module _ (choices : List ℕ) where
-    abbrev mark : ℕ → ℕ
-    mark n = getD (after S choices .marks) n 0
-
-    pub marks-long : span (scoreIn O) ≤ length (after S choices .marks)
+    marks-long : span (scoreIn O) ≤ length (after S choices .marks)
     marks-long =
         subst (λ (v : Walk). span (scoreIn O) ≤ length (v .marks)) (sym (told S .after-is choices))
         (same-walk (told S .folio) (S .walk) (told S .lent) choices .marks-room)
 
-    no-other : (j n : ℕ) → n < span (scoreIn O) → bit (mark n) j ≡ 1 → (ℓ : Term) × (getElem? (shapesIn O) j ≡ some ℓ)
+    no-other : (j n : ℕ) → n < span (scoreIn O) → bit (getD (after S choices .marks) n 0) j ≡ 1 → (ℓ : Term) × (getElem? (shapesIn O) j ≡ some ℓ)
     no-other j n h b =
-        let d = told S .after-is choices in
-        marks-shapes (told S .folio) (S .walk) (told S .lent) choices j n h (sym (ap (λ (v : Walk). bit (getD (v .marks) n 0) j) d) ∙ b)
+        let m = so-far S choices .marked (matchAt n j) h .0 (is-eqb (bit (getD (after S choices .marks) n 0) j) 1 b) .0 in
+        (m .shape, m .has-shape)
 
     module _ (done : after S choices .count .waiting ≡ 0) where
-      exactly : (j : ℕ) (ℓ : Term) → getElem? (shapesIn O) j ≡ some ℓ → (n : ℕ) (p : Pos) → number (scoreIn O) p ≡ some n
-          → (bit (mark n) j ≡ 1) ↔ Matches ℓ (scoreIn O) p
-      exactly j ℓ g n p e =
-          let d = told S .after-is choices in
-          subst (λ (v : Walk). (bit (getD (v .marks) n 0) j ≡ 1) ↔ Matches ℓ (scoreIn O) p) (sym d)
-          (marks-right (told S .folio) (S .walk) (told S .lent) choices (sym (ap (λ (v : Walk). v .count .waiting) d) ∙ done) j ℓ g n p e)
-
       pub exact : Exact (shapesIn O) (scoreIn O) (take (span (scoreIn O)) (after S choices .marks))
-      exact = record {
-        long = length-take-le (span (scoreIn O)) (after S choices .marks) marks-long;
-        exactly = λ m h.
-            let first = ap (λ k. eqb (bit k (m .shape)) 1) (getD-take (span (scoreIn O)) (after S choices .marks) (m .node) 0 h) in (
-              λ b.
-                  let e = eqb-is (bit (mark (m .node)) (m .shape)) 1 (sym first ∙ b) in
-                  let l = at-below (shapesIn O) (m .shape) (no-other (m .shape) (m .node) h e .1) in
-                  match-of (shapesIn O) (scoreIn O) m l h (λ ℓ p g n. exactly (m .shape) ℓ g (m .node) p n .0 e),
-              λ is.
-                  let e = exactly (m .shape) (is .shape) (is .has-shape) (m .node) (is .place) (is .has-node) .1 (is .matches) in
-                  first ∙ is-eqb (bit (mark (m .node)) (m .shape)) 1 e,
-            );
-      }
+      exact = exact-at-end (after S choices) (so-far S choices) marks-long (all-logged S choices done)
 
       text : (test : Term → Pos → Bool) → Says test (scoreIn O) → reported S choices ≡ reportIn test (shapesIn O) (scoreIn O) (Of (S .size .states))
       text test says = exact-report O test says (after S choices .marks) exact (Of (S .size .states)) (number-is S choices)
@@ -84,7 +59,7 @@ demand-2 {O = O} S = record {
   shapes-depth = shapes-depth O;
   plan = plan-is S;
   construction = paper-says (is-folio O .limits);
-  exactly = exactly S;
+  exactly = λ choices done. exact-bit (after S choices .marks) (exact S choices done);
   no-other = no-other S;
   path = λ n j h.
       let w = node-at (scoreIn O) n h in

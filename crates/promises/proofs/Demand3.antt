@@ -30,6 +30,7 @@ use Rattle.promises.specs.Demand3.{Demand3}
 use Rattle.promises.proofs.OpenFile.{score-spans, same-score, same-words, same-starts, same-spans, same-depth}
 use Rattle.promises.proofs.OpenReport.{exact-over}
 use Rattle.promises.proofs.Setting.{number-is, told, same-states}
+use Rattle.promises.proofs.SoFar.{all-logged}
 use Rattle.promises.proofs.Demand2.{exact}
 use Rattle.promises.proofs.AnyLists as any-lists
 
@@ -115,11 +116,7 @@ module _ {file : List ℕ} {O : OpenFile file} (S : OneFile O) (choices : List �
 
   log-all : after S choices .count .waiting ≡ 0 → (n : ℕ) → n < span (scoreIn O) → (i : ℕ) × (i < after S choices .count .logged)
       × (getD (after S choices .log) i 0 ≡ n)
-  log-all done n h =
-      let m : n ∈ take (after S choices .count .logged) (after S choices .log) =
-      on-after (λ (v : Walk). n ∈ take (v .count .logged) (v .log))
-      (any-walk.log-all (told S .folio) (S .walk) (told S .lent) choices (sym waiting-is ∙ done) n h) in
-      found-at (after S choices .count .logged) (after S choices .log) log-long m
+  log-all done n h = found-at (after S choices .count .logged) (after S choices .log) log-long (all-logged S choices done n h)
 
 -- ---- two finished walks
 module _ {file : List ℕ} {O P : OpenFile file} (S : OneFile O) (T : OneFile P) (c d : List ℕ) (c-done : after S c .count .waiting ≡ 0)

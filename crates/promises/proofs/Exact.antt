@@ -1,4 +1,5 @@
 -- Marks that hold exactly the matches.
+--   found-take     the first marks of a longer list hold of their nodes what it holds
 --   exact-same     there is one list of such marks
 --   exact-bit exact-shape   the first marks of a longer list, bit by bit
 --   exact-right    by whatever tells which shape matches where, they are right
@@ -20,11 +21,14 @@ use Rattle.kinds.proofs.Places.{at-below}
 use Rattle.term.specs.Terms.{Term, span}
 use Rattle.term.specs.Places.{Matches, number}
 use Rattle.term.proofs.Numbers.{number-place, number-below}
-use Rattle.counting.specs.Counting.{matchAt, found}
+use Rattle.counting.specs.Counting.{Match, matchAt, found}
 use Rattle.clashing.specs.Strays.{IsMatch}
 use Rattle.promises.specs.Exact.{Exact}
 use Rattle.promises.specs.Demand2.{Says}
 use Rattle.promises.proofs.Reported.{Right}
+
+pub found-take : (n : ℕ) (ms : List ℕ) (m : Match) → m .node < n → found (take n ms) m ≡ found ms m
+found-take n ms m h = ap (λ k. eqb (bit k (m .shape)) 1) (getD-take n ms (m .node) 0 h)
 
 module _ {shapes : List Term} {t : Term} where
   pub exact-same : {ms ns : List ℕ} → Exact shapes t ms → Exact shapes t ns → ms ≡ ns
@@ -46,8 +50,8 @@ module _ {shapes : List Term} {t : Term} where
       subst (λ q. Matches ℓ t q) here (subst (λ k. Matches k t (m .place)) same (m .matches))
 
   module _ (ms : List ℕ) (a : Exact shapes t (take (span t) ms)) where
-    first-bit : (n j : ℕ) → n < span t → found (take (span t) ms) (matchAt n j) ≡ eqb (bit (getD ms n 0) j) 1
-    first-bit n j h = ap (λ k. eqb (bit k j) 1) (getD-take (span t) ms n 0 h)
+    first-bit : (n j : ℕ) → n < span t → found (take (span t) ms) (matchAt n j) ≡ found ms (matchAt n j)
+    first-bit n j h = found-take (span t) ms (matchAt n j) h
 
     pub exact-bit : (j : ℕ) (ℓ : Term) → getElem? shapes j ≡ some ℓ → (n : ℕ) (p : Pos) → number t p ≡ some n → (bit (getD ms n 0) j ≡ 1) ↔ Matches ℓ t p
     exact-bit j ℓ g n p e =

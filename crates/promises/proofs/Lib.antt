@@ -22,10 +22,12 @@ pub mod OpenFile
 pub mod OpenReport
 pub mod SubtreeRows
 pub mod Setting
+pub mod SoFar
 pub mod Demand1
 pub mod Demand2
 pub mod AnyLists
 pub mod Demand3
+pub mod Unfinished
 pub mod RunningNumber
 pub mod TwoEngines
 pub mod SampleFile

@@ -33,7 +33,7 @@ module _ {file : List ℕ} (O : OpenFile file) where
   pub path : (p : Pos) (n : ℕ) → number (scoreIn O) p ≡ some n → pathOf (spansIn O) n ≡ some p
   path p n e = rw (score-spans O) (path-by p n e)
 
-  tables : SaysOf (wordsIn O) (startsIn O) (nodesIn O) (sizes (scoreIn O)) (shapesIn O) (scoreIn O)
+  pub tables : SaysOf (wordsIn O) (startsIn O) (nodesIn O) (sizes (scoreIn O)) (shapesIn O) (scoreIn O)
   tables = says-of (symbolsIn O) (wordsIn O) (startsIn O) (nodesIn O) (sizes (scoreIn O)) (shapesIn O) (scoreIn O)
       (is-folio O .limits .are-shapes) (is-folio O .is-score) (shape-words O) (shape-starts O) (score-words O) refl
 

@@ -4,12 +4,14 @@
 --   Walked             any number of both, in any order, by the choices that they took
 --   steps-run          what they leave is what the definition runs
 --   list-singly        a list leaves what its accepted choices leave, taken singly
+--   calls-keep         what is marked stays marked
 --   Handed calls-handed   any number of both, each with plan words of its own: what they leave is handed on by the definitions
 --   started-number number-in-range   so the stored number behind an accepted start is the ones in the first n marks, and no step is refused for it
 --   open-file          opening, as the contract allows it, where it is accepted
 --   engines            so both engines agree on what a call of the simple finder leaves, lent what opening wrote
 --   one-file           two calls more that the contracts allow, each accepted, are the setting of demands 2 and 3
---   demands            so both demands hold of them, and of every walk that the contracts allow behind them
+--   demands            so both demands hold of them, and of every walk that the contracts allow behind them (`walk-is`)
+--   marks-mean         and of such a walk's marks what wish 7 says, whether it is finished or not
 use mathlib.Core.Path.{_≡_, refl, ap, ap₂, sym, _∙_, subst}
 use mathlib.Core.List.{List, [], _∷_, _++_}
 use Prim.Native.Nat.{ℕ, _*_, _^_, _≤_}
@@ -38,7 +40,8 @@ use Rattle.walk.proofs.stepping.step.Reads as step
 use Rattle.listing.proofs.taking.steps.Reads as steps
 use Rattle.comparing.specs.Comparing.{outOf, compared}
 use Rattle.comparing.proofs.marking.compare.Reads as compare
-use Rattle.promises.specs.OneFile.{OpenFile, OneFile, nodesIn, spansIn, lentIn, after}
+use Rattle.promises.specs.OneFile.{OpenFile, OneFile, nodesIn, spansIn, shapesIn, scoreIn, lentIn, after}
+use Rattle.promises.specs.SoFar.{SoFar, Keeps}
 use Rattle.promises.specs.Demand2.{Demand2}
 use Rattle.promises.specs.Demand3.{Demand3}
 use Rattle.promises.specs.RunningNumber.{HandedOn}
@@ -46,6 +49,7 @@ use Rattle.promises.specs.RunningNumber as handed
 use Rattle.promises.specs.TwoEngines.{comparedIn, TwoEngines}
 use Rattle.promises.proofs.Demand2.{demand-2}
 use Rattle.promises.proofs.Demand3.{demand-3}
+use Rattle.promises.proofs.Unfinished.{run-keeps, unfinished}
 use Rattle.promises.proofs.RunningNumber.{running-number}
 use Rattle.promises.proofs.OpenFile.{nodes-counted}
 use Rattle.promises.proofs.TwoEngines.{two-engines}
@@ -95,6 +99,9 @@ module _ (plan score spans : List ℕ) where
 
   pub list-singly : {choices : List ℕ} {w v u : Walk} {k : ℕ} → Listed choices w k v → Walked w (take k choices) u → v ≡ u
   list-singly l s = one-call l ∙ sym (steps-run s)
+
+  pub calls-keep : {w u : Walk} {is : List ℕ} → Walked w is u → Keeps w u
+  calls-keep {w = w} {is = is} s = subst (Keeps w) (sym (steps-run s)) (run-keeps plan score spans is w)
 
 -- ---- each call with plan words of its own
 module _ (score spans : List ℕ) where
@@ -221,3 +228,9 @@ module _ {file : List ℕ} (bytes : Below 256 file)
         → u ≡ after one-file is
     walk-is {is} s = steps-run (lentIn one-file) (nodesIn open-file) (spansIn open-file) s
         ∙ ap (run (lentIn one-file) (nodesIn open-file) (spansIn open-file) is) (sym (ap (λ (o : WalkOutcome). o .walk) started-is))
+
+    pub marks-mean : {is : List ℕ} {u : Walk}
+        → Walked (lentIn one-file) (nodesIn open-file) (spansIn open-file)
+        (walkOf (now (es .1 .1 .1 .0)) (now (es .1 .1 .1 .1 .0)) (now (es .1 .1 .1 .1 .1 .0)) first) is u
+        → SoFar (shapesIn open-file) (scoreIn open-file) u
+    marks-mean {is} s = subst (SoFar (shapesIn open-file) (scoreIn open-file)) (sym (walk-is s)) (unfinished one-file .so-far is)

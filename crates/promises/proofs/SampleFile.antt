@@ -3,8 +3,11 @@
 --   ended           ten choices of item 0, and none waits
 --   shape-0-at-2-1  by demand 2, shape 0 matches at 2.1; no-shape-1-at-1: shape 1 does not at 1
 --   always-ten      by demand 3, every walk to the end has ten accepted steps
+--   waits-for-6-or-8  by wish 7, whatever was chosen: where shape 0 is not marked at node 6, that node or node 8 is unread
 --   always-reported by demand 3, every walk over the file to its end, in any order and with any buffers, reports the text of document 01
-use mathlib.Core.Path.{_≡_, refl, ap, ap₂, sym, _∙_}
+use mathlib.Core.Path.{_≡_, refl, ap, ap₂, sym, _∙_, subst}
+use mathlib.Core.Bool.{false}
+use mathlib.Core.Logic.{_⊎_, inl, inr}
 use mathlib.Core.List.{List, [], _∷_, _++_}
 use Prim.Native.Nat.{ℕ}
 use native.Mathlib.Omega.{arith}
@@ -24,15 +27,20 @@ use Rattle.plan.specs.declared.Built.the-variants as building
 use Rattle.walk.specs.Starting.{Walk, WalkOutcome, walkOf, counting, goOn, begun, started}
 use Rattle.walk.specs.Stepping.{run}
 use Rattle.walk.specs.declared.Record.{Record}
+use Rattle.counting.specs.Counting.{matchAt, found}
+use Rattle.clashing.specs.Clashes.{nodesIn as touchedIn}
+use Rattle.clashing.specs.Strays.{IsMatch}
 use Rattle.report.specs.Text.{report}
 use Rattle.promises.specs.Computing.{computing}
 use Rattle.promises.specs.Sample.{file, symbols, shapeWords, starts, score, spans, plan, marks, text, nines}
 use Rattle.promises.specs.Reported.{totalsOf}
+use Rattle.promises.specs.SoFar.{logged}
 use Rattle.promises.specs.OneFile.{OpenFile, OneFile, wordsIn, startsIn, nodesIn, spansIn, shapesIn, scoreIn, lentIn, begunIn, after, acceptedIn, reported}
 use Rattle.report.specs.declared.States.the-variants.{Of}
 use Rattle.promises.proofs.Demand2.{demand-2}
 use Rattle.promises.proofs.Demand3.{demand-3}
-use Rattle.kinds.specs.Members.{Below}
+use Rattle.promises.proofs.Unfinished.{unfinished}
+use Rattle.kinds.specs.Members.{Below, _∈_, here, there}
 
 pub bytes-are : Below 256 file
 bytes-are b m = ltb-true b 256 (all-at (λ x. ltb x 256) {xs = file} refl m)
@@ -160,6 +168,29 @@ no-shape-1-at-1 h =
 -- ---- demand 3
 pub always-ten : (choices : List ℕ) → after one-file choices .count .waiting ≡ 0 → acceptedIn one-file choices ≡ 10
 always-ten choices e = demand-3 one-file .steps choices .2 .0 e ∙ ap span tree-is
+
+-- ---- before the end
+at-6 : IsMatch (shapesIn open-file) (scoreIn open-file) (matchAt 6 0)
+at-6 = record {
+  shape = joinClose;
+  place = 2 ∷ 1 ∷ [];
+  has-shape = ap (λ s. getElem? s 0) shapes-are;
+  has-node = ap (λ t. number t (2 ∷ 1 ∷ [])) tree-is;
+  matches = shape-0-at-2-1;
+}
+
+pub waits-for-6-or-8 : (choices : List ℕ) → found (after one-file choices .marks) (matchAt 6 0) ≡ false
+    → (6 ∈ logged (after one-file choices) → ⊥) ⊎ (8 ∈ logged (after one-file choices) → ⊥)
+waits-for-6-or-8 choices b =
+    let u = unfinished one-file .so-far choices .missing (matchAt 6 0) at-6 b in
+    let nodes : touchedIn (shapesIn open-file) (scoreIn open-file) (matchAt 6 0) ≡ 6 ∷ 8 ∷ [] = ap₂ (λ ss t. touchedIn ss t (matchAt 6 0)) shapes-are tree-is in
+    either (u .0) (subst (λ l. u .0 ∈ l) nodes (u .1)) (u .2)
+  where
+    either : (x : ℕ) → x ∈ (6 ∷ 8 ∷ []) → (x ∈ logged (after one-file choices) → ⊥)
+        → (6 ∈ logged (after one-file choices) → ⊥) ⊎ (8 ∈ logged (after one-file choices) → ⊥)
+    either x (here e) n = inl (rw (← e) n)
+    either x (there (here e)) n = inr (rw (← e) n)
+    either x (there (there m)) n = elim m [ ]
 
 text-is : report (totalsOf shapeWords starts spans 4 (Of 3) 4 marks) spans marks ≡ text
 unfolding computing

@@ -1,17 +1,21 @@
--- The sample folio: P1 to P10 of document 01, the whole plan and the whole report, the plan's readers, a list of choices and the simple finder on it, as
--- one table of the definitions with one claim.
+-- The sample folio: P1 to P10 of document 01, the whole plan and the whole report, the plan's readers, a list of choices, what its marks mean in the middle,
+-- and the simple finder on it, as one table of the definitions with one claim.
 --   file      the 49 bytes
 --   table     what the definitions give: from the file its opening, from that the building, from that the plan, from that the walks and the report
 --   claimed   what documents 01 and 02 say
 --   sample    they are equal
 use mathlib.Core.Path.{_≡_, refl}
-use mathlib.Core.List.{List, [], _∷_, _++_}
-use Prim.Native.Nat.{ℕ, _*_, _-_}
+use mathlib.Core.Bool.{not}
+use mathlib.Core.List.{List, [], _∷_, _++_, map}
+use Prim.Native.Nat.{ℕ, _+_, _*_, _-_}
+use lib.Dec.{eqb}
 use lib.ListN.{length, take, drop, replicate}
+use Rattle.kinds.specs.Lists.{any, filter, gather, isNil}
 use Rattle.kinds.specs.Positions.{code}
 use Rattle.kinds.specs.Reasons.{Says}
 use Rattle.folio.specs.Opening.{lent, opened, openedSays}
 use Rattle.folio.specs.Opening.{OpenOutcome}
+use Rattle.folio.specs.Folio.{shapeTerms, scoreTerm}
 use Rattle.plan.specs.Building.{buildOf, builtSays}
 use Rattle.plan.specs.Building.{BuildOutcome}
 use Rattle.kinds.specs.Kinds.{position, childOf, childSays}
@@ -20,7 +24,8 @@ use Rattle.readers.specs.PlanParts.{labelOf, labelSays, lengthsOf, blockSays, a
 use Rattle.walk.specs.Starting.{Walk, walkOf, counting, started, recordValues, walkedSays}
 use Rattle.walk.specs.Stepping.{stepped, runBy}
 use Rattle.listing.specs.Listing.{ListOutcome, listed, listedSays}
-use Rattle.counting.specs.Counting.{matchesOf, countedSays}
+use Rattle.counting.specs.Counting.{Match, foundIn, matchesOf, countedSays}
+use Rattle.clashing.specs.Clashes.{nodesIn}
 use Rattle.clashing.specs.Clashing.{clashesOf}
 use Rattle.comparing.specs.Comparing.{CompareOutcome, compared}
 use Rattle.report.specs.Quoted.{bytes}
@@ -29,6 +34,7 @@ use Rattle.report.specs.Lines.{lineOut, writtenSays}
 use Rattle.report.specs.Text.{report}
 use Rattle.promises.specs.Computing.{computing}
 use Rattle.promises.specs.Reported.{totalsOf}
+use Rattle.promises.specs.SoFar.{logged}
 
 -- rest, join, close with 0, 2, 1 children
 abbrev pub symbols : List ℕ
@@ -64,6 +70,16 @@ plan = 3 ∷ 3 ∷ 2 ∷ 56 ∷ 0 ∷ 1 ∷ 2 ∷ 16 ∷ 18 ∷ 24 ∷ 28 ∷ 30
 abbrev pub marks : List ℕ
 marks = 3 ∷ 1 ∷ 0 ∷ 0 ∷ 0 ∷ 0 ∷ 1 ∷ 0 ∷ 0 ∷ 0 ∷ []
 
+-- in the middle of a walk: the nodes read, the marks, and the nodes on which a match's symbols fall that are unread
+abbrev middleLog : List ℕ
+middleLog = 0 ∷ 1 ∷ 5 ∷ 2 ∷ 3 ∷ 6 ∷ []
+
+abbrev middleMarks : List ℕ
+middleMarks = 3 ∷ 1 ∷ replicate 8 0
+
+abbrev unread : Match → List ℕ
+unread m = filter (λ x. not (any (eqb x) middleLog)) (nodesIn (shapeTerms symbols shapeWords) (scoreTerm symbols score) m)
+
 -- what find prints, and simple
 abbrev matchLines : List ℕ
 matchLines = bytes "0 0 -\n0 1 -\n1 0 1\n6 0 2.1\n"
@@ -97,7 +113,7 @@ lasts = runBy (λ n. n - 1) plan score spans 10 (begun score spans)
 pub alone : Walk
 alone = runBy (λ n. 0) plan (0 ∷ []) (1 ∷ []) 1 (begun (0 ∷ []) (1 ∷ []))
 
--- the seventh choice is refused; no choice
+-- the seventh choice is refused, in the middle of the walk; no choice
 pub partly : ListOutcome
 partly = listed plan score spans (0 ∷ 0 ∷ 0 ∷ 0 ∷ 0 ∷ 0 ∷ 4 ∷ 0 ∷ 0 ∷ []) (begun score spans)
 
@@ -107,6 +123,10 @@ nothing = listed plan score spans [] (begun score spans)
 -- the simple finder, lent a mark more than there are nodes
 pub simple : CompareOutcome
 simple = compared symbols shapeWords starts score spans (nines 11)
+
+-- matches, each by its number
+abbrev numbers : List Match → List ℕ
+numbers = map (λ m. 16 * m .node + m .shape)
 
 -- an answer's number and its values
 abbrev row : Says → List ℕ
@@ -121,6 +141,7 @@ table =
     ∷ row (openedSays (opened [] (lent [] [] [] []) .answer))
     ∷ row (walkedSays (stepped plan score spans 0 firsts .answer))
     ∷ row (listedSays (partly .answer)) ∷ partly .walk .items ∷ partly .walk .log ∷ partly .walk .marks ∷ row (listedSays (nothing .answer))
+    ∷ logged (partly .walk) ∷ numbers (foundIn middleMarks) ∷ numbers (filter (λ m. isNil (unread m)) (foundIn marks)) ∷ gather unread (foundIn marks)
     ∷ row (openedSays (opening .answer)) ∷ opening .tables .words ∷ opening .tables .starts ∷ opening .tables .score ∷ opening .tables .spans
     ∷ row (builtSays (building .answer)) ∷ building .plan
     ∷ row (countedSays (matchesOf symbols score spans marks)) ∷ row (countedSays (clashesOf symbols shapeWords starts score spans marks))
@@ -140,8 +161,9 @@ claimed =
     ∷ (0 ∷ 1 ∷ 0 ∷ []) ∷ (0 ∷ 10 ∷ 4 ∷ [])
     ∷ (1 ∷ 0 ∷ [])
     ∷ (32 ∷ 0 ∷ [])
-    ∷ (32 ∷ 6 ∷ 6 ∷ 3 ∷ 6 ∷ 3 ∷ []) ∷ (0 ∷ 4 ∷ 1 ∷ 6 ∷ 2 ∷ 6 ∷ nines 14) ∷ (0 ∷ 1 ∷ 5 ∷ 2 ∷ 3 ∷ 6 ∷ nines 4)
-    ∷ (3 ∷ 1 ∷ replicate 8 0) ∷ (0 ∷ 0 ∷ 1 ∷ 0 ∷ 0 ∷ [])
+    ∷ (32 ∷ 6 ∷ 6 ∷ 3 ∷ 6 ∷ 3 ∷ []) ∷ (0 ∷ 4 ∷ 1 ∷ 6 ∷ 2 ∷ 6 ∷ nines 14) ∷ (middleLog ++ nines 4)
+    ∷ middleMarks ∷ (0 ∷ 0 ∷ 1 ∷ 0 ∷ 0 ∷ [])
+    ∷ middleLog ∷ (0 ∷ 1 ∷ 16 ∷ []) ∷ (0 ∷ 1 ∷ 16 ∷ []) ∷ (8 ∷ [])
     ∷ (0 ∷ 3 ∷ 2 ∷ 9 ∷ 10 ∷ 4 ∷ 2 ∷ []) ∷ shapeWords ∷ starts ∷ score ∷ spans
     ∷ (0 ∷ 3 ∷ 56 ∷ []) ∷ (plan ++ (9 ∷ []))
     ∷ (0 ∷ 4 ∷ []) ∷ (0 ∷ 3 ∷ [])

@@ -2,10 +2,9 @@
 --   refused-32            a choice that is not below the number waiting is refused 32, and changes nothing
 --   taken one-logged      any other is taken, and logs one node
 --   bits-clear            the announcements of a step differ, and each sets a bit that was clear
---   marks-right           when none waits, bit j of the mark at a node is set exactly if shape j matches there
---   marks-so-far          at any time: exactly if it matches there, and each score node on which a node of the shape falls that is no blank is in the log
+--   marks-so-far          bit j of the mark at a node is set exactly if shape j matches there, and each score node on which a node of the shape falls that is
+--                         no blank is in the log
 --   marks-shapes          no other bit is ever set
---   same-marks            two finished walks have the same marks, word by word
 --   waits-unread          no more wait than are unread
 --   ends-read steps-end   none waits exactly if all nodes are logged, which is after as many accepted steps as the score has nodes
 --   log-nodes log-once log-all   the log holds nodes, none twice, and at the end each
@@ -20,7 +19,6 @@ use lib.ListN.{length, getD, getElem?, take, length-map}
 use Rattle.kinds.specs.Bits.{bit}
 use Rattle.kinds.specs.Positions.{Pos}
 use Rattle.kinds.specs.declared.Reason.the-variants.{NoSuchItem}
-use Rattle.kinds.proofs.BitLaws.{bits-same}
 use Rattle.kinds.proofs.Options.{on-bind}
 use Rattle.kinds.proofs.Members.{on-map, map-in, Distinct, distinct-map}
 use Rattle.kinds.specs.Members.{_∈_}
@@ -127,14 +125,6 @@ module _ {C : Scored} (F : OneFolio C) where
         z : m ≡ num t q
         z = let d : number t q ≡ some (num t q) = num-is t q (u .0) (u .1) in cc
 
-    pub marks-right : walkIn F choices w .count .waiting ≡ 0 → (j : ℕ) (x : Term) → getElem? shapes j ≡ some x → (n : ℕ) (p : Pos)
-        → number t p ≡ some n
-        → (bit (getD (walkIn F choices w .marks) n 0) j ≡ 1) ↔ Matches x t p
-    marks-right done j x gx n p e =
-        let b = bit-told j n p e in
-        let c = walks.announced-at-end C (finished done) j x gx p in
-        (λ m. c .0 (b .0 m), λ m. b .1 (c .1 m))
-
     pub marks-so-far : (j : ℕ) (x : Term) → getElem? shapes j ≡ some x → (n : ℕ) (p : Pos) → number t p ≡ some n
         → (bit (getD (walkIn F choices w .marks) n 0) j ≡ 1)
         ↔ (Matches x t p × ((r : Pos) (k m : ℕ) → headAt x r ≡ some k → number t (p ++ r) ≡ some m
@@ -192,15 +182,3 @@ module _ {C : Scored} (F : OneFolio C) where
         let p = node-at t n h in
         let u = sub-number (p .0) t n (p .1) in
         (in-log (p .0) n (p .1)) .1 (read-all C (walked-invariant C (finished done)) (p .0) (u .0) (u .1))
-
-  -- whatever was chosen, and whatever the buffers held before
-  pub same-marks : (w : Walk) → EnoughLent F w → (choices : List ℕ) (w′ : Walk) → EnoughLent F w′ → (choices′ : List ℕ)
-      → walkIn F choices w .count .waiting ≡ 0 → walkIn F choices′ w′ .count .waiting ≡ 0
-      → (n : ℕ) → n < span t → getD (walkIn F choices w .marks) n 0 ≡ getD (walkIn F choices′ w′ .marks) n 0
-  same-marks w lent choices w′ lent′ choices′ e e′ n h =
-      let p = node-at t n h in
-      let s = walks.ends-alike C (finished w lent choices e) (finished w′ lent′ choices′ e′) in
-      bits-same _ _ (λ j.
-      let c = bit-told w lent choices j n (p .0) (p .1) in
-      let d = bit-told w′ lent′ choices′ j n (p .0) (p .1) in
-      (λ m. d .1 (s .0 (announced j (p .0)) (c .0 m)), λ m. c .1 (s .1 (announced j (p .0)) (d .0 m))))

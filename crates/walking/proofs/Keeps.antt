@@ -1,24 +1,29 @@
 -- Starting and stepping, on any words: a refusal changes nothing, lengths stay, and words past those written stay.
+--   marks-there            each mark that a step announces is there
 --   on-tried               what a step that is taken has found
 --   Cases cases            a step is taken, or refused 34, or refused 32
 --   step-refusal-keeps     a refused step changes nothing
 --   step-counts            the record answered is the walk's
---   Kept taken-keeps       what a step that is taken keeps
+--   Kept taken-keeps       what a step that is taken keeps; bits that are set stay set
+--   step-marks run-marks   so after any choices
 --   start-refusal-keeps    a refused start changes nothing
 --   start-any              whatever record the walk had before
 use mathlib.Core.Path.{_≡_, refl, ap, sym, _∙_}
 use mathlib.Core.Bool.{Bool, true, false}
-use mathlib.Core.List.{List}
+use mathlib.Core.List.{List, [], _∷_}
 use mathlib.Core.Option.{Option, none, some}
-use Prim.Native.Nat.{ℕ, _*_, _≤_}
+use mathlib.Core.Logic.{inl}
+use Prim.Native.Nat.{ℕ, _*_, _<_, _≤_}
 use native.Mathlib.Omega.{arith}
 use lib.Dec.{ltb, leb}
 use lib.ListN.{length, getD, getElem?, drop, length-set}
 use lib.Seq.{getD-set-other}
 use Rattle.kinds.specs.Lists.{unless, all}
+use Rattle.kinds.specs.Members.{_∈_}
 use Rattle.kinds.specs.declared.Reason.{Reason}
 use Rattle.kinds.specs.declared.Reason.the-variants.{ShortBuffers, BadScore, NoSuchItem, OutOfRange}
-use Rattle.kinds.proofs.Bools.{and-l, and-r, leb-is, ltb-not}
+use Rattle.kinds.proofs.Bools.{and-l, and-r, leb-is, ltb-is, ltb-not}
+use Rattle.kinds.proofs.Members.{all-at}
 use Rattle.kinds.proofs.Options.{on-bind, on-need}
 use Rattle.kinds.proofs.ListLaws.{length-onto, drop-onto}
 use Rattle.checks.specs.Again.{scoreGood}
@@ -26,12 +31,17 @@ use Rattle.walk.specs.declared.Record.{Record}
 use Rattle.walk.specs.declared.Walked.the-variants.{On, Refused}
 use Rattle.readers.specs.PlanParts.{pairs, pairWords}
 use Rattle.walk.specs.Starting.{Walk, WalkOutcome, walkOf, refuseWalk, goOn, begun, roomFor, started}
-use Rattle.walk.specs.Stepping.{Finding, look, onward, numbered, roomy, moved, tried, stepped}
+use Rattle.walk.specs.Stepping.{Finding, look, onward, numbered, roomy, moved, tried, stepped, run}
 use Rattle.readers.proofs.LawsPairs.{pairWords-length}
-use Rattle.walking.proofs.MarkLaws.{marked-length}
+use Rattle.walking.proofs.MarkLaws.{Marked, marked-length, marked-is}
 
 not-refused {κ} : {Z : Type κ} {c : Record} {r : Reason} → On c ≡ Refused r → Z
 not-refused e = let z : _≡_ {A = ℕ} 0 1 = cc in absurd (omega arith)
+
+-- where there is room, each mark that is announced is there
+pub marks-there : (w : Walk) (found : Finding) (ns : List (ℕ × ℕ)) → roomy w found ns ≡ true → (x : ℕ × ℕ) → x ∈ found .outs → x .1 < length (w .marks)
+marks-there w found ns t x m = ltb-is _ _ (all-at (λ y. ltb (y .1) (length (w .marks)))
+    (and-r (leb (2 * length ns) (length (w .items))) (and-r (ltb (w .count .logged) (length (w .log))) t)) m)
 
 module _ (plan score spans : List ℕ) (i : ℕ) (w : Walk) where
   pub on-tried {κ} : {Z : Type κ} (v : Walk) → tried plan score spans i w ≡ some v
@@ -86,6 +96,7 @@ module _ (plan score spans : List ℕ) (i : ℕ) (w : Walk) where
     pub marks-long : length (v .marks) ≡ length (w .marks)
     pub items-rest : drop (2 * v .count .waiting) (v .items) ≡ drop (2 * v .count .waiting) (w .items)
     pub log-rest : (n : ℕ) → (n ≡ w .count .logged → ⊥) → getD (v .log) n 0 ≡ getD (w .log) n 0
+    pub marks-stay : (y : ℕ × ℕ) → Marked (w .marks) y → Marked (v .marks) y
 
   pub taken-keeps : (v : Walk) → tried plan score spans i w ≡ some v → Kept v
   taken-keeps v e = on-tried v e λ its it found l t z. rw z (go (onward i its (found .nexts)) found t)
@@ -102,7 +113,23 @@ module _ (plan score spans : List ℕ) (i : ℕ) (w : Walk) where
             marks-long = marked-length (found .outs) (w .marks);
             items-rest = rw (← l) (drop-onto (pairWords ns) (w .items));
             log-rest = λ n h. getD-set-other (w .log) (w .count .logged) n (found .node) 0 h;
+            marks-stay = λ y b. marked-is (found .outs) (w .marks) (marks-there w found ns t) y .1 (inl b);
           }
+
+-- ---- any choices
+module _ (plan score spans : List ℕ) where
+  step-marks : (i : ℕ) (w : Walk) (y : ℕ × ℕ) → Marked (w .marks) y → Marked (stepped plan score spans i w .walk .marks) y
+  step-marks i w y b = go (cases plan score spans i w)
+    where
+      go : Cases plan score spans i w → Marked (stepped plan score spans i w .walk .marks) y
+      go (is-taken v d h) = rw h (taken-keeps plan score spans i w v d .marks-stay y b)
+      go (is-34 d h) = rw h b
+      go (is-32 l h) = rw h b
+
+  pub run-marks : (is : List ℕ) (w : Walk) (y : ℕ × ℕ) → Marked (w .marks) y → Marked (run plan score spans is w .marks) y
+  unfolding run
+  run-marks [] w y b = b
+  run-marks (i ∷ is) w y b = run-marks is (stepped plan score spans i w .walk) y (step-marks i w y b)
 
 module _ (ar score spans : List ℕ) where
   pub start-refusal-keeps : (w : Walk) (r : Reason) → started ar score spans w .answer ≡ Refused r → started ar score spans w .walk ≡ w

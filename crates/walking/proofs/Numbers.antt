@@ -12,14 +12,12 @@ use mathlib.Core.List.{List, [], _∷_}
 use mathlib.Core.Option.{Option, some}
 use Prim.Native.Nat.{ℕ, _+_, _*_, _^_, _<_, _≤_}
 use native.Mathlib.Omega.{arith}
-use lib.Dec.{ltb, leb}
+use lib.Dec.{ltb}
 use lib.ListN.{length, getD, getElem?, take, drop, replicate, length-set}
 use Rattle.kinds.specs.Bits.{clearBit, withBit}
-use Rattle.kinds.specs.Lists.{all}
 use Rattle.kinds.specs.Members.{_∈_, here, there}
 use Rattle.kinds.proofs.BitLaws.{ones-with}
-use Rattle.kinds.proofs.Bools.{and-r, both, is-leb, ltb-is}
-use Rattle.kinds.proofs.Members.{all-at}
+use Rattle.kinds.proofs.Bools.{both, is-leb, ltb-is}
 use Rattle.kinds.proofs.Options.{on-bind, on-need}
 use Rattle.following.specs.Following.{target}
 use Rattle.following.proofs.LawsFollowing.{target-in}
@@ -29,8 +27,8 @@ use Rattle.queue.specs.Targets.{targets, put, marked, newly}
 use Rattle.counting.specs.Counting.{total}
 use Rattle.counting.proofs.CountLaws.{total-set, total-most, total-zeros}
 use Rattle.walk.specs.Starting.{Walk, begun}
-use Rattle.walk.specs.Stepping.{Finding, look, onward, numbered, roomy, moved, tried, stepped, run}
-use Rattle.walking.proofs.Keeps.{on-tried, Cases, is-taken, is-34, is-32, cases}
+use Rattle.walk.specs.Stepping.{Finding, look, onward, numbered, moved, tried, stepped, run}
+use Rattle.walking.proofs.Keeps.{marks-there, on-tried, Cases, is-taken, is-34, is-32, cases}
 
 abbrev pub ones : ℕ → Walk → ℕ
 ones n w = total (take n (w .marks))
@@ -107,11 +105,7 @@ module _ (plan score spans : List ℕ) where
 
   tried-grows : (i : ℕ) (w v : Walk) → tried plan score spans i w ≡ some v → Grows (length score) w v
   tried-grows i w v e = on-tried plan score spans i w v e λ its it found l t z. rw z (moved-grows it found w (onward i its (found .nexts)) l
-      (λ x m. ltb-is _ _ (all-at (λ y. ltb (y .1) (length (w .marks))) (marks-there w found (onward i its (found .nexts)) t) m)))
-    where
-      marks-there : (w : Walk) (found : Finding) (ns : List (ℕ × ℕ)) → roomy w found ns ≡ true
-          → all (λ y. ltb (y .1) (length (w .marks))) (found .outs) ≡ true
-      marks-there w found ns t = and-r (leb (2 * length ns) (length (w .items))) (and-r (ltb (w .count .logged) (length (w .log))) t)
+      (marks-there w found (onward i its (found .nexts)) t))
 
   pub step-grows : (i : ℕ) (w : Walk) → Grows (length score) w (stepped plan score spans i w .walk)
   step-grows i w = go (cases plan score spans i w)
