@@ -5,7 +5,7 @@
 --   Ends ends              each list is one of the two
 --   Singly one-list        its accepted choices are all accepted singly, and leave the same walk
 --   lists-run lists-number lists-length   the same of any lists, one after the other
---   lists-append           lists behind lists
+--   lists-one lists-append   one list is a call; lists behind lists
 use mathlib.Core.Path.{_≡_, refl, ap, ap₂, sym, _∙_, subst}
 use mathlib.Core.List.{List, [], _∷_, _++_}
 use mathlib.Core.Option.{some}
@@ -131,6 +131,10 @@ module _ (plan score spans : List ℕ) where
       let rest = singly plan score spans ls (o .walk) in
       lists-run ls (o .walk) ∙ ap (run plan score spans rest) (one-list is w .walk-is)
       ∙ sym (run-append plan score spans (take (acceptedIn (o .answer)) is) rest w)
+
+  pub lists-one : (is : List ℕ) (w : Walk) → runLists plan score spans (is ∷ []) w ≡ listed plan score spans is w .walk
+  unfolding runLists
+  lists-one is w = refl
 
   pub lists-append : (ls ms : List (List ℕ)) (w : Walk)
       → runLists plan score spans (ls ++ ms) w ≡ runLists plan score spans ms (runLists plan score spans ls w)

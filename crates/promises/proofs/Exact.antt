@@ -50,20 +50,20 @@ module _ {shapes : List Term} {t : Term} where
       subst (λ q. Matches ℓ t q) here (subst (λ k. Matches k t (m .place)) same (m .matches))
 
   module _ (ms : List ℕ) (a : Exact shapes t (take (span t) ms)) where
-    first-bit : (n j : ℕ) → n < span t → found (take (span t) ms) (matchAt n j) ≡ found ms (matchAt n j)
-    first-bit n j h = found-take (span t) ms (matchAt n j) h
-
     pub exact-bit : (j : ℕ) (ℓ : Term) → getElem? shapes j ≡ some ℓ → (n : ℕ) (p : Pos) → number t p ≡ some n → (bit (getD ms n 0) j ≡ 1) ↔ Matches ℓ t p
     exact-bit j ℓ g n p e =
         let h = number-below p t n e in
+        let first = found-take (span t) ms (matchAt n j) h in
         let x = a .exactly (matchAt n j) h in (
-          λ b. is-there p g e (x .0 (first-bit n j h ∙ is-eqb (bit (getD ms n 0) j) 1 b)),
+          λ b. is-there p g e (x .0 (first ∙ is-eqb (bit (getD ms n 0) j) 1 b)),
           λ m. eqb-is (bit (getD ms n 0) j) 1
-              (sym (first-bit n j h) ∙ x .1 (record { shape = ℓ; place = p; has-shape = g; has-node = e; matches = m })),
+              (sym first ∙ x .1 (record { shape = ℓ; place = p; has-shape = g; has-node = e; matches = m })),
         )
 
     pub exact-shape : (j n : ℕ) → n < span t → bit (getD ms n 0) j ≡ 1 → (ℓ : Term) × (getElem? shapes j ≡ some ℓ)
-    exact-shape j n h b = let m = a .exactly (matchAt n j) h .0 (first-bit n j h ∙ is-eqb (bit (getD ms n 0) j) 1 b) in (m .shape, m .has-shape)
+    exact-shape j n h b =
+        let m = a .exactly (matchAt n j) h .0 (found-take (span t) ms (matchAt n j) h ∙ is-eqb (bit (getD ms n 0) j) 1 b) in
+        (m .shape, m .has-shape)
 
   pub exact-right : (test : Term → Pos → Bool) → Says test t → {ms : List ℕ} → Exact shapes t ms → Right test shapes t ms
   exact-right test says {ms} a = record {

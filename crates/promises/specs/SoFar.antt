@@ -1,6 +1,7 @@
 -- What the marks of a walk over a score mean before its end (document 02, wish 7): of any walk, by its marks and its log alone.
 --   logged      the nodes in the log, whose symbols are read: as many of its entries as the record counts
---   ReadWhole   a match whose symbols are all read: "the shape matches there and every score node on which one of its non-blank nodes falls is already in the log"
+--   ReadWhole   a match whose symbols are all read: "the shape matches there and every score node on which one of its non-blank nodes falls is already in the
+--               log"
 --   marked      "a match is marked exactly if" it is read whole: of every node, and every number of a bit
 --   missing     "a missing match always has an unread symbol": one of those nodes, which is not in the log
 --   Keeps       "nothing marked is ever withdrawn": what is marked in a walk is marked in another

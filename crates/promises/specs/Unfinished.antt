@@ -4,17 +4,14 @@
 --   kept           what is marked stays marked, whatever is chosen next
 --   one-step       one step more is one choice more: both hold "after every accepted step"
 --   lists-so-far lists-kept one-list   the same by lists of choices (wish 4), any lists one after the other
---   by-tables      on which nodes a match's symbols fall, by the tables that opening wrote: its shape's words laid over the score's from its node on
+--   by-tables      on which nodes a match's symbols fall, by the tables that opening wrote: those that its shape's words touch, laid over the score's
 use mathlib.Core.Path.{_≡_}
 use mathlib.Core.List.{List, [], _∷_, _++_}
 use mathlib.Core.Logic.{_↔_}
 use Prim.Native.Nat.{ℕ}
-use Rattle.kinds.specs.Limits.{blankWord}
 use Rattle.kinds.specs.Members.{_∈_}
 use Rattle.counting.specs.Counting.{Match}
-use Rattle.matching.specs.Shapes.{shapeAt}
-use Rattle.matching.specs.Falling.{touched}
-use Rattle.clashing.specs.Clashes.{nodesIn}
+use Rattle.clashing.specs.Clashes.{nodesIn, nodesOf}
 use Rattle.clashing.specs.Strays.{IsMatch}
 use Rattle.promises.specs.OneFile.{OpenFile, OneFile, wordsIn, startsIn, spansIn, shapesIn, scoreIn, after, stepAfter, afterLists, listAfter}
 use Rattle.promises.specs.SoFar.{SoFar, Keeps}
@@ -27,4 +24,4 @@ pub record Unfinished {file : List ℕ} {O : OpenFile file} (S : OneFile O) : Ty
   pub lists-kept : (ls more : List (List ℕ)) → Keeps (afterLists S ls) (afterLists S (ls ++ more))
   pub one-list : (ls : List (List ℕ)) (choices : List ℕ) → listAfter S ls choices .walk ≡ afterLists S (ls ++ (choices ∷ []))
   pub by-tables : (m : Match) → IsMatch (shapesIn O) (scoreIn O) m → (x : ℕ)
-      → (x ∈ touched blankWord (spansIn O) (shapeAt (wordsIn O) (startsIn O) (m .shape)) (m .node)) ↔ (x ∈ nodesIn (shapesIn O) (scoreIn O) m)
+      → (x ∈ nodesOf (wordsIn O) (startsIn O) (spansIn O) m) ↔ (x ∈ nodesIn (shapesIn O) (scoreIn O) m)

@@ -1,6 +1,7 @@
 -- Choices one after the other: `run` and `accepted`, for any words.
 --   Step step              a choice is taken, or refused and nothing changes
 --   takes-… stops-…        choices of which the first is taken, or refused
+--   run-one                one choice is a step
 --   run-append accepted-append   choices behind choices
 --   accepted-most          not more are accepted than there are
 use mathlib.Core.Path.{_≡_, refl, ap, sym, _∙_}
@@ -47,6 +48,10 @@ module _ (plan score spans : List ℕ) where
     pub stops-accepted : accepted plan score spans (i ∷ is) w ≡ accepted plan score spans is w
     unfolding accepted
     stops-accepted = ap (λ (o : WalkOutcome). one (o .answer) + accepted plan score spans is (o .walk)) e ∙ zero-add (accepted plan score spans is w)
+
+  pub run-one : (i : ℕ) (w : Walk) → run plan score spans (i ∷ []) w ≡ stepped plan score spans i w .walk
+  unfolding run
+  run-one i w = refl
 
   pub run-append : (is js : List ℕ) (w : Walk) → run plan score spans (is ++ js) w ≡ run plan score spans js (run plan score spans is w)
   unfolding run
