@@ -1,3 +1,4 @@
+#![tactic(auto)]
 // Counts clashes in altered tables, with marks of its own. Standard input has a case in each line: a folio's name, how many words of marks are
 // lent, the marks that are not 0, and the changes, each with ` | ` behind it. The folio NAME.folio is opened and its tables are changed; printed
 // is the line, with what `clashes` answers behind it: the number, or `refused` and the reason's number.

@@ -1,3 +1,4 @@
+#![tactic(auto)]
 // What a user of Bufferstone calls, each once, in the order in which it is met. What is not here is inside.
 
 // The numbers of states, nodes, shapes and symbols, each a kind of its own.

@@ -1,3 +1,4 @@
+#![tactic(auto)]
 // Opens each folio that it is given by name, and prints what opening answers; then once more with no spans lent. Then it builds the sample, which
 // is its standard input, with plan buffers of 56 words and of 55, and with a scratch of one word too few; printed are the two lengths, what
 // building answers and the plan buffer's words.

@@ -1,3 +1,4 @@
+#![tactic(auto)]
 mod closure; // a square closed transitively
 pub mod square; // the dependency among goals
 pub mod members; // a class's goals

@@ -1,23 +1,24 @@
+#![tactic(auto)]
 use kinds::Reason;
 use term::Met;
 
 pub mod reading; // a folio's shapes and its score: 7 to 17
 
 // What whole shapes were met with: how many they are, and the depth of the deepest.
-#[derive(Drop)]
+#[derive(Clone, Copy)]
 pub struct ShapesMet {
     pub number: usize,
     pub depth: usize,
 }
 
 // What the shapes were met with, or why not, and at which word.
-#[derive(Drop)]
+#[derive(Clone, Copy)]
 pub enum Shapes {
     Whole(ShapesMet),
     Refused(Reason, usize),
 }
 
-#[derive(Drop)]
+#[derive(Clone, Copy)]
 pub enum Score {
     Whole(Met),
     Refused(Reason, usize),

@@ -1,9 +1,10 @@
+#![tactic(auto)]
 use kinds::Reason;
 
 pub mod marks; // how many matches the marks hold
 pub mod passing; // from match to match
 
-#[derive(Drop)]
+#[derive(Clone, Copy)]
 pub enum Counted {
     Number(usize),
     Refused(Reason),

@@ -1,3 +1,4 @@
+#![tactic(auto)]
 // Walks the sample with one word of its plan changed: each word in turn set to 0, to 65,535 and to its value and one. Item 0 is taken until a
 // step is refused, at most ten times; printed are the word and its value, the accepted steps and the refusal, the log and the marks.
 use bufferstone::{Record, Walked, number, start, step};

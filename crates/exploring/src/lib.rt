@@ -1,1 +1,2 @@
+#![tactic(auto)]
 pub mod meeting; // the states met, one symbol after the other

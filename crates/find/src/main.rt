@@ -1,3 +1,4 @@
+#![tactic(auto)]
 // Prints the report of the folio on standard input; or, for each file that it is given by name, the name and that file's report.
 // The name `-` is standard input. The marks are made by a plan and a walk.
 //

@@ -1,3 +1,4 @@
+#![tactic(auto)]
 use kinds::Reason;
 
 pub mod opening; // the call that opens a folio
@@ -7,7 +8,7 @@ mod storing; // what opening writes
 const SECTION_WORDS: usize = 4368;
 
 // How many symbols, shapes, shape words and nodes a folio has, and the depth of its score and of its deepest shape.
-#[derive(Drop)]
+#[derive(Clone, Copy)]
 pub struct Counts {
     pub symbols: usize,
     pub shapes: usize,
@@ -17,7 +18,7 @@ pub struct Counts {
     pub deepest: usize,
 }
 
-#[derive(Drop)]
+#[derive(Clone, Copy)]
 pub enum Opened {
     Folio(Counts),
     Refused(Reason, usize),

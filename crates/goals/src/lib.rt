@@ -1,3 +1,4 @@
+#![tactic(auto)]
 use kinds::{Position, Shape};
 use tables::AREA_WORDS;
 
@@ -26,7 +27,7 @@ pub const SYMBOLS_AT: usize = 3 * AREA_WORDS;
 pub const CHILDREN_AT: usize = 4 * AREA_WORDS;
 
 // A shape awaited: what it announces, and a mask of its nodes that are open.
-#[derive(Drop)]
+#[derive(Clone, Copy)]
 pub struct Goal {
     pub shape: Shape,
     pub at: Position,
@@ -34,7 +35,7 @@ pub struct Goal {
 }
 
 // The first obligation position that two goals share.
-#[derive(Drop)]
+#[derive(Clone, Copy)]
 pub enum Shared {
     At(u32),
     Nothing,

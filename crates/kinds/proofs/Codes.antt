@@ -153,6 +153,7 @@ decode_digits (suc k) (suc c) d m =
   where
     last : d ∈ (suc c % 5 ∷ []) → d ≤ 4
     last (here e) = let h : suc c % 5 < 5 = mod-lt (suc c) (lit< tt) in omega arith
+    last (there x5) = elim x5 [ ]
 
 -- ---- back and forth
 -- the digits of a position that is put after a code

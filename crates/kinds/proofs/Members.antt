@@ -30,6 +30,7 @@ module _ {ℓ} {A : Type ℓ} where
 
   pub in_one : {x y : A} → x ∈ (y ∷ []) → x ≡ y
   in_one (here e) = e
+  in_one {y = y} (there x5) = elim x5 [ ]
 
   pub ∈_left : {x : A} {xs : List A} (ys : List A) → x ∈ xs → x ∈ (xs ++ ys)
   ∈_left ys (here e) = here e
@@ -52,6 +53,7 @@ module _ {ℓ} {A : Type ℓ} where
       go true e (here h) ih = (here h, rw h e)
       go true e (there i) ih = (there (ih i).0, (ih i).1)
       go false e i ih = (there (ih i).0, (ih i).1)
+  in_filter p [] {x = x} m = elim m [ ]
 
   pub filter_in : (p : A → Bool) {x : A} {xs : List A} → x ∈ xs → p x ≡ true → x ∈ filter p xs
   filter_in p {x} (here {x = y} {xs} e) t = let t' : p y ≡ true = rw e at t in rw t' (here e)
@@ -78,6 +80,7 @@ module _ {ℓ} {A : Type ℓ} where
   pub all_at : (p : A → Bool) {x : A} {xs : List A} → all p xs ≡ true → x ∈ xs → p x ≡ true
   all_at p {x} {xs = y ∷ ys} e (here h) = rw h (and_l _ e)
   all_at p {x} {xs = y ∷ ys} e (there m) = all_at p (and_r (p y) e) m
+  all_at p {x = x} {xs = []} e x6 = elim x6 [ ]
 
   pub all_of_lem : (p : A → Bool) (xs : List A) → ((x : A) → x ∈ xs → p x ≡ true) → all p xs ≡ true
   all_of_lem p [] h = refl
@@ -91,6 +94,7 @@ module _ {ℓ κ} {A : Type ℓ} {B : Type κ} where
   pub on_map {μ} : {C : Type μ} (f : A → B) (xs : List A) {y : B} → y ∈ map f xs → ((x : A) → x ∈ xs → y ≡ f x → C) → C
   on_map f (x ∷ xs) (here e) k = k x (here refl) e
   on_map f (x ∷ xs) (there m) k = on_map f xs m (λ z i. k z (there i))
+  on_map {C = C} f [] {y = y} x'' k = elim x'' [ ]
 
   pub gather_in : (f : A → List B) {x : A} {xs : List A} {y : B} → x ∈ xs → y ∈ f x → y ∈ gather f xs
   gather_in f (here {x = z} {xs} e) m = ∈_left (gather f xs) (rw e at m)
@@ -98,6 +102,7 @@ module _ {ℓ κ} {A : Type ℓ} {B : Type κ} where
 
   pub on_gather {μ} : {C : Type μ} (f : A → List B) (xs : List A) {y : B} → y ∈ gather f xs → ((x : A) → x ∈ xs → y ∈ f x → C) → C
   on_gather f (x ∷ xs) m k = ⊎_elim (λ (i : _ ∈ f x). k x (here refl) i) (λ i. on_gather f xs i (λ z j. k z (there j))) (∈_append (f x) m)
+  on_gather {C = C} f [] {y = y} m k = elim m [ ]
 
 -- ---- equality of lists of numbers
 pub same_is : (p q : List ℕ) → same p q ≡ true → p ≡ q
@@ -193,6 +198,7 @@ module _ {ℓ} {A : Type ℓ} where
   perm_in (swap x y xs) z (there (here e)) = here e
   perm_in (swap x y xs) z (there (there m)) = there (there m)
   perm_in (then p q) z m = perm_in q z (perm_in p z m)
+  perm_in done z m = elim m [ ]
 
   -- sorting permutes
   pub insert_perm : (lt : A → A → Bool) (a : A) (xs : List A) → Perm (a ∷ xs) (insert lt a xs)
@@ -221,6 +227,7 @@ range_in (suc n) c i l h = ⊎_elim (λ (e : c ≡ i). here (sym e)) (λ (g : c 
 pub in_range : (n c i : ℕ) → i ∈ range c n → (c ≤ i) × (i < c + n)
 in_range (suc n) c i (here e) = omega arith
 in_range (suc n) c i (there m) = let h = in_range n (suc c) i m in omega arith
+in_range zero c i x' = elim x' [ ]
 
 pub length_range : (c n : ℕ) → length (range c n) ≡ n
 length_range c zero = refl

@@ -33,6 +33,7 @@ module _ {A : Type 0} (R : A → A → Type 0) where
   pairwise_two sy (z ∷ xs) a x y (here e) (there j) = inr (rw e (a.0 y j))
   pairwise_two sy (z ∷ xs) a x y (there i) (here d) = inr (rw d (sy z x (a.0 x i)))
   pairwise_two sy (z ∷ xs) a x y (there i) (there j) = pairwise_two sy xs a.1 x y i j
+  pairwise_two sy [] a x y x5 _ = elim x5 [ ]
 
   -- where nothing is related to itself: no element twice
   pub pairwise_distinct : ((x : A) → R x x → ⊥) → (xs : List A) → Pairwise R xs → Distinct xs

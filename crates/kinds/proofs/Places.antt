@@ -25,7 +25,7 @@ module _ {ℓ} {A : Type ℓ} where
   at_in (y ∷ s) zero {x} e = let z : x ≡ y = cc in here z
   at_in (y ∷ s) (suc i) e = there (at_in s i e)
 
-  pub on_in {κ} : {C : Type κ} {s : List A} {x : A} → x ∈ s → ((i : ℕ) → get_elem? s i ≡ some x → C) → C
+  pub on_in {κ} : {C : Type κ} {x : A} {s : List A} → x ∈ s → ((i : ℕ) → get_elem? s i ≡ some x → C) → C
   on_in (here e) k = k 0 (rw e)
   on_in (there m) k = on_in m (λ i. k (suc i))
 
@@ -95,6 +95,7 @@ module _ {ℓ} {A : Type ℓ} where
       go true d z i ih = none_not (sym z)
       go false d z (here i) ih = rw i d
       go false d z (there i) ih = ih z x i
+  find_none p [] c e x m = elim m [ ]
 
   -- in a longer list
   pub find_more : (p : A → Bool) (s t : List A) (c i : ℕ) → find p s c ≡ some i → find p (s ++ t) c ≡ some i
@@ -150,6 +151,7 @@ module _ {ℓ κ} {A : Type ℓ} {B : Type κ} where
       → ((i : ℕ) (x : A) → get_elem? s i ≡ some x → y ≡ f (c + i) x → C) → C
   on_map_at f c (x ∷ s) (here e) k = k 0 x refl (rw add-zero e)
   on_map_at f c (x ∷ s) (there m) k = on_map_at f (suc c) s m (λ i t a b. let z : suc c + i ≡ c + suc i = omega arith in k (suc i) t a (rw z at b))
+  on_map_at {C = C} f c [] {y = y} x'' k = elim x'' [ ]
 
   pub find_same : (h : A → B) (p : A → Bool) (q : B → Bool) (s : List A) (c : ℕ) → ((x : A) → x ∈ s → p x ≡ q (h x)) → find p s c ≡ find q (map h s) c
   find_same h p q [] c e = refl

@@ -1,3 +1,5 @@
+#![tactic(auto)]
+
 ghost use Rattle.std.specs.Prelude.{◌≡◌};
 ghost use Rattle.kinds.specs.Positions.{pad_to, decode};
 ghost use Rattle.kinds.specs.Kinds.{root, child_of, is_good, length_of, comes_before};
@@ -8,26 +10,26 @@ pub mod numbers; // the greater of two
 pub mod slices; // comparing and copying words
 
 // The number of a plan's state.
-#[derive(Drop)]
+#[derive(Clone, Copy)]
 pub struct State(pub u16);
 
 // The number of a score's node.
-#[derive(Drop)]
+#[derive(Clone, Copy)]
 pub struct Node(pub u16);
 
 // The number of a shape.
-#[derive(Drop)]
+#[derive(Clone, Copy)]
 pub struct Shape(pub u16);
 
 // The number of a symbol.
-#[derive(Drop)]
+#[derive(Clone, Copy)]
 pub struct Symbol(pub u16);
 
 // The code of a position.
-#[derive(Drop)]
+#[derive(Clone, Copy)]
 pub struct Position(pub u16);
 
-#[derive(Drop)]
+#[derive(Clone, Copy)]
 pub enum Child {
     At(Position),
     Beyond,
@@ -127,7 +129,7 @@ fn padded(p: Position) -> u32
 }
 
 // Why a call is refused: a case for each number of the table of refusals.
-#[derive(Drop)]
+#[derive(Clone, Copy)]
 pub enum Reason {
     Short,
     Long,

@@ -8,7 +8,7 @@ use running::words::first_words;
 pub const UNWRITTEN: u16 = 65535;
 
 // A walk on its way: the words of its plan, the nodes of its score, its record.
-#[derive(Drop)]
+#[derive(Clone, Copy)]
 pub struct Going {
     pub words: usize,
     pub nodes: usize,

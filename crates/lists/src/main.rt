@@ -1,3 +1,4 @@
+#![tactic(auto)]
 // Takes lists of choices, each in one call. Standard input has a case in each line: a folio's name and a list of choices, with ` | ` behind
 // each. A walk over NAME.folio is started, with the plan that is built for it; where the name has a `+` behind it, the walk of the line before
 // goes on. Two numbers in a field of their own before the choices, an index and a value, change that word of the plan; `=` and a number there change

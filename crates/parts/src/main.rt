@@ -1,3 +1,4 @@
+#![tactic(auto)]
 // Prints what the plan's readers, `subtree`, `follow` and the positions' own calls say of the sample, and of places that are not there.
 use bufferstone::{
     Announcement, Asked, Block, Child, Label, Node, Position, Reached, Reason, State, Successor,

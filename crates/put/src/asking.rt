@@ -5,13 +5,13 @@ use running::texts::{first, same, value_of};
 // What no symbol has for its number.
 const NO_SYMBOL: u16 = 65535;
 
-#[derive(Drop)]
+#[derive(Clone, Copy)]
 pub enum Asked {
     At(Shape, Node, Symbol),
     Wrong,
 }
 
-#[derive(Drop)]
+#[derive(Clone, Copy)]
 enum Number {
     Of(u16),
     None,

@@ -7,7 +7,7 @@ use sections::finding::fill;
 pub const LINK_WORDS: usize = 32768;
 
 // How many words a replacement has.
-#[derive(Drop)]
+#[derive(Clone, Copy)]
 pub enum Link {
     Words(usize),
     Unread,

@@ -1,3 +1,4 @@
+#![tactic(auto)]
 // Puts a replacement into a folio's score: put FOLIO SHAPE NODE FINISHED LINK NEW
 //
 // FOLIO and LINK are files, LINK of the replacement's words, low byte first, at most 32,768 of them. SHAPE, NODE and FINISHED are decimal numbers of at

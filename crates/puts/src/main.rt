@@ -1,3 +1,4 @@
+#![tactic(auto)]
 // Puts replacements in. Standard input has a case in each line: a folio's name, a shape, a node, the finished symbol, the replacement's words, how
 // many words are lent for the new score, and the changes of the tables, each with ` | ` behind it. The folio NAME.folio is opened and its tables are
 // changed; each word lent is 65,535 before. Printed is the line, with what `put` answers behind it: the new score's words, or `refused` and the

@@ -7,7 +7,7 @@ use libc::STDIN_FILENO;
 use running::texts::same;
 
 // What the arguments ask for.
-#[derive(Drop)]
+#[derive(Clone, Copy)]
 enum Asked {
     Input,
     Arguments(usize),

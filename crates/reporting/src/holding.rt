@@ -5,14 +5,14 @@ use bufferstone::limits::LINE_BYTES;
 use libc::STDOUT_FILENO;
 
 // How many bytes are held; `Lost` from the first write on that fails. Nothing more is written then, so that at the end it can be said why.
-#[derive(Drop)]
+#[derive(Clone, Copy)]
 pub enum Held {
     Bytes(usize),
     Lost,
 }
 
 // What was shown of a file, and the output held since.
-#[derive(Drop)]
+#[derive(Clone, Copy)]
 pub enum Shown {
     Report(Held),
     Refusal(Held),

@@ -2,7 +2,7 @@ use crate::walking::walk;
 use bufferstone::{Counted, Reason, compare};
 use totals::Made;
 
-#[derive(Drop)]
+#[derive(Clone, Copy)]
 pub enum Marked {
     By(Made),
     Refused(Reason, usize),

@@ -12,7 +12,7 @@ const MOST_CHUNKS: usize = 0x7fffffffffffffff;
 const DASH_FILENO: i32 = 3;
 
 // How far the names are worked through: the length of the name begun, the output held, the files counted.
-#[derive(Drop)]
+#[derive(Clone, Copy)]
 struct Run {
     progress: bool,
     named: usize,
@@ -20,7 +20,7 @@ struct Run {
     tally: Tally,
 }
 
-#[derive(Drop)]
+#[derive(Clone, Copy)]
 enum Taken {
     More(Run),
     All(Run),

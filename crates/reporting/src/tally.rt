@@ -1,7 +1,7 @@
 use crate::holding::{Held, put_byte, put_text};
 
 // The files looked at, and what they came to.
-#[derive(Drop)]
+#[derive(Clone, Copy)]
 pub struct Tally {
     pub files: usize,
     pub reported: usize,

@@ -2,7 +2,7 @@
 use crate::texts::{before, begins, behind, ended, has, next_from, value_of};
 
 // A value at an index, a value behind the last, or so many of the last left out.
-#[derive(Drop)]
+#[derive(Clone, Copy)]
 enum Change {
     At(usize, usize),
     Behind(usize),
@@ -11,7 +11,7 @@ enum Change {
 }
 
 // The lengths of a folio's tables.
-#[derive(Drop)]
+#[derive(Clone, Copy)]
 pub struct Lengths {
     pub symbols: usize,
     pub words: usize,

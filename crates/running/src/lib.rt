@@ -1,3 +1,4 @@
+#![tactic(auto)]
 // What the programs share.
 pub mod changing; // the changes of a table
 pub mod files; // a folio's file

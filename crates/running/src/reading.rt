@@ -2,7 +2,7 @@
 const MOST_BYTES: usize = 0x7fffffffffffffff;
 
 // What is read of an input so far; unknown where a read fails.
-#[derive(Drop)]
+#[derive(Clone, Copy)]
 pub enum Length {
     More(usize),
     Whole(usize),

@@ -1,22 +1,23 @@
+#![tactic(auto)]
 use kinds::Reason;
 
 pub mod finding; // where a folio's sections are: 1 to 6
 
 // Where the shapes, the score and the trailer begin, in bytes; symbols begin at 0.
-#[derive(Drop)]
+#[derive(Clone, Copy)]
 pub struct Places {
     pub shapes: usize,
     pub score: usize,
     pub end: usize,
 }
 
-#[derive(Drop)]
+#[derive(Clone, Copy)]
 pub enum Sections {
     At(Places),
     Refused(Reason, usize),
 }
 
-#[derive(Drop)]
+#[derive(Clone, Copy)]
 pub enum Verdict {
     Good,
     Bad(Reason, usize),

@@ -1,3 +1,4 @@
+#![tactic(auto)]
 use kinds::{Position, Reason, State};
 
 pub mod keeping; // the states met, in scratch, and the class that is looked up among them
@@ -10,7 +11,7 @@ pub const STATES: usize = 128;
 pub const DERIVED_WORDS: usize = 288;
 
 // How many goals a state on a symbol announces, how many its derivative has, and how many classes.
-#[derive(Drop)]
+#[derive(Clone, Copy)]
 pub struct Parts {
     pub announced: usize,
     pub goals: usize,
@@ -18,20 +19,20 @@ pub struct Parts {
 }
 
 // How many goals a class has, and its displacement.
-#[derive(Drop)]
+#[derive(Clone, Copy)]
 pub struct Class {
     pub goals: usize,
     pub top: Position,
 }
 
 // How many states there are now, and how many words the blocks made take.
-#[derive(Drop)]
+#[derive(Clone, Copy)]
 pub enum Going {
     On(usize, usize),
     Stopped(Reason),
 }
 
-#[derive(Drop)]
+#[derive(Clone, Copy)]
 pub enum Explored {
     Made(usize, usize),
     Stopped(Reason, State),

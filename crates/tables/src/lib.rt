@@ -1,3 +1,4 @@
+#![tactic(auto)]
 pub mod filling; // each shape's nodes as words: position, symbol, children
 
 // The words of one table of 16 shapes by 16 nodes.

@@ -1,3 +1,4 @@
+#![tactic(auto)]
 ghost use Rattle.std.specs.Prelude.{◌≡◌};
 ghost use Rattle.clashing.specs.Clashing.{clashes_of};
 ghost use Rattle.totals.specs.Totalled.{states_by, matches_by, totalled};
@@ -5,14 +6,14 @@ ghost use Rattle.totals.specs.Totalled.{states_by, matches_by, totalled};
 use bufferstone::{Counted, Counts, Reason, Record, Size, States, Totals, clashes};
 
 // The numbers of a report's first line.
-#[derive(Drop)]
+#[derive(Clone, Copy)]
 pub enum Total {
     Of(Totals),
     Refused(Reason),
 }
 
 // What made the marks: a walk by a plan of this size that ended with this record, or comparing, which found so many matches.
-#[derive(Drop)]
+#[derive(Clone, Copy)]
 pub enum Made {
     Walk(Size, Record),
     Comparing(usize),

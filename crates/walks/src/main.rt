@@ -1,3 +1,4 @@
+#![tactic(auto)]
 // Opens each folio that it is given by name, builds its plan and holds it against the stored one, which is named behind the folio. Then the
 // score is walked with the built plan: taking the first item, the last, and items by a fixed pseudo-random row, each time with a refused choice
 // before every step. Printed are the accepted steps, what waits, what is logged, the refusal of the step after the end, the log where it has at

@@ -1,1 +1,2 @@
+#![tactic(auto)]
 pub mod blocks; // the plan's words from the states met
