@@ -169,6 +169,7 @@ on_doms {κ} : {C : Type κ} (ts : Terms) (c : ℕ) (q : Pos) → q ∈ doms ts 
 on_doms (tcons t ts) c q m k = ⊎_elim (λ a. on_map (λ p. c ∷ p) (dom t) a λ r j e. let z : c + 0 ≡ c = omega arith in k 0 t r refl j (rw z e))
     (λ a. on_doms ts (suc c) q a (λ i u r e j d. let z : suc c + i ≡ c + suc i = omega arith in k (suc i) u r e j (rw z at d)))
     (∈_append (map (λ p. c ∷ p) (dom t)) m)
+on_doms {C = C} tnil c q m k = elim m [ ]
 
 -- by the length of the position
 in_dom_up : (n : ℕ) (q : Pos) → length q ≤ n → (t : Term) → q ∈ dom t → (u : Term) × (sub t q ≡ some u)
@@ -184,6 +185,7 @@ in_dom_up (suc n) (j ∷ q) l (node f ts) (there m) = on_doms ts 1 (j ∷ q) m �
   where
     one_more_lem : (i : ℕ) → 1 + i ≡ suc i
     one_more_lem i = omega arith
+in_dom_up (suc n) (j ∷ q) l (blank w) (there m) = elim m [ ]
 
 pub in_dom : (q : Pos) (t : Term) → q ∈ dom t → (u : Term) × (sub t q ≡ some u)
 in_dom q t m = in_dom_up (length q) q (omega arith) t m
@@ -200,6 +202,7 @@ mutual
 doms_from {κ} : {C : Type κ} (ts : Terms) (c : ℕ) (q : Pos) → q ∈ doms ts c → ((j : ℕ) (r : Pos) → q ≡ j ∷ r → c ≤ j → C) → C
 doms_from {C = C} (tcons t ts) c q m k = ⊎_elim (λ i. on_map (λ p. c ∷ p) (dom t) i λ r j e. k c r e (omega arith))
     (λ i. doms_from ts (suc c) q i (λ j r e l. k j r e (omega arith))) (∈_append (map (λ p. c ∷ p) (dom t)) m)
+doms_from {C = C} tnil c q m k = elim m [ ]
 
 mutual
   pub dom_ordered : (t : Term) → Pairwise Before (dom t)

@@ -1,4 +1,5 @@
 #![tactic(auto)]
+
 pub mod reader; // one term, read in preorder
 pub mod spans; // the spans of its nodes
 
