@@ -1,4 +1,5 @@
 #![tactic(auto)]
+
 use kinds::{Position, Reason, Shape, State};
 
 pub mod parts; // header, labels and block starts of a plan

@@ -1,4 +1,5 @@
 #![tactic(auto)]
+
 use kinds::Reason;
 
 pub mod finding; // where a folio's sections are: 1 to 6

@@ -1,4 +1,5 @@
 #![tactic(auto)]
+
 pub mod filling; // each shape's nodes as words: position, symbol, children
 
 // The words of one table of 16 shapes by 16 nodes.
