@@ -48,6 +48,7 @@ module _ (S : Setting) where
       where
         only : {p : Pos} → o ∈ (p ∷ []) → o ≼ p
         only {p} (here d) = rw d (≼_refl p)
+        only {p = p} (Rattle.kinds.specs.Members.there x4) = elim x4 [ ]
 
         go : Derived S s f n g → o ≼ g.ann
         go (kept a e) = w.goals.low g a o i

@@ -33,12 +33,18 @@ module _ {A : Type 0} where
   picked_in (true ∷ bs) (g ∷ s) x (here e) = here e
   picked_in (true ∷ bs) (g ∷ s) x (there m) = there (picked_in bs s x m)
   picked_in (false ∷ bs) (g ∷ s) x m = there (picked_in bs s x m)
+  picked_in [] s x m = elim m [ ]
+  picked_in (false ∷ bs) [] x m = elim m [ ]
+  picked_in (true ∷ bs) [] x m = elim m [ ]
 
   pub on_picked {κ} : {C : Type κ} (r : List Bool) (s : List A) {x : A} → x ∈ picked r s
       → ((j : ℕ) → get_elem? s j ≡ some x → get_or r j false ≡ true → C) → C
   on_picked (true ∷ bs) (g ∷ s) (here e) k = k 0 (rw e) refl
   on_picked (true ∷ bs) (g ∷ s) (there m) k = on_picked bs s m (λ j. k (suc j))
   on_picked (false ∷ bs) (g ∷ s) m k = on_picked bs s m (λ j. k (suc j))
+  on_picked {C = C} [] s m k = elim m [ ]
+  on_picked {C = C} (false ∷ bs) [] m k = elim m [ ]
+  on_picked {C = C} (true ∷ bs) [] m k = elim m [ ]
 
   pub picked_of : (r : List Bool) (s : List A) (j : ℕ) {x : A} → get_elem? s j ≡ some x → get_or r j false ≡ true → x ∈ picked r s
   picked_of [] s j e t = absurd (false≢true t)
@@ -66,7 +72,7 @@ leads_at zero [] e = absurd (false≢true e)
 leads_at zero (b ∷ bs) e = (e, λ m h. absurd (omega arith))
 leads_at (suc i) [] e = absurd (false≢true e)
 leads_at (suc i) (true ∷ bs) e = absurd (false≢true e)
-leads_at (suc i) (false ∷ bs) e = let ih = leads_at i bs e in (ih.0, λ m. elim m [ zero ↦ λ h. refl | suc k ↦ λ h. ih.1 k (le_of_suc-le-suc h) ])
+leads_at (suc i) (false ∷ bs) e = let ih = leads_at i bs e in (ih.0, λ m. elim m as (λ k. k < suc i → get_or (false ∷ bs) k false ≡ false) [ zero ↦ λ h. refl | suc k ↦ λ h. ih.1 k (le_of_suc-le-suc h) ])
 
 leads_of : (i : ℕ) (r : List Bool) → get_or r i false ≡ true → ((m : ℕ) → m < i → get_or r m false ≡ false) → leads i r ≡ true
 leads_of zero [] e h = e
@@ -85,6 +91,7 @@ on_row {C = C} (x ∷ m) i {r} a k = go (leads i x) refl a (λ b. on_row m (suc 
     go true e (here d) rest = k 0 (rw d) (rw (add-zero, d) e)
     go true e (there b) rest = rest b
     go false e b rest = rest b
+on_row {C = C} [] i {r = r} a k = elim a [ ]
 
 row_in : (m : Square) (i l : ℕ) {r : List Bool} → get_elem? m l ≡ some r → leads (i + l) r ≡ true → r ∈ rows_from i m
 row_in [] i l e t = none_not e

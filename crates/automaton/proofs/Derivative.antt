@@ -51,6 +51,7 @@ on_in_place {C = C} p new os {o} m kept put = on_gather (in_place p new) os m λ
     go : (q : Pos) → q ∈ os → (b : Bool) → same p q ≡ b → o ∈ cond b new (q ∷ []) → C
     go q i true e j = put (rw (same_is p q e) i) j
     go q i false e (here d) = kept (rw d i) (rw (d, e))
+    go q i false e (there x6) = elim x6 [ ]
 
 pub in_place_kept : (p : Pos) (new : List Pos) {os : List Pos} {o : Pos} → o ∈ os → same p o ≡ false → o ∈ gather (in_place p new) os
 in_place_kept p new {os} {o} m e = let z : o ∈ in_place p new o = rw e (here refl) in gather_in (in_place p new) m z
@@ -65,6 +66,8 @@ on_args p c (suc n) (tcons (blank w) us) m k =
 on_args p c (suc n) (tcons (node g ws) us) (here e) k = let z : c + 0 ≡ c = omega arith in k 0 g ws (omega arith) (rw z e) refl
 on_args p c (suc n) (tcons (node g ws) us) (there m) k =
     on_args p (suc c) n us m (λ j h vs l e d. let z : suc c + j ≡ c + suc j = omega arith in k (suc j) h vs (omega arith) (rw z at e) d)
+on_args {C = C} p c zero us {o = o} m k = elim m [ ]
+on_args {C = C} p c (suc n) tnil {o = o} m k = elim m [ ]
 
 pub args_in : (p : Pos) (us : Terms) (c n j : ℕ) {h : ℕ} {vs : Terms} → nth us j ≡ some (node h vs) → j < n → (p ++ ((c + j) ∷ [])) ∈ args p c n us
 args_in p tnil c n j e l = none_not e
@@ -81,6 +84,8 @@ args_in p (tcons (node g ws) us) c (suc n) (suc j) e l = let z : c + suc j ≡ s
 pub on_args_of {κ} : {C : Type κ} (p : Pos) (n : ℕ) (t : Option Term) {o : Pos} → o ∈ args_of p n t
     → ((f : ℕ) (us : Terms) → t ≡ some (node f us) → o ∈ args p 1 n us → C) → C
 on_args_of p n (some (node f us)) m k = k f us refl m
+on_args_of {C = C} p n none {o = o} m k = elim m [ ]
+on_args_of {C = C} p n (some (blank _)) {o = o} m k = elim m [ ]
 
 -- child numbers of p, from 1 to n
 pub args_under {κ} : {C : Type κ} (p : Pos) (n : ℕ) (t : Option Term) {o : Pos} → o ∈ args_of p n t → ((i : ℕ) → 1 ≤ i → i ≤ n → o ≡ p ++ (i ∷ []) → C)
@@ -113,6 +118,7 @@ module _ {O : Type 0} (K : Calculus O) where
           × (K.at x ≡ first_from K (K.at o) os)
       go (inl e) = (o, here refl, sym e)
       go (inr e) = (e.0, there e.1, e.2)
+  first_in [] {o = o} m = elim m [ ]
 
 module _ (S : Setting) where
   abbrev K : Calculus Pos
@@ -222,6 +228,7 @@ module _ (S : Setting) where
     where
       only : {p : Pos} → o ∈ (p ∷ []) → o ≡ p
       only (here d) = d
+      only {p = p} (there x4) = elim x4 [ ]
 
       go : Derived s f n g → From s n o
       go (kept a e) = old (owes a i) (λ d. false≢true (sym e ∙ has_owes (label K s) g.obs (rw (← d) i)))

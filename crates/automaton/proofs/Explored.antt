@@ -56,6 +56,8 @@ module _ (S : Setting) where
           let g = class_some K (deriv K s f n) k (class_is K (deriv K s f n) k (h k (here refl))) in
           rw (e, c) (at_below ss y.to a, gcp_small S k (class_sound S (deriv K s f n) d k (h k (here refl))) g.0 g.1)
       links_small (k ∷ ks) (y ∷ xs) h (link few a b c l) x (there m) = links_small ks xs (λ z i. h z (there i)) l x m
+      links_small [] (y ∷ xs) h x9 x m = elim x9 [ ]
+      links_small (k ∷ ks) [] h x8 x m = elim x8 [ ]
 
       pub succ_small : (b : Block) → Says K ss s f n b → (x : Succ) → x ∈ b.succs → (x.to < length ss) × Small x.by
       succ_small b says x m = links_small (classes K (deriv K s f n)) b.succs (λ k i. i) says.succs_are x m
@@ -67,6 +69,8 @@ module _ (S : Setting) where
         let al : Alike (lift K k) (get_or ss x.to []) = rw e (same_alike S (lift K k) s b) in
         let re : Reachable S (get_or ss x.to []) = rw e (num.reach s (at_in ss x.to a)) in
         one_goes (ap (λ p. it.at ++ p) c) al re (go_links it ks xs l)
+    go_links it [] (x ∷ xs) x3 = elim x3 [ ]
+    go_links it (k ∷ ks) [] x3 = elim x3 [ ]
 
     pub links_go : (it : Item) (f n : ℕ) (b : Block) → Says K ss it.state f n b → Goes S (follows S it f n) (map (named it) b.succs)
     links_go it f n b s = go_links it (classes K (deriv K it.state f n)) b.succs s.succs_are

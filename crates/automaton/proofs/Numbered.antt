@@ -179,6 +179,7 @@ module _ {O : Type 0} (K : Calculus O) (Alike-self : (o : O) → K.alike o o ≡
         where
           single : {s : State O} → s ∈ (lift K k ∷ []) → s ≡ lift K k
           single (here c) = c
+          single {s = s} (there x6) = elim x6 [ ]
 
           one_more_lem : length (ss ++ (lift K k ∷ [])) ≡ suc (length ss)
           one_more_lem = let z = length-append ss (lift K k ∷ []) in omega arith
@@ -235,6 +236,7 @@ module _ {O : Type 0} (K : Calculus O) (Alike-self : (o : O) → K.alike o o ≡
     where
       first : {y : State O} → y ∈ (k ∷ []) → y ∈ (k ∷ ks)
       first (here c) = here c
+      first {y = y} (there x5) = elim x5 [ ]
 
   -- a state that is explored: reachable, and of at most 32 goals but for the initial one
   abbrev Fine : List ℕ → State O → Type 0
@@ -414,3 +416,4 @@ numbered {O} K Alike-self ar ss bs e =
   where
     only : (y : State O) → y ∈ (initial K ∷ []) → Reach K ar y × ((y ≡ initial K) ⊎ (length y ≤ 32))
     only y (here d) = rw d (init, inl refl)
+    only y (there x4) = elim x4 [ ]

@@ -68,6 +68,7 @@ fresh_real S p j h o (here d) = let x = at_some S.shapes j h in let y = shape_no
   where
     go : (x : Term) → get_elem? S.shapes j ≡ some x → (f : ℕ) (us : Terms) → x ≡ node f us → Real S (fresh p j) p
     go x e f us d = record { shape = x; is_shape = e; head = f; kids = us; is = rw (strip_self p, d) }
+fresh_real S p j h o (there x4) = elim x4 [ ]
 
 module _ (S : Setting) where
   abbrev K : Calculus Pos

@@ -102,6 +102,7 @@ module _ {O : Type 0} (K : Calculus O) where
   pub first_not_after : (os : List O) (o : O) → o ∈ os → before (K.at o) (first K os) ≡ false
   first_not_after (x ∷ os) o (here e) = rw e (first_from_not_after (K.at x) os).0
   first_not_after (x ∷ os) o (there m) = (first_from_not_after (K.at x) os).1 o m
+  first_not_after [] o x' = elim x' [ ]
 
   pub share : (g h : Goal O) (o x : O) → o ∈ g.obs → x ∈ h.obs → K.at o ≡ K.at x → dep K g h ≡ true
   share g h o x a b e = any_of (λ y. has K (K.at y) h.obs) a (any_of (λ y. same (K.at o) (K.at y)) b (rw e (same_refl (K.at x))))

@@ -54,6 +54,7 @@ find_some p (y ∷ s) c {x} m e = go (p y) refl m (λ i. find_some p s (suc c) i
     go true d i ih = (c, refl)
     go false d (here z) ih = false_true (sym d ∙ rw (← z) e)
     go false d (there i) ih = ih i
+find_some {A = A} p [] c {x = x} m e = elim m [ ]
 
 find_absent : {A : Type 0} (p : A → Bool) (s : List A) (c : ℕ) → ((x : A) → x ∈ s → p x ≡ false) → find p s c ≡ none
 find_absent p [] c h = refl

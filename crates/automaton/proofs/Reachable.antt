@@ -37,6 +37,7 @@ module _ (S : Setting) where
     where
       only : o ∈ ([] ∷ []) → o ≡ []
       only (here d) = d
+      only (Rattle.kinds.specs.Members.there x4) = elim x4 [ ]
 
   initial_goals : Sound S (initial K)
   initial_goals = record {

@@ -32,10 +32,12 @@ module _ {O : Type 0} where
   gcp_from_in : (s : State O) (p : Pos) (g : Goal O) → g ∈ s → g.ann ≼ gcp_from p s
   gcp_from_in (x ∷ s) p g (here e) = rw e (≼_trans (common_right p x.ann) (gcp_from_start s (common_prefix p x.ann)))
   gcp_from_in (x ∷ s) p g (there m) = gcp_from_in s (common_prefix p x.ann) g m
+  gcp_from_in [] p g x' = elim x' [ ]
 
   pub gcp_below : (s : State O) (g : Goal O) → g ∈ s → g.ann ≼ gcp s
   gcp_below (x ∷ s) g (here e) = rw e (gcp_from_start s x.ann)
   gcp_below (x ∷ s) g (there m) = gcp_from_in s x.ann g m
+  gcp_below [] g x' = elim x' [ ]
 
   gcp_from_least : (s : State O) (p r : Pos) → p ≼ r → ((g : Goal O) → g ∈ s → g.ann ≼ r) → gcp_from p s ≼ r
   gcp_from_least [] p r a h = a
@@ -43,6 +45,7 @@ module _ {O : Type 0} where
 
   pub gcp_least : (s : State O) (r : Pos) {m : Goal O} → m ∈ s → ((g : Goal O) → g ∈ s → g.ann ≼ r) → gcp s ≼ r
   gcp_least (g ∷ s) r m h = gcp_from_least s g.ann r (h g (here refl)) (λ x i. h x (there i))
+  gcp_least [] r m h = elim m [ ]
 
   -- a goal above all others announces at the greatest common prefix
   pub top_is_gcp : (s : State O) (m : Goal O) → m ∈ s → ((g : Goal O) → g ∈ s → g.ann ≼ m.ann) → gcp s ≡ m.ann
@@ -58,6 +61,7 @@ module _ {O : Type 0} where
     where
       only : (x : Goal O) → x ∈ (g ∷ []) → length g.ann ≤ length x.ann
       only x (here e) = rw e (omega arith)
+      only x (there x5) = elim x5 [ ]
   shortest g (x ∷ s) = go (shortest x s) (dec_le _ _)
     where
       go : (r : Shortest (x ∷ s)) → Dec (length g.ann ≤ length r.goal.ann) → Shortest (g ∷ x ∷ s)
@@ -74,6 +78,7 @@ module _ {O : Type 0} where
 
   short_of : {s : State O} {x : Goal O} → x ∈ s → Shortest s
   short_of {s = g ∷ s} m = shortest g s
+  short_of {s = []} m = elim m [ ]
 
   pub record Top (k : State O) : Type 0 where
     pub goal : Goal O

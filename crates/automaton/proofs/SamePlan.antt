@@ -65,6 +65,7 @@ fresh_right shapes p g m = on_map_at (freshOb p) 0 shapes m λ i x a e. rw (e, z
   where
     one : (i : ℕ) (x : Term) → get_elem? shapes i ≡ some x → (o : Ob) → o ∈ (record { pat = x; pos = p } ∷ []) → RightOb shapes (freshOb p i x) o
     one i x a o (here d) = record { low = rw d (≼_refl p); is = rw (d, a, strip_self p) }
+    one i x a o (there x5) = elim x5 [ ]
 
 -- ---- reduced goals
 args_same : (p : Pos) (i n : ℕ) (ts : Terms) → map position (argObs p i n ts) ≡ args p i n ts
@@ -84,10 +85,13 @@ on_args p c (suc n) (tcons (blank w) us) o m k =
 on_args p c (suc n) (tcons (node g ws) us) o (here e) k = let z : c + 0 ≡ c = omega arith in k 0 (rw (z, e)) (rw e)
 on_args p c (suc n) (tcons (node g ws) us) o (there m) k =
     on_args p (suc c) n us o m (λ j e d. let z : suc c + j ≡ c + suc j = omega arith in k (suc j) (rw z at e) d)
+on_args {C = C} p c zero us o m k = elim m [ ]
+on_args {C = C} p c (suc n) tnil o m k = elim m [ ]
 
 on_args_of {κ} : {C : Type κ} (p : Pos) (n : ℕ) (t : Term) (o : Ob) → o ∈ argObsOf p n t
     → ((f : ℕ) (us : Terms) → t ≡ node f us → o ∈ argObs p 1 n us → C) → C
 on_args_of p n (node f us) o m k = k f us refl m
+on_args_of {C = C} p n (blank _) o m k = elim m [ ]
 
 spread : (b c d : Bool) → ((b || c) && d) ≡ ((b && d) || (c && d))
 spread true true true = refl
@@ -150,6 +154,7 @@ module _ (shapes : List Term) where
           let low : p ≼ g.ann = rw z (r x i).low in
           let w : owed shapes (forget position g) p ≡ some (node f us) = ap (owed shapes (forget position g)) z ∙ (r x i).is ∙ ap some eu in
           record { low = rw eo (≼_snoc ((1 + c) ∷ []) low); is = ap (owed shapes (forget position g)) eo ∙ owed_child g p f c us o.pat low w nu }
+      go x i false e (there x7) = elim x7 [ ]
 
   lifted_right : (c : Pos) (g : Goal Ob) → g.ann ≼ c → Right shapes g → Right shapes (lift_goal (paper shapes) c g)
   lifted_right c g up r o m = on_map ((paper shapes).lifted c) g.obs m λ x i d. rw d (go x (r x i))

@@ -66,6 +66,7 @@ module _ {S T : Type 0} (C : Construction S) (D : Construction T) (h : S → T) 
         where
           last : s ∈ (k ∷ []) → Right s
           last (here e) = rw e rk
+          last (there x6) = elim x6 [ ]
 
       go : (b : Bool) → SameMet (cond b (stopped ManyStates) (met (ss ++ (k ∷ [])) (record { to = length ss; by = c } ∷ [])))
           (cond b (stopped ManyStates) (met (map h (ss ++ (k ∷ []))) (record { to = length ss; by = c } ∷ [])))
@@ -140,6 +141,7 @@ module _ {S T : Type 0} (C : Construction S) (D : Construction T) (h : S → T) 
     where
       only : Rights (C.start ∷ [])
       only s (here e) = rw e sim.start_right
+      only s (there x4) = elim x4 [ ]
 
   words_same : (k n : ℕ) (ss : List S) (bs : List Block) → Rights ss → plan_words D k n (map h ss) bs ≡ plan_words C k n ss bs
   words_same k n ss bs rs =

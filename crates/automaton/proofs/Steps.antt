@@ -46,11 +46,13 @@ module _ (S : Setting) where
       → ((j : Item) → j ∈ js → j'.at ≡ j.at → Alike j.state j'.state → Reachable S j'.state → C) → C
   on_goes (one_goes {j} {j'} a b r n) i (here e) k = k j (here refl) (rw e a) (rw e b) (rw e r)
   on_goes (one_goes a b r n) i (there m) k = on_goes n i m (λ j l. k j (there l))
+  on_goes {C = C} Rattle.automaton.specs.Walking.none_go i x7 k = elim x7 [ ]
 
   pub goes_in {κ} : {C : Type κ} {js js' : List Item} → Goes S js js' → (j : Item) → j ∈ js
       → ((j' : Item) → j' ∈ js' → j'.at ≡ j.at → Alike j.state j'.state → C) → C
   goes_in (one_goes {j} {j'} a b r n) i (here e) k = k j' (here refl) (rw e a) (rw e b)
   goes_in (one_goes a b r n) i (there m) k = goes_in n i m (λ j l. k j (there l))
+  goes_in {C = C} Rattle.automaton.specs.Walking.none_go i x7 k = elim x7 [ ]
 
 module _ (C : Scored) where
   abbrev S : Setting
@@ -74,13 +76,16 @@ module _ (C : Scored) where
     where
       only : (it : Item) → it ∈ (record { state = initial K; at = [] } ∷ []) → Reachable S (initial K) → Reachable S it.state
       only it (here e) r = rw e r
+      only it (there x5) r = elim x5 [ ]
 
       at_root : (it : Item) → it ∈ (record { state = initial K; at = [] } ∷ []) → (o : Pos) → Owes it.state o → (u : Term)
           × (sub C.score (it.at ++ o) ≡ some u)
       at_root it (here e) = rw e (λ o m. (C.score, rw (initial_owes S o m)))
+      at_root it (there x4) = elim x4 [ ]
 
       fresh_known : (it : Item) → it ∈ (record { state = initial K; at = [] } ∷ []) → (g : Goal Pos) → g ∈ it.state → Known C [] it.at g
       fresh_known it (here e) = rw e (λ g m. on_initial S m λ j h d. rw d (known_fresh C [] [] [] j))
+      fresh_known it (there x4) = elim x4 [ ]
 
   -- one step, at one of the items
   module _ (before after : List Item) (R : List Pos) (told : List Announcement) (it : Item) (f : ℕ) (ts : Terms) (js : List Item) where
@@ -191,6 +196,7 @@ module _ (C : Scored) where
           is_new : q ∈ (looks S it ∷ []) → Due C.score items' R' told' i x q
           is_new (here e) = taken_due i x gx q (fresh L i)
               (sound.goals.fresh L (label_owes S it.state sound) i (at_below S.shapes i gx)) refl (sym e)
+          is_new (there x5) = elim x5 [ ]
 
       -- ---- W4
       -- an announcement of the step, by its goal
@@ -200,6 +206,7 @@ module _ (C : Scored) where
         where
           empty : (os : List Pos) → is_nil os ≡ true → {o : Pos} → o ∈ os → ⊥
           empty (o ∷ os) e m = false≢true e
+          empty [] e {o = o} m = elim m [ ]
 
           go : (g : Goal Pos) → g ∈ it.state → K.expects f L g ≡ true → is_nil (reduced K L (count ts) g).obs ≡ true
               → a ≡ record { shape = g.shape; at = it.at ++ g.ann }
@@ -255,6 +262,7 @@ module _ (C : Scored) where
         where
           this_inside : (q : Pos) → q ∈ (looks S it ∷ []) → (u : Term) × (sub C.score q ≡ some u)
           this_inside q (here e) = (node f ts, rw e node_is)
+          this_inside q (there x4) = elim x4 [ ]
 
   pub walked_invariant : {items : List Item} {R : List Pos} {told : List Announcement} → Walked C items R told → Invariant C items R told
   walked_invariant begin = begin_invariant

@@ -1,4 +1,5 @@
 #![tactic(auto)]
+
 use kinds::Node;
 
 pub mod checking; // the tables lent to later calls

@@ -1,4 +1,5 @@
 #![tactic(auto)]
+
 use kinds::Reason;
 use term::Met;
 

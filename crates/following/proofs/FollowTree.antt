@@ -4,7 +4,7 @@
 --   word_at_lem span_at_lem        the word and the span at a position's node
 --   follow_is follow_at        following by spans reaches the number of the position, if it has one
 --   target_is                  and so does following a code
-use mathlib.Core.Path.{◌≡◌, refl, ap, sym, ◌∙◌}
+use mathlib.Core.Path.{◌≡◌, refl, ap, sym, subst, ◌∙◌}
 use mathlib.Core.Bool.{true, false}
 use mathlib.Core.List.{List, [], ◌∷◌, ◌++◌, append_assoc, append-nil}
 use mathlib.Core.Option.{Option, none, some, map}
@@ -125,7 +125,8 @@ sibling_none S (tcons t ts) (suc j) c e h =
     let n : get_or S c 0 ≡ span t = head_span S c t (sizess ts) h in
     let p : Stands S (c + span t) (sizess ts) = rw length_sizes at (past S c (sizes t) (sizess ts) h) in
     let z : c + (span t + spans ts) ≡ c + span t + spans ts = omega arith in
-    rw (child_inside S (c + (span t + spans ts)) c t (sizess ts) h (omega arith), n, z) (sibling_none S ts j (c + span t) e p)
+    rw (child_inside S (c + (span t + spans ts)) c t (sizess ts) h (omega arith), n)
+    (subst (λ end. sibling S end j (c + span t) ≡ none) (sym z) (sibling_none S ts j (c + span t) e p))
 
 sibling_some : (S : List ℕ) (ts : Terms) (j c end : ℕ) (u : Term) → nth ts j ≡ some u → Stands S c (sizess ts) → c + spans ts ≤ end
     → (sibling S end j c ≡ some (c + skip ts j)) × Stands S (c + skip ts j) (sizes u)

@@ -1,4 +1,5 @@
 #![tactic(auto)]
+
 use kinds::Node;
 
 pub mod positions; // a position followed from a node by spans

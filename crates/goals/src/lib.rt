@@ -1,4 +1,5 @@
 #![tactic(auto)]
+
 use kinds::{Position, Shape};
 use tables::AREA_WORDS;
 
