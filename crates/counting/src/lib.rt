@@ -1,4 +1,5 @@
 #![tactic(auto)]
+
 use kinds::Reason;
 
 pub mod marks; // how many matches the marks hold

@@ -1,4 +1,5 @@
 #![tactic(auto)]
+
 use kinds::Reason;
 
 pub mod opening; // the call that opens a folio

@@ -1,4 +1,5 @@
 #![tactic(auto)]
+
 use kinds::{Node, Reason};
 
 pub mod starting; // a walk begins

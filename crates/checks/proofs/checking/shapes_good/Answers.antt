@@ -1,6 +1,9 @@
+use Rattle.kinds.specs.Limits.{blank_word}
 use Prim.Native.Nat.{ℕ}
 use mathlib.Core.Path.{sym, ◌∙◌}
+use native.Mathlib.Omega.{arith}
 use lib.ListN.{replicate, length-replicate}
+use Rattle.contents.proofs.LawsTables.{found_count}
 use Rattle.checks.proofs.LawsAgain.{again_symbols, again_refused, again_found}
 use Rattle.checks.proofs.checking.shapes_good.Goals as goal
 
@@ -11,6 +14,14 @@ pub returns-in-Refused : goal.returns-in-Refused
 returns-in-Refused c =
     sym (again_refused _ _ _ (sym c.test_symbols.ensures ∙ c.in-Good.is)
     (sym c.read_shapes.ensures.answer ∙ c.in-Refused.is))
+
+pub slice_bounds-equal-end : goal.slice_bounds-equal-end
+slice_bounds-equal-end c =
+    omega (
+      arith,
+      found_count c.args.symbols.now blank_word c.args.words.now _
+          (sym c.read_shapes.ensures.answer ∙ c.in-Whole.is),
+    )
 
 pub returns : goal.returns
 returns c =

@@ -11,6 +11,14 @@ pub slice_bounds-result-count-in-Whole : goal.slice_bounds-result-count-in-Whole
 slice_bounds-result-count-in-Whole c = let w = whole_in _ _ _ _ _ _ (sym c.read_term.ensures ∙ c.in-Whole.is) in
     omega (arith, w.some, w.inside)
 
+pub slice_bounds-result-start-in-Whole : goal.slice_bounds-result-start-in-Whole
+slice_bounds-result-start-in-Whole c = let w = whole_in _ _ _ _ _ _ (sym c.read_term.ensures ∙ c.in-Whole.is) in
+    omega (arith, w.some, w.inside)
+
+pub slice_bounds-result-end-in-Whole : goal.slice_bounds-result-end-in-Whole
+slice_bounds-result-end-in-Whole c = let w = whole_in _ _ _ _ _ _ (sym c.read_term.ensures ∙ c.in-Whole.is) in
+    omega (arith, w.some, w.inside)
+
 pub returns-in-Refused : goal.returns-in-Refused
 returns-in-Refused c = sym (piece_none _ _ _ _ _ (sym c.read_term.ensures ∙ c.in-Refused.is))
 

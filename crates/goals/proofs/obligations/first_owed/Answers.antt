@@ -6,6 +6,16 @@ use mathlib.Core.Path.{ap, ◌∙◌}
 use native.Mathlib.Omega.{arith}
 use Rattle.goals.proofs.obligations.first_owed.Goals as goal
 
+pub slice_bounds-first_of-end : goal.slice_bounds-first_of-end
+slice_bounds-first_of-end c =
+    omega (
+      arith,
+      c.owed-k.ensures.count,
+      owed_short c.args.tab.now c.args.g.shape.0 c.args.g.at.0 (size_of c.args.tab.now c.args.g.shape.0) 0 c.args.g.mask,
+      c.requires.0.sizes c.args.g.shape.0 c.requires.1,
+      c.owed-k.auto.out,
+    )
+
 pub returns : goal.returns
 returns c =
     let zs = replicate {A = ℕ} 16 0 in

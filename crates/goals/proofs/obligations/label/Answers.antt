@@ -4,6 +4,7 @@ use mathlib.Core.Logic.{⊎_elim}
 use mathlib.Core.Path.{refl, ap, sym, ◌∙◌}
 use native.Mathlib.Omega.{arith}
 use Rattle.goals.proofs.obligations.label.Goals as goal
+use Rattle.goals.proofs.obligations.label.Goals.{else-g, then-g}
 
 pub loop-left-init : goal.loop-left-init
 loop-left-init c = (refl, c.requires.low, refl)
@@ -20,20 +21,20 @@ pub loop-left-preserved : goal.loop-left-preserved
 loop-left-preserved c =
     let low = (low_next c.args.ws.now c.loop-left.here c.loop-left.left c.loop-left-test.true c.loop-left.invariant.1).1 in
     let at = ap (λ (x : Goal). x.at.0) c.goal_at-g.ensures in
-    ⊎_elim
-    (λ w. (
-      omega arith,
-      low,
-      c.loop-left.invariant.2 ∙ label_on c.args.tab.now c.args.ws.now c.loop-left.here c.loop-left.left c.loop-left.best c.loop-left-test.true
-          (sym at ∙ w.0.taken) ∙ rw (w.2, w.1.ensures, c.goal_at-g.ensures, sym at ∙ w.0.taken) refl,
-    ))
-    (λ w. (
-      omega arith,
-      low,
-      c.loop-left.invariant.2
-          ∙ rw w.1 (label_off c.args.tab.now c.args.ws.now c.loop-left.here c.loop-left.left c.loop-left.best c.loop-left-test.true (λ z. w.0.left (at ∙ z))),
-    ))
-    c.if-g.branch
+    elim c.if-g.branch [
+      | then-g w ↦ (
+        omega arith,
+        low,
+        c.loop-left.invariant.2 ∙ label_on c.args.tab.now c.args.ws.now c.loop-left.here c.loop-left.left c.loop-left.best c.loop-left-test.true
+            (sym at ∙ w.if-g.true) ∙ rw (w.best-is, w.first_owed-best.ensures, c.goal_at-g.ensures, sym at ∙ w.if-g.true) refl,
+      )
+      | else-g w ↦ (
+        omega arith,
+        low,
+        c.loop-left.invariant.2
+            ∙ rw w.best-is (label_off c.args.tab.now c.args.ws.now c.loop-left.here c.loop-left.left c.loop-left.best c.loop-left-test.true (λ z. w.if-g.false (at ∙ z))),
+      )
+    ]
 
 pub returns : goal.returns
 returns c = sym (c.loop-left.invariant.2 ∙ label_end _ _ _ _ _ c.loop-left-test.false)

@@ -5,6 +5,7 @@ use Rattle.goals.specs.GoalWords.{sizes_at}
 use Prim.Native.Nat.{◌+◌, ◌*◌}
 use native.Mathlib.Omega.{arith}
 use Rattle.goals.proofs.obligations.node_at.Goals as goal
+use Rattle.goals.proofs.obligations.node_at.Goals.{else-mask-eq1, then-mask-eq1+else-code_at-here}
 
 pub overflow_cast-left-2 : goal.overflow_cast-left-2
 overflow_cast-left-2 c = omega (arith, c.type_inv.tab (sizes_at + 16 * c.args.g.shape.0))
@@ -31,18 +32,18 @@ overflow_add-r c =
 
 pub loop-left-preserved : goal.loop-left-preserved
 loop-left-preserved c =
-    ⊎_elim
-    (λ w. (
-      omega arith,
-      c.loop-left.invariant.1 ∙ node_other c.args.tab.now c.args.g.shape.0 c.args.g.at.0 c.args.here.0 c.loop-left.left c.loop-left.r c.loop-left.mask
-          c.loop-left-test.true w.0.taken (λ e. w.3.left (w.1.ensures ∙ e)),
-    ))
-    (λ w. (
-      omega arith,
-      c.loop-left.invariant.1 ∙ node_off c.args.tab.now c.args.g.shape.0 c.args.g.at.0 c.args.here.0 c.loop-left.left c.loop-left.r c.loop-left.mask
-          c.loop-left-test.true w.left,
-    ))
-    c.if-mask-eq1.branch
+    elim c.if-mask-eq1.branch [
+      | then-mask-eq1+else-code_at-here w ↦ (
+        omega arith,
+        c.loop-left.invariant.1 ∙ node_other c.args.tab.now c.args.g.shape.0 c.args.g.at.0 c.args.here.0 c.loop-left.left c.loop-left.r c.loop-left.mask
+            c.loop-left-test.true w.if-mask-eq1.true (λ e. w.if-code_at-here.false (w.code_at.ensures ∙ e)),
+      )
+      | else-mask-eq1 w ↦ (
+        omega arith,
+        c.loop-left.invariant.1 ∙ node_off c.args.tab.now c.args.g.shape.0 c.args.g.at.0 c.args.here.0 c.loop-left.left c.loop-left.r c.loop-left.mask
+            c.loop-left-test.true w.if-mask-eq1.false,
+      )
+    ]
 
 pub returns : goal.returns
 returns c = sym (c.loop-left.invariant.1 ∙ node_end _ _ _ _ _ _ _ c.loop-left-test.false)

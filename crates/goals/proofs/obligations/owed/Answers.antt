@@ -7,6 +7,7 @@ use lib.ListN.{length, length-set}
 use Prim.Native.Nat.{◌+◌, ◌-◌, ◌*◌, ◌/◌}
 use native.Mathlib.Omega.{arith}
 use Rattle.goals.proofs.obligations.owed.Goals as goal
+use Rattle.goals.proofs.obligations.owed.Goals.{else-mask-eq1, then-mask-eq1}
 
 pub overflow_cast-left-2 : goal.overflow_cast-left-2
 overflow_cast-left-2 c = omega (arith, c.type_inv.tab (sizes_at + 16 * c.args.g.shape.0))
@@ -40,24 +41,24 @@ overflow_add-r c =
 
 pub loop-left-preserved : goal.loop-left-preserved
 loop-left-preserved c =
-    ⊎_elim
-    (λ w. let e = owed_on c.args.tab.now c.args.g.shape.0 c.args.g.at.0 c.loop-left.left c.loop-left.r c.loop-left.mask c.loop-left-test.true w.0.taken in (
-      ap length w.2 ∙ length-set c.loop-left.out c.loop-left.k _ ∙ c.loop-left.invariant.0,
-      omega arith,
-      omega (arith, w.3),
-      omega (arith, w.3, ap length e),
-      rw (w.2, w.3, w.1.ensures) (c.loop-left.invariant.4 ∙ ap (sets c.loop-left.out c.loop-left.k) e
-          ∙ run_on c.loop-left.out c.loop-left.k (code_at c.args.tab.now c.args.g.shape.0 c.args.g.at.0 c.loop-left.r)
-          (owed_from c.args.tab.now c.args.g.shape.0 c.args.g.at.0 (c.loop-left.left - 1) (c.loop-left.r + 1) (c.loop-left.mask / 2))),
-    ))
-    (λ w. let e = owed_off c.args.tab.now c.args.g.shape.0 c.args.g.at.0 c.loop-left.left c.loop-left.r c.loop-left.mask c.loop-left-test.true w.0.left in (
-      ap length w.1 ∙ c.loop-left.invariant.0,
-      omega arith,
-      omega (arith, w.2),
-      omega (arith, w.2, ap length e),
-      rw (w.1, w.2) (c.loop-left.invariant.4 ∙ ap (sets c.loop-left.out c.loop-left.k) e),
-    ))
-    c.if-mask-eq1.branch
+    elim c.if-mask-eq1.branch [
+      | then-mask-eq1 w ↦ let e = owed_on c.args.tab.now c.args.g.shape.0 c.args.g.at.0 c.loop-left.left c.loop-left.r c.loop-left.mask c.loop-left-test.true w.if-mask-eq1.true in (
+        ap length w.out-is ∙ length-set c.loop-left.out c.loop-left.k _ ∙ c.loop-left.invariant.0,
+        omega arith,
+        omega (arith, w.k-is),
+        omega (arith, w.k-is, ap length e),
+        rw (w.out-is, w.k-is, w.code_at.ensures) (c.loop-left.invariant.4 ∙ ap (sets c.loop-left.out c.loop-left.k) e
+            ∙ run_on c.loop-left.out c.loop-left.k (code_at c.args.tab.now c.args.g.shape.0 c.args.g.at.0 c.loop-left.r)
+            (owed_from c.args.tab.now c.args.g.shape.0 c.args.g.at.0 (c.loop-left.left - 1) (c.loop-left.r + 1) (c.loop-left.mask / 2))),
+      )
+      | else-mask-eq1 w ↦ let e = owed_off c.args.tab.now c.args.g.shape.0 c.args.g.at.0 c.loop-left.left c.loop-left.r c.loop-left.mask c.loop-left-test.true w.if-mask-eq1.false in (
+        ap length w.out-is ∙ c.loop-left.invariant.0,
+        omega arith,
+        omega (arith, w.k-is),
+        omega (arith, w.k-is, ap length e),
+        rw (w.out-is, w.k-is) (c.loop-left.invariant.4 ∙ ap (sets c.loop-left.out c.loop-left.k) e),
+      )
+    ]
 
 pub returns : goal.returns
 returns c =

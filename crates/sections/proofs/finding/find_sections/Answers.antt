@@ -1,10 +1,15 @@
+use native.Mathlib.Omega.{arith}
 use native.Mathlib.Nat.{sub-zero}
 use Prim.Native.Nat.{ℕ}
 use mathlib.Core.Path.{ap, sym, ◌∙◌}
 use lib.ListN.{take}
 use Rattle.sections.specs.Sections.{symbols_of}
-use Rattle.sections.proofs.LawsSections.{sections_good, sections_symbols, sections_trailer}
+use Rattle.sections.proofs.LawsSections.{trailer_in, sections_good, sections_symbols, sections_trailer}
 use Rattle.sections.proofs.finding.find_sections.Goals as goal
+
+pub slice_bounds-test_symbols-end : goal.slice_bounds-test_symbols-end
+slice_bounds-test_symbols-end c = let d = trailer_in c.args.file.now _
+    (sym c.trailer.ensures ∙ c.in-At.is) in omega (arith, d.first, d.second, d.size)
 
 pub returns-in-Refused : goal.returns-in-Refused
 returns-in-Refused c = sym (sections_trailer _ (sym c.trailer.ensures ∙ c.in-Refused.is))
