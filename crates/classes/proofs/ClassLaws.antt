@@ -12,7 +12,7 @@ use Rattle.automaton.specs.Classes.{leads}
 use Rattle.goals.specs.GoalWords.{goals_from, flat}
 use Rattle.goals.specs.WordStages.{picked_w}
 use Rattle.goals.proofs.GoalLaws.{goals_next, goals_end}
-use Rattle.deriving.proofs.OrderLaws.{picked_none}
+use Rattle.derivatives.proofs.OrderLaws.{picked_none}
 
 -- the row from j on, with its own place i - j further
 pub leads_no : (row : List Bool) (i j : ℕ) → j < length row → j < i → get_or row j false ≡ true → leads (i - j) (drop j row) ≡ false

@@ -2,8 +2,8 @@ ghost use Rattle.std.specs.Prelude.{◌≡◌, false, [], ◌<◌, get_or};
 ghost use Rattle.automaton.specs.Classes.{leads};
 ghost use Rattle.goals.specs.GoalWords.{flat};
 ghost use Rattle.classes.specs.Squares.{IsSquare, ClassRoom};
-ghost use Rattle.deriving.specs.Orders.{class_at};
-ghost use Rattle.deriving.specs.Passes.{Puts};
+ghost use Rattle.derivatives.specs.Orders.{class_at};
+ghost use Rattle.derivatives.specs.Passes.{Puts};
 
 use goals::words::{goal_at, put_goal};
 

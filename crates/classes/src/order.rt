@@ -2,11 +2,11 @@ ghost use Rattle.std.specs.Prelude.{◌≡◌};
 ghost use Rattle.kinds.specs.Lists.{gather};
 ghost use Rattle.goals.specs.GoalWords.{owed_by, no_code, first_code};
 ghost use Rattle.classes.specs.Squares.{RowOf, Orderable};
-ghost use Rattle.deriving.specs.Orders.{class_at, lead_items};
-ghost use Rattle.deriving.specs.Passes.{Arranged};
+ghost use Rattle.derivatives.specs.Orders.{class_at, lead_items};
+ghost use Rattle.derivatives.specs.Passes.{Arranged};
 
 use crate::members::leader;
-use deriving::sorting::arrange;
+use derivatives::sorting::arrange;
 use goals::NO_CODE;
 use goals::obligations::{first_owed, padded};
 use goals::words::goal_at;

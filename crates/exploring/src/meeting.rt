@@ -2,11 +2,11 @@ ghost use Rattle.std.specs.Prelude.{List, [], ◌<◌, ◌≤◌, length};
 ghost use Rattle.automaton.specs.Exploring.{Block, meet as meets-one, meets, row, explored};
 ghost use Rattle.decoding.specs.WordMachine.{words as machine, state_in, states_in, used_words, Kept};
 ghost use Rattle.decoding.specs.GoodStates.{Ready};
-ghost use Rattle.deriving.specs.Orders.{class_at};
+ghost use Rattle.derivatives.specs.Orders.{class_at};
 ghost use Rattle.states.specs.Meeting.{Held, Behind, ClassMeetable, ClassesMeetable, MetIs, SymbolIs, RowIs, ExploredIs};
 ghost use Rattle.states.specs.Parting.{OnSymbol, classes_by};
 
-use deriving::derivative::put_fresh;
+use derivatives::derivative::put_fresh;
 use goals::obligations::label;
 use kinds::{Position, Reason, State, Symbol};
 use states::keeping::{find_state, lift_behind, place_in};

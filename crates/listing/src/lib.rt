@@ -1,4 +1,5 @@
 #![tactic(auto)]
+
 use kinds::Reason;
 use walk::Record;
 

@@ -17,8 +17,8 @@ use Rattle.automaton.specs.FinalBlocks.{succ_of}
 use Rattle.goals.specs.GoalWords.{GoalWords, goals_from, flat, GoalsIn}
 use Rattle.goals.specs.WordStages.{lift_w, displacement_w, lifted_w}
 use Rattle.decoding.specs.WordMachine.{words, place_in, states_in, Kept}
-use Rattle.deriving.specs.Orders.{class_at}
-use Rattle.deriving.specs.Passes.{Puts, Lifts}
+use Rattle.derivatives.specs.Orders.{class_at}
+use Rattle.derivatives.specs.Passes.{Puts, Lifts}
 use Rattle.automaton.specs.Classes.{Square}
 use Rattle.states.specs.Meeting.{place_of, LiftsBehind, Behind, Spared, ClassMeetable, MetIs}
 use Rattle.states.specs.Parting.{derived_words}

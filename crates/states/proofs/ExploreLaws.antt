@@ -28,7 +28,7 @@ use Rattle.goals.specs.GoalWords.{GoalWords, goals_from, flat, label_code}
 use Rattle.goals.specs.WordStages.{freshes_w, fresh_w, reduct, ann_key, announces, outputs_w}
 use Rattle.decoding.specs.WordMachine.{words, announcement_w, place_in, state_in, states_in, used_words, Kept}
 use Rattle.decoding.specs.GoodStates.{Ready, GoodState}
-use Rattle.deriving.specs.Orders.{class_at}
+use Rattle.derivatives.specs.Orders.{class_at}
 use Rattle.automaton.specs.Classes.{Square}
 use Rattle.states.specs.Meeting.{Held, Behind, Spared, blocks_length, row_most, ClassesMet, MetIs, SymbolIs, RowIs, ExploredIs}
 use Rattle.states.specs.Parting.{OnSymbol, firsts, classes_by, Parted}

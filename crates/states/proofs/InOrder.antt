@@ -23,9 +23,9 @@ use Rattle.automaton.proofs.Closure.{close_chain}
 use Rattle.goals.specs.GoalWords.{GoalWords, goal_w, goal_at, goals_from}
 use Rattle.goals.specs.WordStages.{dep_w, picked_w, closed_w, class_key, classes_w, ann_key, announces, outputs_w}
 use Rattle.classes.specs.Squares.{shares, Closes}
-use Rattle.deriving.specs.Orders.{keyed, class_at, begins, lead_items, goal_on, goes_out, out_items}
+use Rattle.derivatives.specs.Orders.{keyed, class_at, begins, lead_items, goal_on, goes_out, out_items}
 use Rattle.goals.proofs.GoalLaws.{goals_length, goals_at}
-use Rattle.deriving.proofs.OrderLaws.{keyed_place, item_place, passing, sort_keyed}
+use Rattle.derivatives.proofs.OrderLaws.{keyed_place, item_place, passing, sort_keyed}
 
 -- ---- rows that agree
 leads_same : (i : ℕ) (r s : List Bool) → ((b : ℕ) → b ≤ i → get_or r b false ≡ get_or s b false) → leads i r ≡ leads i s

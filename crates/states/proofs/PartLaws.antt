@@ -22,10 +22,10 @@ use Rattle.kinds.proofs.Places.{get_elem_some, get_d_in}
 use Rattle.automaton.specs.Classes.{Square}
 use Rattle.goals.specs.GoalWords.{GoalWords, goals_from, flat, label_code, Low, Stored}
 use Rattle.goals.specs.WordStages.{deriv_w, classes_w, class_key, ann_key, outputs_w}
-use Rattle.deriving.specs.Orders.{keyed, class_at, begins, lead_items, goal_on, goes_out, out_items}
-use Rattle.deriving.specs.Passes.{PutsFirst, Derivable, Arranged}
-use Rattle.deriving.proofs.SortLaws.{sort_length}
-use Rattle.deriving.proofs.OrderLaws.{keyed_count}
+use Rattle.derivatives.specs.Orders.{keyed, class_at, begins, lead_items, goal_on, goes_out, out_items}
+use Rattle.derivatives.specs.Passes.{PutsFirst, Derivable, Arranged}
+use Rattle.derivatives.proofs.SortLaws.{sort_length}
+use Rattle.derivatives.proofs.OrderLaws.{keyed_count}
 use Rattle.classes.specs.Squares.{shares, Closes}
 use Rattle.decoding.specs.WordMachine.{words, place_in, state_in, states_in}
 use Rattle.decoding.specs.GoodStates.{GoodState}

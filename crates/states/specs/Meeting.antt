@@ -22,7 +22,7 @@ use Rattle.automaton.specs.PlanWords.{block_words}
 use Rattle.automaton.specs.Classes.{Square}
 use Rattle.goals.specs.GoalWords.{GoalWords}
 use Rattle.goals.specs.WordStages.{same_state_w}
-use Rattle.deriving.specs.Passes.{Lifts}
+use Rattle.derivatives.specs.Passes.{Lifts}
 use Rattle.classes.specs.Squares.{Squared}
 use Rattle.decoding.specs.WordMachine.{words, place_in, state_in, states_in, used_words, Kept}
 use Rattle.decoding.specs.GoodStates.{GoodState}

@@ -11,7 +11,7 @@ use Rattle.std.specs.Prelude.{◌≡◌, List, map, ℕ, ◌-◌, ◌%◌, ◌<�
 use Rattle.automaton.specs.Classes.{Square}
 use Rattle.goals.specs.GoalWords.{GoalWords, label_code}
 use Rattle.goals.specs.WordStages.{outputs_w}
-use Rattle.deriving.specs.Orders.{class_at, goal_on}
+use Rattle.derivatives.specs.Orders.{class_at, goal_on}
 use Rattle.classes.specs.Squares.{IsSquare, Squared}
 use Rattle.decoding.specs.WordMachine.{words, place_in, used_words, state_in}
 use Rattle.decoding.specs.GoodStates.{GoodState}

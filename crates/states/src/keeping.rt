@@ -1,13 +1,13 @@
 ghost use Rattle.std.specs.Prelude.{◌≡◌, ◌≤◌};
 ghost use Rattle.goals.specs.GoalWords.{goals_from};
-ghost use Rattle.deriving.specs.Orders.{class_at};
+ghost use Rattle.derivatives.specs.Orders.{class_at};
 ghost use Rattle.decoding.specs.WordMachine.{place_in, states_in, Kept};
 ghost use Rattle.states.specs.Meeting.{place_of, ClassMeetable, LiftsBehind};
 
 use crate::{Class, STATES};
 use classes::members::put_class;
 use classes::same::same_state;
-use deriving::lift::lift_class;
+use derivatives::lift::lift_class;
 
 // The words of a state of 32 goals.
 const STATE_WORDS: usize = 96;

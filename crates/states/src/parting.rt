@@ -5,8 +5,8 @@ use crate::Parts;
 use crate::keeping::place_in;
 use classes::order::class_order;
 use classes::square::dependency;
-use deriving::announce::outputs;
-use deriving::derivative::derive;
+use derivatives::announce::outputs;
+use derivatives::derivative::derive;
 use kinds::{Position, State, Symbol};
 
 // A state with its label, on a symbol: the goals announced into `out`, the derivative into `goals`, the dependency among its goals into `dep`, and the

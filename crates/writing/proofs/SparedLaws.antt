@@ -11,7 +11,7 @@ use Rattle.automaton.specs.PlanWords.{block_words}
 use Rattle.automaton.specs.FinalBlocks.{block_of, blocks_of, SmallOn}
 use Rattle.goals.specs.GoalWords.{GoalWords, goals_from, label_code}
 use Rattle.decoding.specs.WordMachine.{words, place_in, state_in, states_in, Kept}
-use Rattle.deriving.specs.Passes.{Puts}
+use Rattle.derivatives.specs.Passes.{Puts}
 use Rattle.states.specs.Meeting.{place_of, Spared}
 use Rattle.writing.specs.RowWords.{block_in, row_words, BlockWritable, RowWritable, RowWritten}
 use Rattle.states.proofs.StateLaws.{spared_state, spared_states, spared_kept}

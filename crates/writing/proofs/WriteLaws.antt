@@ -27,8 +27,8 @@ use Rattle.goals.specs.GoalWords.{GoalWords, label_code}
 use Rattle.goals.specs.WordStages.{outputs_w, same_state_w, displacement_w, lifted_w}
 use Rattle.decoding.specs.WordMachine.{words, announcement_w, place_in, state_in, states_in, Kept}
 use Rattle.decoding.specs.GoodStates.{GoodState}
-use Rattle.deriving.specs.Orders.{class_at, goal_on}
-use Rattle.deriving.specs.Passes.{Puts}
+use Rattle.derivatives.specs.Orders.{class_at, goal_on}
+use Rattle.derivatives.specs.Passes.{Puts}
 use Rattle.states.specs.Meeting.{place_of}
 use Rattle.states.specs.Parting.{OnSymbol, firsts, Parted}
 use Rattle.states.specs.declared.Parts.{Parts}

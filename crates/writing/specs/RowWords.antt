@@ -21,7 +21,7 @@ pub use Rattle.automaton.specs.FinalBlocks.{block_of, all_blocks, SmallOn}
 use Rattle.automaton.specs.PlanWords.{block_words, starts_from, plan_words}
 use Rattle.goals.specs.GoalWords.{GoalWords, label_code}
 use Rattle.goals.specs.WordStages.{displacement_w, lifted_w}
-use Rattle.deriving.specs.Orders.{class_at, goal_on}
+use Rattle.derivatives.specs.Orders.{class_at, goal_on}
 use Rattle.classes.specs.Squares.{Squared}
 use Rattle.decoding.specs.WordMachine.{words, state_in, states_in, Kept}
 use Rattle.decoding.specs.GoodStates.{Ready}

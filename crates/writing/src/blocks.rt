@@ -1,8 +1,8 @@
 ghost use Rattle.std.specs.Prelude.{◌≡◌, [], ◌∷◌};
 ghost use Rattle.std.proofs.lemmas.List.Edits.{sets};
 ghost use Rattle.goals.specs.WordStages.{displacement_w, lifted_w};
-ghost use Rattle.deriving.specs.Orders.{class_at};
-ghost use Rattle.deriving.specs.Passes.{Puts};
+ghost use Rattle.derivatives.specs.Orders.{class_at};
+ghost use Rattle.derivatives.specs.Passes.{Puts};
 ghost use Rattle.decoding.specs.WordMachine.{states_in};
 ghost use Rattle.states.specs.Meeting.{place_of, Spared};
 ghost use Rattle.writing.specs.RowWords.{block_in, plan_in, out_words, succ_words, SuccessorWritable, SuccessorsWritable, OutputsWritable, BlockWritable, RowWritable, RowWritten, Writable};

@@ -1,4 +1,4 @@
-use Rattle.deriving.proofs.DeriveLaws.{run_three}
+use Rattle.derivatives.proofs.DeriveLaws.{run_three}
 use Rattle.classes.proofs.ClassLaws.{Left, pick_on, pick_off, pick_end, pick_all}
 use Rattle.goals.specs.GoalWords.{goals_from, flat}
 use Rattle.goals.specs.WordStages.{picked_w}

@@ -1,5 +1,5 @@
-use Rattle.deriving.proofs.OrderLaws.{Listed, listed_begin, listed_on, listed_off, listed_end, key_of, key_small}
-use Rattle.deriving.specs.Orders.{begins, class_at}
+use Rattle.derivatives.proofs.OrderLaws.{Listed, listed_begin, listed_on, listed_off, listed_end, key_of, key_small}
+use Rattle.derivatives.specs.Orders.{begins, class_at}
 use Rattle.goals.specs.GoalWords.{pad}
 use Rattle.goals.specs.WordStages.{class_key}
 use Prim.Native.Nat.{◌+◌, ◌-◌, ◌*◌}
@@ -14,7 +14,7 @@ use Rattle.classes.proofs.order.class_order.Lts as lts
 use Rattle.classes.proofs.members.leader.Reads as leader-reads
 use Rattle.goals.proofs.obligations.padded.Reads as padded-reads
 use Rattle.classes.proofs.order.first_in_row.Reads as first-in-row-reads
-use Rattle.deriving.proofs.sorting.arrange.Reads as arrange-reads
+use Rattle.derivatives.proofs.sorting.arrange.Reads as arrange-reads
 
 abbrev invariant-loop : tie.invariant-loop
 invariant-loop tab ws n dep items₀ k₀ i₀ items k i = Listed (begins dep) (λ x. class_key tab (class_at dep ws n x)) n items₀ items k i

@@ -1,6 +1,6 @@
 use Rattle.goals.proofs.GoalLaws.{stored_first}
 use Rattle.goals.specs.GoalWords.{no_code}
-use Rattle.deriving.proofs.OrderLaws.{first_from, first_on, first_off, first_end, first_all}
+use Rattle.derivatives.proofs.OrderLaws.{first_from, first_on, first_off, first_end, first_all}
 use Prim.Native.Nat.{◌≤◌, ◌<◌, ◌-◌}
 use lib.ListN.{length, get_or}
 use mathlib.Core.List.{[]}

@@ -9,7 +9,7 @@ use Rattle.exploring.proofs.meeting.explore.Statement.{statement}
 use Rattle.exploring.proofs.meeting.explore.Tie as tie
 use Rattle.exploring.proofs.meeting.explore.Reads as reads
 use Rattle.exploring.proofs.meeting.explore.Lts as lts
-use Rattle.deriving.proofs.derivative.put_fresh.Reads as put-fresh-reads
+use Rattle.derivatives.proofs.derivative.put_fresh.Reads as put-fresh-reads
 use Rattle.exploring.proofs.meeting.explore_state.Reads as explore-state-reads
 use Rattle.states.proofs.keeping.place_in.Reads as place-in-reads
 

@@ -6,7 +6,7 @@ use Rattle.states.proofs.keeping.lift_behind.Tie as tie
 use Rattle.states.proofs.keeping.lift_behind.Reads as reads
 use Rattle.states.proofs.keeping.lift_behind.Lts as lts
 use Rattle.classes.proofs.members.put_class.Reads as put-class-reads
-use Rattle.deriving.proofs.lift.lift_class.Reads as lift-class-reads
+use Rattle.derivatives.proofs.lift.lift_class.Reads as lift-class-reads
 use Rattle.states.proofs.keeping.place_in.Reads as place-in-reads
 
 place-in-requires : tie.Need-place-in-requires

@@ -7,8 +7,8 @@ use Rattle.states.proofs.parting.part.Reads as reads
 use Rattle.states.proofs.parting.part.Lts as lts
 use Rattle.classes.proofs.order.class_order.Reads as class-order-reads
 use Rattle.classes.proofs.square.dependency.Reads as dependency-reads
-use Rattle.deriving.proofs.announce.outputs.Reads as outputs-reads
-use Rattle.deriving.proofs.derivative.derive.Reads as derive-reads
+use Rattle.derivatives.proofs.announce.outputs.Reads as outputs-reads
+use Rattle.derivatives.proofs.derivative.derive.Reads as derive-reads
 use Rattle.states.proofs.keeping.place_in.Reads as place-in-reads
 
 cast-i : tie.Need-overflow-cast-i

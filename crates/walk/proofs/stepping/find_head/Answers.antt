@@ -47,6 +47,6 @@ returns-in-Nowhere-block_start c =
 
 pub returns-in-At-block_start : goal.returns-in-At-block_start
 returns-in-At-block_start c =
-    sym (law.head_at_lem _ _ _ _ _ (sym c.counts_good-good.ensures ∙ not-false _ c.if-not-good.false) c.in-At.p.0
+    sym (law.head_at_lem _ _ _ _ _ (sym c.counts_good-good.ensures ∙ not-false _ c.if-not-good.false-raw) c.in-At.p.0
     (sym c.state_label.ensures ∙ c.in-At.is) c.in-At-follow.x.0 (aims.reached_at _ _ (sym c.follow.ensures ∙ c.in-At-follow.is))
     c.in-At-block_start.b (sym c.block_start.ensures ∙ ap begins c.in-At-block_start.is))

@@ -1,5 +1,5 @@
 use Rattle.writing.proofs.WriteLaws.{two_stores, Paired, paired_begin, paired_room, paired_on, paired_end}
-use Rattle.deriving.specs.Orders.{goal_on}
+use Rattle.derivatives.specs.Orders.{goal_on}
 use lib.ListN.{length, get_or, length-set}
 use Prim.Native.Nat.{◌+◌, ◌-◌, ◌*◌, ◌%◌}
 use mathlib.Core.Path.{refl, ◌∙◌}

@@ -4,7 +4,7 @@ use Rattle.writing.proofs.SparedLaws.{spared_successor}
 use Rattle.states.specs.Meeting.{place_of, Spared}
 use Rattle.goals.specs.WordStages.{displacement_w, lifted_w}
 use Rattle.decoding.specs.WordMachine.{states_in}
-use Rattle.deriving.specs.Orders.{class_at}
+use Rattle.derivatives.specs.Orders.{class_at}
 use lib.ListN.{length, length-set}
 use Prim.Native.Nat.{◌-◌, ◌%◌}
 use mathlib.Core.Path.{refl, ◌∙◌}
