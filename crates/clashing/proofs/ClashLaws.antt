@@ -83,6 +83,7 @@ get_d_zeros (suc n) (suc y) = get_d_zeros n y
 -- ---- the nodes of each match; no match has one twice
 module _ (N : Match → List ℕ) (y : ℕ) where
   two_touch : (all : List Match) (m o : Match) → m ∈ all → o ∈ all → Other m o → y ∈ N m → y ∈ N o → 1 < times y (gather N all)
+  two_touch mathlib.Core.List.[] m o x5 _ h i j = elim x5 [ ]
   two_touch (a ∷ all) m o (here e) (here d) h i j = absurd (same_other m o (e ∙ sym d) h)
   two_touch (a ∷ all) m o (here e) (there q) h i j =
       let own = in_times y (N a) (rw e at i) in
@@ -98,6 +99,7 @@ module _ (N : Match → List ℕ) (y : ℕ) where
 
   on_two {κ} : {C : Type κ} → ((m : Match) → times y (N m) ≤ 1) → (all : List Match) → Pairwise Other all → (m : Match) → m ∈ all
       → 1 < times y (gather N all) → ((o : Match) → o ∈ all → Other m o → y ∈ N o → C) → C
+  on_two {C = C} once mathlib.Core.List.[] p m x4 h c = elim x4 [ ]
   on_two once (a ∷ all) p m (here e) h c =
       let l = once a in
       let s = times_append y (N a) (gather N all) in

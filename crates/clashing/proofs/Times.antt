@@ -33,6 +33,7 @@ times_append y (x ∷ xs) ys = rw (times_append y xs ys) (omega arith)
 pub in_times : (y : ℕ) (xs : List ℕ) → y ∈ xs → 1 ≤ times y xs
 in_times y (x ∷ xs) (here e) = rw (eq-eqb x y (sym e)) (omega arith)
 in_times y (x ∷ xs) (there m) = let h = in_times y xs m in omega arith
+in_times y [] x' = elim x' [ ]
 
 pub times_in : (y : ℕ) (xs : List ℕ) → 1 ≤ times y xs → y ∈ xs
 times_in y [] h = absurd (omega arith)

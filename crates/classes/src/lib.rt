@@ -1,4 +1,5 @@
 #![tactic(auto)]
+
 mod closure; // a square closed transitively
 pub mod square; // the dependency among goals
 pub mod members; // a class's goals

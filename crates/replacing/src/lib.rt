@@ -1,4 +1,5 @@
 #![tactic(auto)]
+
 pub mod putting; // the call
 mod finished; // what is never replaced
 mod linking; // whether a replacement is one tree

@@ -1,4 +1,5 @@
 #![tactic(auto)]
+
 use kinds::Reason;
 
 pub mod lines; // the lines of the report

@@ -81,6 +81,7 @@ module _ {C : Scored} (F : OneFolio C) where
       marks_long = leb_is _ _ (and_r (leb (length (score_in F)) (length w.log)) r)
 
       one_item : (y : ℕ × Pos) → y ∈ ((0, []) ∷ []) → y.0 < length ss
+      one_item y (Rattle.kinds.specs.Members.there x4) = elim x4 [ ]
       one_item y (here e) = let a = at_below ss 0 made.first in let b : y.0 ≡ 0 = ap (λ z. z.0) e in omega arith
 
       clean : (p : Pos) (u : Term) → sub t p ≡ some u → get_or (onto zeros w.marks) (num t p) 0 ≡ 0
