@@ -43,6 +43,7 @@ tops_of T [] h = none
 tops_of T (g ∷ s) h = let b = h g (here refl) in more b.by b.eq (tops_of T s (λ x m. h x (there m)))
 
 top_in : (T : Pos) (s : State Pos) (g : Goal Pos) → g ∈ s → g.ann ≡ T → TopIn T s
+top_in T [] g x'' a = elim x'' [ ]
 top_in T (x ∷ s) g (here e) a = now (ap (λ y. y.ann) (sym e) ∙ a)
 top_in T (x ∷ s) g (there m) a = late (top_in T s g m a)
 

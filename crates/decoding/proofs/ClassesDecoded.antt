@@ -77,6 +77,7 @@ module _ (shapes : List Term) (tab : List ℕ) (tables : (s : ℕ) → s < lengt
       (λ e. let i : w.some_ob ∈ [] = subst (λ os. w.some_ob ∈ os) e w.owed in in_none i))
 
   first_fit : (gs : List GoalWords) → Owing gs → Fit (first_of gs ∷ [])
+  first_fit gs w q (Rattle.kinds.specs.Members.there x4) = elim x4 [ ]
   first_fit gs w q (here e) =
       let x = first_in (bare shapes) (all_obs (state_meant shapes gs)) w.owed in
       all_fit gs w.fine q (rw (e, ← x.2) x.1)

@@ -73,6 +73,7 @@ from_top T (g ∷ s) (more q e m) =
     ap (λ p. gcp_from p s) (ap₂ common_prefix (sym (append-nil T)) e ∙ join_append T [] q ∙ append-nil T) ∙ from_top T s m
 
 from_any : (T q : Pos) (s : (State Pos)) → Tops T s → TopIn T s → gcp_from (T ++ q) s ≡ T
+from_any T q [] _ x3 = elim x3 [ ]
 from_any T q (g ∷ s) (more r e m) (now z) =
     ap (λ p. gcp_from p s) (ap (common_prefix (T ++ q)) (z ∙ sym (append-nil T)) ∙ join_append T q [] ∙ ap (λ x. T ++ x) (join_nil q) ∙ append-nil T)
     ∙ from_top T s m
@@ -80,12 +81,14 @@ from_any T q (g ∷ s) (more r e m) (late i) =
     ap (λ p. gcp_from p s) (ap (common_prefix (T ++ q)) e ∙ join_append T q r) ∙ from_any T (common_prefix q r) s m i
 
 pub top_is_gcp : (T : Pos) (s : (State Pos)) → Tops T s → TopIn T s → gcp s ≡ T
+top_is_gcp T [] _ x3 = elim x3 [ ]
 top_is_gcp T (g ∷ s) (more q e m) (now z) = ap (λ p. gcp_from p s) z ∙ from_top T s m
 top_is_gcp T (g ∷ s) (more q e m) (late i) = ap (λ p. gcp_from p s) e ∙ from_any T q s m i
 
 module _ (shapes : List Term) (T : Pos) where
   above : (gs : List GoalWords) → ((g : GoalWords) → g ∈ gs → g.an < codes_end) → Tops T (state_meant shapes gs) → (g : GoalWords) → g ∈ gs
       → code T ≤ g.an
+  above [] s _ g x4 = elim x4 [ ]
   above (h ∷ gs) s (more q e m) g (here z) =
       let c = code_of_lem 7 h.an (s h (here refl)) in
       let d = ap code e in
@@ -94,6 +97,7 @@ module _ (shapes : List Term) (T : Pos) where
   above (h ∷ gs) s (more q e m) g (there i) = above gs (λ k j. s k (there j)) m g i
 
   met : (gs : List GoalWords) → ((g : GoalWords) → g ∈ gs → g.an < codes_end) → TopIn T (state_meant shapes gs) → Met (code T) gs
+  met [] s x'' = elim x'' [ ]
   met (h ∷ gs) s (now z) = record { who = h; at = here refl; is = sym (code_of_lem 7 h.an (s h (here refl))) ∙ ap code z }
   met (h ∷ gs) s (late i) = let w = met gs (λ k j. s k (there j)) i in record { who = w.who; at = there w.at; is = w.is }
 

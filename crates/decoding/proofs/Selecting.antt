@@ -34,6 +34,7 @@ module _ {ℓ} {A : Type ℓ} where
 
   pub select_sub : (m : ℕ) (xs : List A) {y : A} → y ∈ select m xs → y ∈ xs
   unfolding select
+  select_sub m [] {y = y} i = elim i [ ]
   select_sub m (x ∷ xs) {y} i = go (eqb (m % 2) 1) i (λ j. select_sub (m / 2) xs j)
     where
       go : (b : Bool) → y ∈ cond b (x ∷ select (m / 2) xs) (select (m / 2) xs) → (y ∈ select (m / 2) xs → y ∈ xs) → y ∈ (x ∷ xs)

@@ -46,6 +46,7 @@ mutual
 
 -- an earlier child's positions
 pub doms_later : (ts : Terms) (i k : ℕ) (p q : Pos) → k < i → q ∈ doms ts i → same (k ∷ p) q ≡ false
+doms_later tnil i k p q h m = elim m [ ]
 doms_later (tcons t ts) i k p q h m =
     ⊎_elim
     (λ (n : q ∈ map (λ r. i ∷ r) (dom t)). on_map (λ r. i ∷ r) (dom t) n (λ r j e. rw (e, ne_eqb k i (λ z. omega arith)) refl))

@@ -1,4 +1,5 @@
 #![tactic(auto)]
+
 pub mod viewing; // the readers over a view of the plan
 
 // A built plan as it is held for reading: the words lent, with their counts of states and symbols.

@@ -1,6 +1,0 @@
-pub mod Answering
-pub mod Opening
-pub mod OpeningPairs
-pub mod Passing
-pub mod PassingPairs
-pub mod Readers
