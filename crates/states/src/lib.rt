@@ -1,4 +1,5 @@
 #![tactic(auto)]
+
 use kinds::{Position, Reason, State};
 
 pub mod keeping; // the states met, in scratch, and the class that is looked up among them
