@@ -5,7 +5,7 @@
 --   out_room succ_room block_put        a block from its parts; class-small: its classes are small
 --   Rowed rowed-…                       the blocks of a state and their starts, in step
 --   Planned planned-…                   labels, starts and blocks, in step
-use mathlib.Core.Path.{◌≡◌, refl, ap, ap₂, sym, ◌∙◌}
+use mathlib.Core.Path.{◌≡◌, refl, ap, ap₂, sym, subst, ◌∙◌}
 use mathlib.Core.List.{List, [], ◌∷◌, ◌++◌, map}
 use mathlib.Core.Option.{Option, none, some}
 use Prim.Native.Nat.{ℕ, suc, ◌+◌, ◌-◌, ◌*◌, ◌%◌, ◌<◌, ◌≤◌}
@@ -165,7 +165,7 @@ module _ {ar tab : List ℕ} {n : ℕ} {sc : List ℕ} {i c f : ℕ} (o : OnSymb
 
     module _ {from : ℕ} (e : from ≡ place_in i) (plan₁ : List ℕ) (next : ℕ) (there : Puts (out_words sc from items) at next plan plan₁) where
       w : Puts (out_words sc (place_in i) items) at next plan plan₁
-      w = rw e at there
+      w = subst (λ x. Puts (out_words sc x items) at next plan plan₁) e there
 
       pub succ_room : next + (1 + 2 * length rows) ≤ length plan₁
       succ_room =
