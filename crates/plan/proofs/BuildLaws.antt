@@ -88,6 +88,7 @@ same_goal_lem g =
 
 among_in : (g : GoalWords) (hs : List GoalWords) → g ∈ hs → among_w g hs ≡ true
 unfolding among_w
+among_in g [] x' = elim x' [ ]
 among_in g (h ∷ hs) (here e) = or_l (among_w g hs) (ap (same_w g) (sym e) ∙ same_goal_lem g)
 among_in g (h ∷ hs) (there m) = or_r (same_w g h) (among_in g hs m)
 

@@ -1,4 +1,5 @@
 #![tactic(auto)]
+
 use kinds::{Reason, State};
 
 pub mod building; // the call that builds a plan
