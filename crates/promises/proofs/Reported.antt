@@ -47,6 +47,7 @@ listed h g f c (x ∷ xs) e =
     (listed h g f (suc c) xs (λ i a m. let z : c + suc i ≡ suc c + i = omega arith in rw z at (e (suc i) a m)))
 
 in_concat {κ} : {A : Type 0} {C : Type κ} (xss : List (List A)) {x : A} → x ∈ concat xss → ((xs : List A) → xs ∈ xss → x ∈ xs → C) → C
+in_concat {A = A} {C = C} [] m k = elim m [ ]
 in_concat (xs ∷ xss) m k = ⊎_elim (λ i. k xs (here refl) i) (λ i. in_concat xss i (λ ys a b. k ys (there a) b)) (∈_append xs m)
 
 in_cond : {A : Type 0} (b : Bool) {x y : A} → x ∈ cond b (y ∷ []) [] → x ≡ y

@@ -1,4 +1,5 @@
 #![tactic(auto)]
+
 ghost use Rattle.std.specs.Prelude.{◌≡◌};
 ghost use Rattle.clashing.specs.Clashing.{clashes_of};
 ghost use Rattle.totals.specs.Totalled.{states_by, matches_by, totalled};
