@@ -1,7 +1,8 @@
 #![tactic(auto)]
 // What the programs share.
 pub mod changing; // the changes of a table
-pub mod files; // a folio's file
+pub mod failing; // calls that failed
+pub mod files; // files and arguments
 pub mod reading; // a file's bytes
 pub mod showing; // numbers on standard output
 pub mod staying; // words that were to stay

@@ -1,22 +1,22 @@
 // Words that a call was to leave as they were.
-use crate::showing::show;
+use std::io;
 
 // Every word before the call.
 pub const BEFORE: u16 = 65535;
 
 // The words from n on that are not as before.
-pub fn show_changed(words: &[u16], n: usize) {
+pub fn show_changed(to: &impl Print, words: &[u16], n: usize) -> io::Result<()> {
     for i in 0..words.len() {
         if n <= i {
-            show_change(i, words[i]);
+            show_change(to, i, words[i])?;
         }
     }
+    Ok(())
 }
 
-fn show_change(i: usize, word: u16) {
+fn show_change(to: &impl Print, i: usize, word: u16) -> io::Result<()> {
     if word == BEFORE {
-        return;
+        return Ok(());
     }
-    show(b" changed ", i);
-    show(b":", word as usize);
+    print!(to; " changed {i}:{word}")
 }
