@@ -6,6 +6,6 @@
 // `find --names --progress` says on standard error how many files are done and, when all output is written, the last line again.
 use reporting::asking::answer;
 
-fn main() {
-    answer(true);
+fn main(rt: HostRuntime) {
+    answer(&rt, true);
 }

@@ -1,5 +1,6 @@
 use crate::saying::say;
 use bufferstone::{Node, Shape, Symbol};
+use running::files::{PATH_BYTES, argument, has_argument};
 use running::texts::{first, same, value_of};
 
 // What no symbol has for its number.
@@ -17,43 +18,53 @@ enum Number {
     None,
 }
 
+// Whether there are as many arguments as there have to be.
+pub fn is_complete(rt: &HostRuntime) -> bool {
+    has_argument(rt, 6) && !has_argument(rt, 7)
+}
+
+// The argument of that number, or none of its bytes where it is longer than any path.
+pub fn read_argument(rt: &HostRuntime, i: usize, text: &mut [u8]) -> usize {
+    argument(rt, i, text).unwrap_or(0)
+}
+
 // The numbers among the arguments.
-pub fn read_numbers() -> Asked {
-    let Number::Of(shape) = number_at(2, b"SHAPE") else {
+pub fn read_numbers(rt: &HostRuntime) -> Asked {
+    let Number::Of(shape) = number_at(rt, 2, b"SHAPE") else {
         return Asked::Wrong;
     };
-    let Number::Of(node) = number_at(3, b"NODE") else {
+    let Number::Of(node) = number_at(rt, 3, b"NODE") else {
         return Asked::Wrong;
     };
-    let Number::Of(finished) = finished_symbol() else {
+    let Number::Of(finished) = finished_symbol(rt) else {
         return Asked::Wrong;
     };
     Asked::At(Shape(shape), Node(node), Symbol(finished))
 }
 
-fn number_at(i: usize, name: &[u8]) -> Number {
-    let mut text = io::buffer();
-    let n = os::arg(i, &mut text);
-    named_number(first(&text, n), name)
+fn number_at(rt: &HostRuntime, i: usize, name: &[u8]) -> Number {
+    let mut text = [0u8; PATH_BYTES];
+    let n = read_argument(rt, i, &mut text);
+    named_number(rt, first(&text, n), name)
 }
 
-fn finished_symbol() -> Number {
-    let mut text = io::buffer();
-    let n = os::arg(4, &mut text);
+fn finished_symbol(rt: &HostRuntime) -> Number {
+    let mut text = [0u8; PATH_BYTES];
+    let n = read_argument(rt, 4, &mut text);
     if same(first(&text, n), b"-") {
         return Number::Of(NO_SYMBOL);
     }
-    named_number(first(&text, n), b"FINISHED")
+    named_number(rt, first(&text, n), b"FINISHED")
 }
 
-fn named_number(text: &[u8], name: &[u8]) -> Number {
+fn named_number(rt: &HostRuntime, text: &[u8], name: &[u8]) -> Number {
     if is_digits(text) {
         let value = value_of(text);
         if value < 65536 {
             return Number::Of(value as u16);
         }
     }
-    say(name, b"no number from 0 to 65535");
+    say(rt, name, b"no number from 0 to 65535");
     Number::None
 }
 

@@ -1,9 +1,11 @@
+use crate::asking::read_argument;
 use crate::saying::{fail, say};
-use running::reading::{Length, read_named};
+use running::files::PATH_BYTES;
+use running::reading::read_named;
 use running::texts::first;
 use sections::finding::fill;
 
-// The words of `io::large_buffer`. A longer replacement is no score's either.
+// As many words as a replacement may have here. A longer one is no score's either.
 pub const LINK_WORDS: usize = 32768;
 
 // How many words a replacement has.
@@ -13,41 +15,47 @@ pub enum Link {
     Unread,
 }
 
-pub fn read_link(words: &mut [u16]) -> Link {
-    let mut name = io::buffer();
-    let n = os::arg(5, &mut name);
-    read_words(first(&name, n), words)
+pub fn read_link(rt: &HostRuntime, words: &mut [u16]) -> Link {
+    let mut name = [0u8; PATH_BYTES];
+    let n = read_argument(rt, 5, &mut name);
+    read_words(rt, first(&name, n), words)
 }
 
-fn read_words(path: &[u8], words: &mut [u16]) -> Link {
-    let mut bytes = io::large_buffer();
-    match read_named(path, &mut bytes) {
-        Length::Whole(n) => take_words(path, first(&bytes, n), n, words),
-        _ => {
-            fail(path);
+fn read_words(rt: &HostRuntime, path: &[u8], words: &mut [u16]) -> Link {
+    let mut bytes = [0u8; 2 * LINK_WORDS];
+    match read_named(rt, path, &mut bytes) {
+        Ok(n) => take_words(rt, path, first(&bytes, n), n, words),
+        Err(error) => {
+            fail(rt, path, error);
             Link::Unread
         }
     }
 }
 
 // Of a file longer than the buffer there are fewer bytes than its length.
-fn take_words(path: &[u8], bytes: &[u8], length: usize, words: &mut [u16]) -> Link {
+fn take_words(
+    rt: &HostRuntime,
+    path: &[u8],
+    bytes: &[u8],
+    length: usize,
+    words: &mut [u16],
+) -> Link {
     let n = bytes.len() / 2;
     if bytes.len() < length {
-        return too_long(path);
+        return too_long(rt, path);
     }
     if bytes.len() % 2 == 1 {
-        say(path, b"an odd number of bytes, and a word has two");
+        say(rt, path, b"an odd number of bytes, and a word has two");
         return Link::Unread;
     }
     if words.len() < n {
-        return too_long(path);
+        return too_long(rt, path);
     }
     fill(bytes, words);
     Link::Words(n)
 }
 
-fn too_long(path: &[u8]) -> Link {
-    say(path, b"longer than 32768 words");
+fn too_long(rt: &HostRuntime, path: &[u8]) -> Link {
+    say(rt, path, b"longer than 32768 words");
     Link::Unread
 }

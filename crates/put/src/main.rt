@@ -7,12 +7,13 @@
 //
 // Printed is `nodes N`, the new score's, when the file stands; `refused N at P` where FOLIO or the replacement is refused; nothing where something else
 // is wrong, which standard error then names. The exit status is 0 in each case: a program here has no other.
-use asking::{Asked, read_numbers};
+use asking::{Asked, is_complete, read_argument, read_numbers};
 use bufferstone::limits::FILE_BYTES;
 use bufferstone::{Node, Shape, Symbol};
 use linking::{LINK_WORDS, Link, read_link};
 use making::put_into;
-use running::reading::{Length, read_named};
+use running::files::PATH_BYTES;
+use running::reading::read_named;
 use running::texts::first;
 use running::words::first_words;
 use saying::{fail, say};
@@ -23,27 +24,28 @@ mod making; // opening, putting and binding
 mod placing; // a new file
 mod saying; // lines and messages
 
-fn main() {
-    if os::arg_count() != 7 {
-        say(b"usage", b"put FOLIO SHAPE NODE FINISHED LINK NEW");
+fn main(rt: HostRuntime) {
+    if !is_complete(&rt) {
+        say(&rt, b"usage", b"put FOLIO SHAPE NODE FINISHED LINK NEW");
         return;
     }
-    let Asked::At(shape, node, finished) = read_numbers() else {
+    let Asked::At(shape, node, finished) = read_numbers(&rt) else {
         return;
     };
-    put_files(shape, node, finished);
+    put_files(&rt, shape, node, finished);
 }
 
-fn put_files(shape: Shape, node: Node, finished: Symbol) {
+fn put_files(rt: &HostRuntime, shape: Shape, node: Node, finished: Symbol) {
     let mut file = [0u8; FILE_BYTES + 1];
     let mut link = [0u16; LINK_WORDS];
-    let Length::Whole(length) = read_folio(&mut file) else {
+    let Some(length) = read_folio(rt, &mut file) else {
         return;
     };
-    let Link::Words(n) = read_link(&mut link) else {
+    let Link::Words(n) = read_link(rt, &mut link) else {
         return;
     };
     put_into(
+        rt,
         first(&file, length),
         length,
         shape,
@@ -54,15 +56,15 @@ fn put_files(shape: Shape, node: Node, finished: Symbol) {
 }
 
 // One byte more is read than a folio may have; of a longer file the rest is only counted.
-fn read_folio(file: &mut [u8]) -> Length {
-    let mut name = io::buffer();
-    let n = os::arg(1, &mut name);
+fn read_folio(rt: &HostRuntime, file: &mut [u8]) -> Option<usize> {
+    let mut name = [0u8; PATH_BYTES];
+    let n = read_argument(rt, 1, &mut name);
     let path = first(&name, n);
-    match read_named(path, file) {
-        Length::Whole(length) => Length::Whole(length),
-        _ => {
-            fail(path);
-            Length::Unknown
+    match read_named(rt, path, file) {
+        Ok(length) => Some(length),
+        Err(error) => {
+            fail(rt, path, error);
+            None
         }
     }
 }

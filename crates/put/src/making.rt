@@ -8,6 +8,7 @@ use running::words::first_words;
 
 // A file of which all bytes are lent, or more than a folio may have; `length` is that of the whole file.
 pub fn put_into(
+    rt: &HostRuntime,
     file: &[u8],
     length: usize,
     shape: Shape,
@@ -16,7 +17,7 @@ pub fn put_into(
     link: &[u16],
 ) {
     if FILE_BYTES < file.len() {
-        show_refusal(Reason::Long, length);
+        show_refusal(rt, Reason::Long, length);
         return;
     }
     let mut words = [0u16; SHAPES_WORDS];
@@ -24,8 +25,9 @@ pub fn put_into(
     let mut score = [0u16; SCORE_NODES];
     let mut spans = [0u16; SCORE_NODES];
     match open(file, &mut words, &mut starts, &mut score, &mut spans) {
-        Opened::Refused(reason, place) => show_refusal(reason, place),
+        Opened::Refused(reason, place) => show_refusal(rt, reason, place),
         Opened::Folio(c) => put_opened(
+            rt,
             first(file, c.symbols),
             first_words(&words, c.words),
             first_words(&starts, c.shapes),
@@ -40,6 +42,7 @@ pub fn put_into(
 }
 
 fn put_opened(
+    rt: &HostRuntime,
     symbols: &[u8],
     words: &[u16],
     starts: &[u16],
@@ -54,19 +57,19 @@ fn put_opened(
     match put(
         symbols, words, starts, score, spans, shape, node, link, finished, &mut new,
     ) {
-        Counted::Refused(reason) => show_refusal(reason, 0),
-        Counted::Number(n) => write_folio(symbols, words, first_words(&new, n)),
+        Counted::Refused(reason) => show_refusal(rt, reason, 0),
+        Counted::Number(n) => write_folio(rt, symbols, words, first_words(&new, n)),
     }
 }
 
-fn write_folio(symbols: &[u8], words: &[u16], score: &[u16]) {
+fn write_folio(rt: &HostRuntime, symbols: &[u8], words: &[u16], score: &[u16]) {
     let mut file = [0u8; FILE_BYTES];
     let n = bind(symbols, words, score, &mut file);
     if n == 0 {
-        say(b"the new folio", b"over a folio's limits");
+        say(rt, b"the new folio", b"over a folio's limits");
         return;
     }
-    if place(first(&file, n)) {
-        show_nodes(score.len());
+    if place(rt, first(&file, n)) {
+        show_nodes(rt, score.len());
     }
 }

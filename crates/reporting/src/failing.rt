@@ -1,16 +1,28 @@
-// Each says on standard error which program's call failed last, and why.
-pub fn fail_output(by_plan: bool) {
-    if by_plan {
-        os::fail(b"find: standard output");
-    } else {
-        os::fail(b"simple: standard output");
+// What ends a run before its end.
+use running::failing::fail;
+use std::io::Error;
+
+#[derive(Clone, Copy)]
+pub enum Failure {
+    Output(Error),
+    Names(Error),
+}
+
+impl From<Error> for Failure {
+    fn from(error: Error) -> Failure {
+        Failure::Output(error)
     }
 }
 
-pub fn fail_names(by_plan: bool) {
-    if by_plan {
-        os::fail(b"find: names");
-    } else {
-        os::fail(b"simple: names");
+impl Failure {
+    // Says on standard error which program's call failed, and why.
+    pub fn say(self, rt: &HostRuntime, by_plan: bool) {
+        let to = rt.stderr();
+        match self {
+            Failure::Output(error) if by_plan => fail(&to, b"find: standard output", error),
+            Failure::Output(error) => fail(&to, b"simple: standard output", error),
+            Failure::Names(error) if by_plan => fail(&to, b"find: names", error),
+            Failure::Names(error) => fail(&to, b"simple: names", error),
+        }
     }
 }

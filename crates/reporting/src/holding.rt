@@ -1,118 +1,87 @@
-// Output is held in a lent buffer, and written when there is no room in it for one line more.
+// Output is held, and written when there is no room for one line more.
 use crate::first;
 use bufferstone::Written;
 use bufferstone::limits::LINE_BYTES;
-use libc::STDOUT_FILENO;
+use std::io;
 
-// How many bytes are held; `Lost` from the first write on that fails. Nothing more is written then, so that at the end it can be said why.
-#[derive(Clone, Copy)]
-pub enum Held {
-    Bytes(usize),
-    Lost,
+// As many bytes are held at most.
+const HELD_BYTES: usize = 65536;
+
+// The first `held` bytes are still to be written.
+#[derive(Drop)]
+pub struct Output<'a> {
+    rt: &'a HostRuntime,
+    bytes: [u8; HELD_BYTES],
+    held: usize,
 }
 
-// What was shown of a file, and the output held since.
+// What was shown of a file.
 #[derive(Clone, Copy)]
 pub enum Shown {
-    Report(Held),
-    Refusal(Held),
-    Unread(Held),
+    Report,
+    Refusal,
+    Unread,
 }
 
-impl Held {
-    pub fn is_lost(self) -> bool {
-        match self {
-            Held::Bytes(_) => false,
-            Held::Lost => true,
+impl<'a> Output<'a> {
+    pub fn new(rt: &'a HostRuntime) -> Output<'a> {
+        Output {
+            rt,
+            bytes: [0; HELD_BYTES],
+            held: 0,
         }
     }
-}
 
-impl Shown {
-    pub fn held(self) -> Held {
-        match self {
-            Shown::Report(held) => held,
-            Shown::Refusal(held) => held,
-            Shown::Unread(held) => held,
+    // Writes what is held.
+    pub fn write(&mut self) -> io::Result<()> {
+        self.rt.write_all(first::bytes(&self.bytes, self.held))?;
+        self.held = 0;
+        Ok(())
+    }
+
+    // Room for a line, behind what is held.
+    pub fn room(&mut self) -> io::Result<&mut [u8]> {
+        self.make_room()?;
+        Ok(self.rest())
+    }
+
+    fn make_room(&mut self) -> io::Result<()> {
+        if self.rest().len() < LINE_BYTES {
+            return self.write();
         }
+        Ok(())
     }
-}
 
-// Writes what is held.
-pub fn write(out: &[u8], held: Held) -> Held {
-    match held {
-        Held::Lost => Held::Lost,
-        Held::Bytes(n) => write_first(n, out),
-    }
-}
-
-fn write_first(n: usize, out: &[u8]) -> Held {
-    if io::write_all(STDOUT_FILENO, first::bytes(out, n)) {
-        return Held::Bytes(0);
-    }
-    Held::Lost
-}
-
-// Room for a line.
-pub fn room(out: &[u8], held: Held) -> Held {
-    match held {
-        Held::Lost => Held::Lost,
-        Held::Bytes(n) => room_behind(n, out),
-    }
-}
-
-fn room_behind(n: usize, out: &[u8]) -> Held {
-    if n < out.len() {
-        if LINE_BYTES <= out.len() - n {
-            return Held::Bytes(n);
+    fn rest(&mut self) -> &mut [u8] {
+        if self.bytes.len() < self.held {
+            return &mut self.bytes;
         }
+        &mut self.bytes[self.held..]
     }
-    write_first(n, out)
-}
 
-// What is behind the first n bytes, or all where there are fewer.
-pub fn rest(out: &mut [u8], n: usize) -> &mut [u8] {
-    if out.len() < n {
-        return out;
-    }
-    &mut out[n..]
-}
-
-// What is held with a line more behind n bytes; a line that is refused adds nothing.
-pub fn longer(n: usize, line: Written) -> Held {
-    match line {
-        Written::Refused(reason) => Held::Bytes(n),
-        Written::Bytes(more) => add(n, more),
-    }
-}
-
-fn add(n: usize, more: usize) -> Held {
-    if 65536 < n {
-        return Held::Lost;
-    }
-    if 65536 < more {
-        return Held::Lost;
-    }
-    Held::Bytes(n + more)
-}
-
-pub fn put_text(text: &[u8], out: &mut [u8], held: Held) -> Held {
-    let mut now = held;
-    for i in 0..text.len() {
-        now = put_byte(text[i], out, now);
-    }
-    now
-}
-
-pub fn put_byte(byte: u8, out: &mut [u8], held: Held) -> Held {
-    match room(out, held) {
-        Held::Lost => Held::Lost,
-        Held::Bytes(n) => {
-            if n < out.len() {
-                out[n] = byte;
-                return Held::Bytes(n + 1);
+    // A line was put into the room; one that is refused adds nothing.
+    pub fn add(&mut self, line: Written) {
+        match line {
+            Written::Refused(reason) => {}
+            Written::Bytes(n) => {
+                self.held = self.held.saturating_add(n);
             }
-            Held::Lost
         }
+    }
+
+    pub fn put_text(&mut self, text: &[u8]) -> io::Result<()> {
+        for byte in text {
+            self.put_byte(*byte)?;
+        }
+        Ok(())
+    }
+
+    pub fn put_byte(&mut self, byte: u8) -> io::Result<()> {
+        self.make_room()?;
+        if self.held < self.bytes.len() {
+            self.bytes[self.held] = byte;
+            self.held += 1;
+        }
+        Ok(())
     }
 }

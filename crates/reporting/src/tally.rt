@@ -1,4 +1,4 @@
-use crate::holding::{Held, put_byte, put_text};
+use std::fmt;
 
 // The files looked at, and what they came to.
 #[derive(Clone, Copy)]
@@ -39,24 +39,21 @@ impl Tally {
 }
 
 pub fn one_more(n: usize) -> usize {
-    if 0x7fffffffffffffff < n {
-        return n;
-    }
-    n + 1
+    n.saturating_add(1)
 }
 
 // The last line.
-pub fn put_tally(tally: Tally, out: &mut [u8], held: Held) -> Held {
-    let a = put_count(b"files ", tally.files, out, held);
-    let b = put_count(b" reported ", tally.reported, out, a);
-    let c = put_count(b" refused ", tally.refused, out, b);
-    let d = put_count(b" unread ", tally.unread, out, c);
-    put_byte(b'\n', out, d)
-}
-
-fn put_count(word: &[u8], n: usize, out: &mut [u8], held: Held) -> Held {
-    let mut digits = [0u8; 20];
-    let k = io::decimal(n as u64, &mut digits);
-    let named = put_text(word, out, held);
-    put_text(&digits[..k], out, named)
+impl fmt::Display for Tally {
+    fn fmt<W: fmt::Write>(&self, f: &mut fmt::Formatter<W>) -> fmt::Result {
+        let Tally {
+            files,
+            reported,
+            refused,
+            unread,
+        } = *self;
+        write!(
+            f,
+            "files {files} reported {reported} refused {refused} unread {unread}"
+        )
+    }
 }

@@ -21,6 +21,11 @@ pub fn argument(environment: &impl Env, i: usize, text: &mut [u8]) -> Option<usi
     }
 }
 
+pub fn has_argument(environment: &impl Env, i: usize) -> bool {
+    let mut text = [0u8; PATH_BYTES];
+    argument(environment, i, &mut text).is_some()
+}
+
 // Opens the file of that name for reading. A path is text: bytes that are not UTF-8 name no file.
 pub fn open_named<R: Files>(files: &R, path: &[u8]) -> io::Result<R::File> {
     match str::from_utf8(path) {
