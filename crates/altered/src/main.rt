@@ -7,49 +7,51 @@
 use bufferstone::limits::{FILE_BYTES, MOST_SHAPES, SCORE_NODES, SHAPES_WORDS};
 use bufferstone::{Counted, Opened, clashes, number, open};
 use compared::compare_lent;
-use libc::{STDIN_FILENO, STDOUT_FILENO};
 use running::changing::{Lengths, change_tables, change_words};
 use running::files::read_folio;
-use running::showing::show;
+use running::reading::{INPUT_BYTES, read_full};
+use running::showing::{show, write};
 use running::texts::{before, behind, ended, first, has, next_from, value_of};
 use running::words::first_words;
+use std::io;
 
 mod compared; // the marks by comparing, and those that stay
 
 // The words of room that a table has for changes, behind the longest that opens.
 const ROOM: usize = 4;
 
-fn main() {
-    let mut text = io::large_buffer();
-    let n = io::read_full(STDIN_FILENO, &mut text);
-    run_lines(&text[..n]);
+fn main(rt: HostRuntime) -> io::Result<()> {
+    let mut text = [0u8; INPUT_BYTES];
+    let n = read_full(&mut rt.reader(), &mut text);
+    run_lines(&rt, &text[..n])
 }
 
-fn run_lines(text: &[u8]) {
+fn run_lines(rt: &HostRuntime, text: &[u8]) -> io::Result<()> {
     let mut from: usize = 0;
     for i in 0..text.len() {
-        run_line(ended(text, from, i, b'\n'));
+        run_line(rt, ended(text, from, i, b'\n'))?;
         from = next_from(text, from, i, b'\n');
     }
+    Ok(())
 }
 
-fn run_line(line: &[u8]) {
+fn run_line(rt: &HostRuntime, line: &[u8]) -> io::Result<()> {
     if line.len() == 0 {
-        return;
+        return Ok(());
     }
-    io::write_all(STDOUT_FILENO, line);
-    run_case(line);
-    io::write_all(STDOUT_FILENO, b"\n");
+    write(rt, line)?;
+    run_case(rt, line)?;
+    write(rt, b"\n")
 }
 
 // A folio's symbols are its first bytes.
-fn run_case(line: &[u8]) {
+fn run_case(rt: &HostRuntime, line: &[u8]) -> io::Result<()> {
     let mut file = [0u8; FILE_BYTES + ROOM];
     let mut words = [0u16; SHAPES_WORDS + ROOM];
     let mut starts = [0u16; MOST_SHAPES + ROOM];
     let mut score = [0u16; SCORE_NODES + ROOM];
     let mut spans = [0u16; SCORE_NODES + ROOM];
-    let n = read_folio(before(line, b' '), &mut file);
+    let n = read_folio(rt, before(line, b' '), &mut file);
     match open(
         first(&file, n),
         &mut words,
@@ -57,9 +59,7 @@ fn run_case(line: &[u8]) {
         &mut score,
         &mut spans,
     ) {
-        Opened::Refused(reason, place) => {
-            show(b"not opened ", number(reason) as usize);
-        }
+        Opened::Refused(reason, place) => show(rt, b"not opened ", number(reason) as usize),
         Opened::Folio(c) => {
             let opened = Lengths::opened(c.symbols, c.words, c.shapes, c.nodes);
             let n = change_tables(
@@ -72,13 +72,14 @@ fn run_case(line: &[u8]) {
                 opened,
             );
             run_changed(
+                rt,
                 line,
                 first(&file, n.symbols),
                 first_words(&words, n.words),
                 first_words(&starts, n.starts),
                 first_words(&score, n.score),
                 first_words(&spans, n.spans),
-            );
+            )
         }
     }
 }
@@ -97,21 +98,24 @@ fn changes_of(line: &[u8]) -> &[u8] {
 }
 
 fn run_changed(
+    rt: &HostRuntime,
     line: &[u8],
     symbols: &[u8],
     words: &[u16],
     starts: &[u16],
     score: &[u16],
     spans: &[u16],
-) {
+) -> io::Result<()> {
     let fields = behind(line, b'|');
     let lent = value_of(before(fields, b'|'));
     if compares(line) {
-        compare_lent(lent, symbols, words, starts, score, spans);
-        return;
+        return compare_lent(rt, lent, symbols, words, starts, score, spans);
     }
     let marked = before(behind(fields, b'|'), b'|');
-    show_answer(count_marked(marked, lent, symbols, words, starts, score, spans));
+    show_answer(
+        rt,
+        count_marked(marked, lent, symbols, words, starts, score, spans),
+    )
 }
 
 fn count_marked(
@@ -128,9 +132,9 @@ fn count_marked(
     clashes(symbols, words, starts, score, spans, first_words(&marks, n))
 }
 
-fn show_answer(answer: Counted) {
+fn show_answer(rt: &HostRuntime, answer: Counted) -> io::Result<()> {
     match answer {
-        Counted::Number(n) => show(b"", n),
-        Counted::Refused(reason) => show(b"refused ", number(reason) as usize),
+        Counted::Number(n) => show(rt, b"", n),
+        Counted::Refused(reason) => show(rt, b"refused ", number(reason) as usize),
     }
 }

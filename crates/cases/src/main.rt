@@ -4,65 +4,64 @@
 // building answers and the plan buffer's words.
 use bufferstone::limits::{FILE_BYTES, MOST_SHAPES, SCORE_NODES, SCRATCH_WORDS, SHAPES_WORDS};
 use bufferstone::{Built, Opened, Reason, build, number, open};
-use libc::{STDIN_FILENO, STDOUT_FILENO};
+use running::files::{PATH_BYTES, argument, open_named};
+use running::reading::read_full;
+use running::texts::first;
+use std::io;
+use std::io::Read;
 
-fn main() {
-    for i in 1..os::arg_count() {
-        show_argument(i);
-    }
-    show_sample();
+fn main(rt: HostRuntime) -> io::Result<()> {
+    show_arguments(&rt)?;
+    show_sample(&rt)
 }
 
-fn show_argument(i: usize) {
-    let mut name = io::buffer();
-    let n = os::arg(i, &mut name);
-    let path = &name[..n];
-    io::write_all(STDOUT_FILENO, path);
-    let fd = os::open_read(path);
-    if fd < 0 {
-        io::write_all(STDOUT_FILENO, b": not there\n");
-        return;
+fn show_arguments(rt: &HostRuntime) -> io::Result<()> {
+    for i in 1..usize::MAX {
+        let mut name = [0u8; PATH_BYTES];
+        let Some(n) = argument(rt, i, &mut name) else {
+            return Ok(());
+        };
+        show_named(rt, first(&name, n))?;
     }
-    show_file(fd);
-    libc::close(fd);
+    Ok(())
 }
 
-fn show_file(fd: i32) {
-    let mut file = [0u8; FILE_BYTES + 1];
-    let n = io::read_full(fd, &mut file);
+fn show_named(rt: &HostRuntime, path: &[u8]) -> io::Result<()> {
+    rt.write_all(path)?;
+    match open_named(rt, path) {
+        Ok(mut input) => show_file(rt, &mut input),
+        Err(_) => print!(rt; ": not there\n"),
+    }
+}
+
+fn show_file(rt: &HostRuntime, input: &mut impl Read) -> io::Result<()> {
+    let mut bytes = [0u8; FILE_BYTES + 1];
+    let n = read_full(input, &mut bytes);
+    let file = first(&bytes, n);
     let mut words = [9u16; SHAPES_WORDS];
     let mut starts = [9u16; MOST_SHAPES];
     let mut score = [9u16; SCORE_NODES];
     let mut spans = [9u16; SCORE_NODES];
-    show_answer(open(&file[..n], &mut words, &mut starts, &mut score, &mut spans));
-    show_answer(open(
-        &file[..n],
-        &mut words,
-        &mut starts,
-        &mut score,
-        &mut spans[0..0],
-    ));
-    io::write_all(STDOUT_FILENO, b"\n");
+    let opened = open(file, &mut words, &mut starts, &mut score, &mut spans);
+    show_answer(rt, opened)?;
+    let with_no_spans = open(file, &mut words, &mut starts, &mut score, &mut spans[0..0]);
+    show_answer(rt, with_no_spans)?;
+    print!(rt; "\n")
 }
 
-fn show_answer(answer: Opened) {
+fn show_answer(rt: &HostRuntime, answer: Opened) -> io::Result<()> {
     match answer {
-        Opened::Refused(reason, place) => show_refusal(reason, place),
+        Opened::Refused(reason, place) => show_refusal(rt, reason, place),
         Opened::Folio(c) => {
-            io::write_all(STDOUT_FILENO, b": opens");
-            show_number(c.symbols);
-            show_number(c.shapes);
-            show_number(c.words);
-            show_number(c.nodes);
-            show_number(c.depth);
-            show_number(c.deepest);
+            print!(rt; ": opens {} {} {}", c.symbols, c.shapes, c.words)?;
+            print!(rt; " {} {} {}", c.nodes, c.depth, c.deepest)
         }
     }
 }
 
-fn show_sample() {
+fn show_sample(rt: &HostRuntime) -> io::Result<()> {
     let mut file = [0u8; 49];
-    io::read_full(STDIN_FILENO, &mut file);
+    read_full(&mut rt.reader(), &mut file);
     let mut words = [0u16; 9];
     let mut starts = [0u16; 2];
     let mut score = [0u16; 10];
@@ -73,49 +72,37 @@ fn show_sample() {
     let mut short = [9u16; 55];
     let mut scratch = [9u16; SCRATCH_WORDS];
     let mut little = [9u16; 32767];
-    show_build(&symbols, &words, &starts, &mut enough, &mut scratch);
-    show_build(&symbols, &words, &starts, &mut short, &mut scratch);
-    show_build(&symbols, &words, &starts, &mut short, &mut little);
+    show_build(rt, &symbols, &words, &starts, &mut enough, &mut scratch)?;
+    show_build(rt, &symbols, &words, &starts, &mut short, &mut scratch)?;
+    show_build(rt, &symbols, &words, &starts, &mut short, &mut little)
 }
 
 fn show_build(
+    rt: &HostRuntime,
     symbols: &[u8],
     words: &[u16],
     starts: &[u16],
     plan: &mut [u16],
     scratch: &mut [u16],
-) {
-    io::write_all(STDOUT_FILENO, b"plan");
-    show_number(plan.len());
-    show_number(scratch.len());
+) -> io::Result<()> {
+    print!(rt; "plan {} {}", plan.len(), scratch.len())?;
     match build(symbols, words, starts, plan, scratch) {
-        Built::Refused(reason) => show_refusal(reason, 0),
-        Built::Stopped(reason, state) => show_refusal(reason, state.0 as usize),
-        Built::Plan(size) => {
-            io::write_all(STDOUT_FILENO, b": builds");
-            show_number(size.states);
-            show_number(size.words);
-        }
+        Built::Refused(reason) => show_refusal(rt, reason, 0)?,
+        Built::Stopped(reason, state) => show_refusal(rt, reason, state.0 as usize)?,
+        Built::Plan(size) => print!(rt; ": builds {} {}", size.states, size.words)?,
     }
-    io::write_all(STDOUT_FILENO, b":");
-    show_words(plan);
-    io::write_all(STDOUT_FILENO, b"\n");
+    print!(rt; ":")?;
+    show_words(rt, plan)?;
+    print!(rt; "\n")
 }
 
-fn show_words(words: &[u16]) {
-    for i in 0..words.len() {
-        show_number(words[i] as usize);
+fn show_words(rt: &HostRuntime, words: &[u16]) -> io::Result<()> {
+    for word in words {
+        print!(rt; " {word}")?;
     }
+    Ok(())
 }
 
-fn show_refusal(reason: Reason, place: usize) {
-    io::write_all(STDOUT_FILENO, b": refused");
-    show_number(number(reason) as usize);
-    io::write_all(STDOUT_FILENO, b" at");
-    show_number(place);
-}
-
-fn show_number(n: usize) {
-    io::write_all(STDOUT_FILENO, b" ");
-    io::print_decimal(STDOUT_FILENO, n as u64);
+fn show_refusal(rt: &HostRuntime, reason: Reason, place: usize) -> io::Result<()> {
+    print!(rt; ": refused {} at {place}", number(reason))
 }

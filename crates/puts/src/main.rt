@@ -5,50 +5,52 @@
 // reason's number; and then each word that was to stay 65,535 and did not.
 use bufferstone::limits::{FILE_BYTES, MOST_SHAPES, SCORE_NODES, SHAPES_WORDS};
 use bufferstone::{Opened, number, open};
-use libc::STDIN_FILENO;
 use putting::put_lent;
 use running::changing::{Lengths, change_tables};
 use running::files::read_folio;
+use running::reading::{INPUT_BYTES, read_full};
 use running::showing::{show, write};
 use running::texts::{before, behind, ended, first, next_from};
 use running::words::first_words;
+use std::io;
 
 mod putting; // the call, and what it leaves
 
 // The words of room that a table has for changes, behind the longest that opens.
 const ROOM: usize = 4;
 
-fn main() {
-    let mut text = io::large_buffer();
-    let n = io::read_full(STDIN_FILENO, &mut text);
-    run_lines(&text[..n]);
+fn main(rt: HostRuntime) -> io::Result<()> {
+    let mut text = [0u8; INPUT_BYTES];
+    let n = read_full(&mut rt.reader(), &mut text);
+    run_lines(&rt, &text[..n])
 }
 
-fn run_lines(text: &[u8]) {
+fn run_lines(rt: &HostRuntime, text: &[u8]) -> io::Result<()> {
     let mut from: usize = 0;
     for i in 0..text.len() {
-        run_line(ended(text, from, i, b'\n'));
+        run_line(rt, ended(text, from, i, b'\n'))?;
         from = next_from(text, from, i, b'\n');
     }
+    Ok(())
 }
 
-fn run_line(line: &[u8]) {
+fn run_line(rt: &HostRuntime, line: &[u8]) -> io::Result<()> {
     if line.len() == 0 {
-        return;
+        return Ok(());
     }
-    write(line);
-    run_case(line);
-    write(b"\n");
+    write(rt, line)?;
+    run_case(rt, line)?;
+    write(rt, b"\n")
 }
 
 // A folio's symbols are its first bytes.
-fn run_case(line: &[u8]) {
+fn run_case(rt: &HostRuntime, line: &[u8]) -> io::Result<()> {
     let mut file = [0u8; FILE_BYTES + ROOM];
     let mut words = [0u16; SHAPES_WORDS + ROOM];
     let mut starts = [0u16; MOST_SHAPES + ROOM];
     let mut score = [0u16; SCORE_NODES + ROOM];
     let mut spans = [0u16; SCORE_NODES + ROOM];
-    let n = read_folio(before(line, b' '), &mut file);
+    let n = read_folio(rt, before(line, b' '), &mut file);
     match open(
         first(&file, n),
         &mut words,
@@ -56,9 +58,7 @@ fn run_case(line: &[u8]) {
         &mut score,
         &mut spans,
     ) {
-        Opened::Refused(reason, place) => {
-            show(b"not opened ", number(reason) as usize);
-        }
+        Opened::Refused(reason, place) => show(rt, b"not opened ", number(reason) as usize),
         Opened::Folio(c) => {
             let opened = Lengths::opened(c.symbols, c.words, c.shapes, c.nodes);
             let n = change_tables(
@@ -71,13 +71,14 @@ fn run_case(line: &[u8]) {
                 opened,
             );
             put_lent(
+                rt,
                 behind(line, b'|'),
                 first(&file, n.symbols),
                 first_words(&words, n.words),
                 first_words(&starts, n.starts),
                 first_words(&score, n.score),
                 first_words(&spans, n.spans),
-            );
+            )
         }
     }
 }

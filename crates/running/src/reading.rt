@@ -5,6 +5,9 @@ use std::io;
 use std::io::Read;
 use std::rt::Files;
 
+// As much is read of the cases on standard input.
+pub const INPUT_BYTES: usize = 65536;
+
 // No input takes as many turns.
 const MOST_TURNS: u64 = 0x7fffffffffffffff;
 
