@@ -2,9 +2,11 @@ use crate::leaving::show_marked;
 use bufferstone::{Record, Walked, number, step};
 use running::showing::{show, write};
 use running::texts::{before, begins, behind, ended, has, next_from, value_of};
+use std::io;
 
 // What is done, in order. N: a step takes item N; V:M: the caller puts M into the mark at node V; =C: the caller puts C into the stored number.
 pub fn take_singly(
+    rt: &HostRuntime,
     text: &[u8],
     plan: &[u16],
     score: &[u16],
@@ -13,11 +15,12 @@ pub fn take_singly(
     log: &mut [u16],
     marks: &mut [u16],
     begun: Record,
-) -> Record {
+) -> io::Result<Record> {
     let mut record = begun;
     let mut from: usize = 0;
     for i in 0..text.len() {
         record = do_one(
+            rt,
             ended(text, from, i, b' '),
             plan,
             score,
@@ -26,15 +29,16 @@ pub fn take_singly(
             log,
             marks,
             record,
-        );
+        )?;
         from = next_from(text, from, i, b' ');
     }
-    show_marked(marks);
-    write(b"\n");
-    record
+    show_marked(rt, marks)?;
+    write(rt, b"\n")?;
+    Ok(record)
 }
 
 fn do_one(
+    rt: &HostRuntime,
     done: &[u8],
     plan: &[u16],
     score: &[u16],
@@ -43,12 +47,12 @@ fn do_one(
     log: &mut [u16],
     marks: &mut [u16],
     record: Record,
-) -> Record {
+) -> io::Result<Record> {
     if done.len() == 0 {
-        return record;
+        return Ok(record);
     }
     if begins(done, b"=") {
-        return with_number(record, value_of(done));
+        return Ok(with_number(record, value_of(done)));
     }
     if has(done, b':') {
         put_mark(
@@ -56,10 +60,11 @@ fn do_one(
             value_of(behind(done, b':')),
             marks,
         );
-        return record;
+        return Ok(record);
     }
     let choice = value_of(done);
     show_step(
+        rt,
         step(plan, score, spans, waiting, log, marks, record, choice),
         record,
     )
@@ -80,15 +85,15 @@ fn put_mark(node: usize, mark: usize, marks: &mut [u16]) {
 }
 
 // The record after the step.
-fn show_step(answer: Walked, before: Record) -> Record {
+fn show_step(rt: &HostRuntime, answer: Walked, before: Record) -> io::Result<Record> {
     match answer {
         Walked::On(after) => {
-            show(b" ", after.matches);
-            after
+            show(rt, b" ", after.matches)?;
+            Ok(after)
         }
         Walked::Refused(reason) => {
-            show(b" r", number(reason) as usize);
-            before
+            show(rt, b" r", number(reason) as usize)?;
+            Ok(before)
         }
     }
 }

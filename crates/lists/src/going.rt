@@ -37,6 +37,7 @@ fn begins(line: &[u8]) -> bool {
 }
 
 pub fn begin(
+    rt: &HostRuntime,
     line: &[u8],
     plan: &mut [u16],
     score: &mut [u16],
@@ -52,7 +53,7 @@ pub fn begin(
     let mut file = [0u8; FILE_BYTES];
     let mut words = [0u16; SHAPES_WORDS];
     let mut starts = [0u16; MOST_SHAPES];
-    let n = read_folio(before(line, b' '), &mut file);
+    let n = read_folio(rt, before(line, b' '), &mut file);
     match open(first(&file, n), &mut words, &mut starts, score, spans) {
         Opened::Refused(reason, place) => Going::none(),
         Opened::Folio(c) => begin_on(

@@ -1,19 +1,20 @@
 use crate::going::UNWRITTEN;
 use running::showing::{show, show_marks, show_words, write};
 use running::words::first_words;
+use std::io;
 
 // The first n words are those of the items waiting; what is written behind them was left there by others.
-pub fn show_waiting(words: &[u16], n: usize) {
-    show_words(first_words(words, n));
+pub fn show_waiting(rt: &HostRuntime, words: &[u16], n: usize) -> io::Result<()> {
+    show_words(rt, first_words(words, n))?;
     let end = written(words);
     if end <= n {
-        return;
+        return Ok(());
     }
     if 0 < n {
-        write(b" ");
+        write(rt, b" ")?;
     }
-    write(b";");
-    show_behind(first_words(words, end), n);
+    write(rt, b";")?;
+    show_behind(rt, first_words(words, end), n)
 }
 
 // Where the words end that a walk wrote.
@@ -27,20 +28,21 @@ fn written(words: &[u16]) -> usize {
     end
 }
 
-fn show_behind(words: &[u16], n: usize) {
+fn show_behind(rt: &HostRuntime, words: &[u16], n: usize) -> io::Result<()> {
     for i in 0..words.len() {
         if n <= i {
-            show_spaced(words[i]);
+            show_spaced(rt, words[i])?;
         }
     }
+    Ok(())
 }
 
-fn show_spaced(word: u16) {
-    show(b" ", word as usize);
+fn show_spaced(rt: &HostRuntime, word: u16) -> io::Result<()> {
+    show(rt, b" ", word as usize)
 }
 
 // The marks, in a field of their own.
-pub fn show_marked(marks: &[u16]) {
-    write(b" | ");
-    show_marks(marks);
+pub fn show_marked(rt: &HostRuntime, marks: &[u16]) -> io::Result<()> {
+    write(rt, b" | ")?;
+    show_marks(rt, marks)
 }

@@ -11,22 +11,23 @@ use bufferstone::limits::{PLAN_WORDS, SCORE_NODES, WAITING_WORDS};
 use bufferstone::{Listed, Record, number, steps};
 use going::{Going, begin};
 use leaving::{show_marked, show_waiting};
-use libc::STDIN_FILENO;
+use running::reading::{INPUT_BYTES, read_full};
 use running::showing::{show, show_words, write};
 use running::texts::{before, behind, ended, has, next_from, put_numbers, value_of};
 use running::words::{first_room, first_words};
+use std::io;
 
 mod altering; // single steps, and what the caller alters between them
 mod going; // a walk that is begun
 mod leaving; // what a list leaves behind
 
-fn main() {
-    let mut text = io::large_buffer();
-    let n = io::read_full(STDIN_FILENO, &mut text);
-    run_lines(&text[..n]);
+fn main(rt: HostRuntime) -> io::Result<()> {
+    let mut text = [0u8; INPUT_BYTES];
+    let n = read_full(&mut rt.reader(), &mut text);
+    run_lines(&rt, &text[..n])
 }
 
-fn run_lines(text: &[u8]) {
+fn run_lines(rt: &HostRuntime, text: &[u8]) -> io::Result<()> {
     let mut plan = [0u16; PLAN_WORDS];
     let mut score = [0u16; SCORE_NODES];
     let mut spans = [0u16; SCORE_NODES];
@@ -37,6 +38,7 @@ fn run_lines(text: &[u8]) {
     let mut from: usize = 0;
     for i in 0..text.len() {
         going = run_line(
+            rt,
             ended(text, from, i, b'\n'),
             &mut plan,
             &mut score,
@@ -45,12 +47,14 @@ fn run_lines(text: &[u8]) {
             &mut log,
             &mut marks,
             going,
-        );
+        )?;
         from = next_from(text, from, i, b'\n');
     }
+    Ok(())
 }
 
 fn run_line(
+    rt: &HostRuntime,
     line: &[u8],
     plan: &mut [u16],
     score: &mut [u16],
@@ -59,14 +63,14 @@ fn run_line(
     log: &mut [u16],
     marks: &mut [u16],
     going: Going,
-) -> Going {
+) -> io::Result<Going> {
     if line.len() == 0 {
-        return going;
+        return Ok(going);
     }
-    write(line);
-    let begun = begin(line, plan, score, spans, waiting, log, marks, going);
+    write(rt, line)?;
+    let begun = begin(rt, line, plan, score, spans, waiting, log, marks, going);
     change_plan(line, plan);
-    take_list(line, plan, score, spans, waiting, log, marks, begun)
+    take_list(rt, line, plan, score, spans, waiting, log, marks, begun)
 }
 
 // Where a field stands between the name and the choices, it changes a word of the plan, or the stored number.
@@ -104,6 +108,7 @@ fn twice(n: usize) -> usize {
 }
 
 fn take_list(
+    rt: &HostRuntime,
     line: &[u8],
     plan: &[u16],
     score: &[u16],
@@ -112,9 +117,10 @@ fn take_list(
     log: &mut [u16],
     marks: &mut [u16],
     going: Going,
-) -> Going {
+) -> io::Result<Going> {
     let nodes = going.nodes;
     let record = take(
+        rt,
         line,
         first_words(plan, going.words),
         first_words(score, nodes),
@@ -123,16 +129,17 @@ fn take_list(
         first_room(log, nodes),
         first_room(marks, nodes),
         going.record,
-    );
-    Going {
+    )?;
+    Ok(Going {
         words: going.words,
         nodes,
         record,
-    }
+    })
 }
 
 // With a `.` behind the folio's name the steps are single.
 fn take(
+    rt: &HostRuntime,
     line: &[u8],
     plan: &[u16],
     score: &[u16],
@@ -141,14 +148,14 @@ fn take(
     log: &mut [u16],
     marks: &mut [u16],
     begun: Record,
-) -> Record {
+) -> io::Result<Record> {
     if has(before(line, b'|'), b'.') {
         let done = before(behind(line, b'|'), b'|');
-        return take_singly(done, plan, score, spans, waiting, log, marks, begun);
+        return take_singly(rt, done, plan, score, spans, waiting, log, marks, begun);
     }
     let record = change_number(line, begun);
     let list = choices_of(line);
-    take_choices(list, plan, score, spans, waiting, log, marks, record)
+    take_choices(rt, list, plan, score, spans, waiting, log, marks, record)
 }
 
 // The last field.
@@ -162,6 +169,7 @@ fn choices_of(line: &[u8]) -> &[u8] {
 }
 
 fn take_choices(
+    rt: &HostRuntime,
     text: &[u8],
     plan: &[u16],
     score: &[u16],
@@ -170,34 +178,37 @@ fn take_choices(
     log: &mut [u16],
     marks: &mut [u16],
     begun: Record,
-) -> Record {
+) -> io::Result<Record> {
     let mut choices = [0u16; 2 * SCORE_NODES];
     let n = put_numbers(text, &mut choices);
     let list = first_words(&choices, n);
-    let record = show_answer(steps(plan, score, spans, waiting, log, marks, begun, list));
-    show_waiting(waiting, twice(record.waiting));
-    write(b" | ");
-    show_words(first_words(log, record.logged));
-    show_marked(marks);
-    show(b" | ", record.matches);
-    write(b"\n");
-    record
+    let record = show_answer(
+        rt,
+        steps(plan, score, spans, waiting, log, marks, begun, list),
+    )?;
+    show_waiting(rt, waiting, twice(record.waiting))?;
+    write(rt, b" | ")?;
+    show_words(rt, first_words(log, record.logged))?;
+    show_marked(rt, marks)?;
+    show(rt, b" | ", record.matches)?;
+    write(rt, b"\n")?;
+    Ok(record)
 }
 
 // The record after the list.
-fn show_answer(answer: Listed) -> Record {
+fn show_answer(rt: &HostRuntime, answer: Listed) -> io::Result<Record> {
     match answer {
         Listed::All(accepted, record) => {
-            show(b"", accepted);
-            write(b" 0 | ");
-            record
+            show(rt, b"", accepted)?;
+            write(rt, b" 0 | ")?;
+            Ok(record)
         }
         Listed::Refused(reason, accepted, record) => {
-            show(b"", accepted);
-            show(b" ", number(reason) as usize);
-            show(b" ", accepted);
-            write(b" | ");
-            record
+            show(rt, b"", accepted)?;
+            show(rt, b" ", number(reason) as usize)?;
+            show(rt, b" ", accepted)?;
+            write(rt, b" | ")?;
+            Ok(record)
         }
     }
 }

@@ -1,9 +1,9 @@
 // The choices of a walk, noted so that one that has to be refused stands behind every seventh, and taken again by lists.
 use bufferstone::limits::{SCORE_NODES, WAITING_WORDS};
 use bufferstone::{Listed, Reason, Record, Walked, equal, number, start, steps};
-use libc::STDOUT_FILENO;
-use running::showing::show;
+use running::showing::{show, write};
 use running::words::{behind_words, first_words};
+use std::io;
 
 // A choice for each node, the one that is refused at the end, and those between.
 pub const CHOICES: usize = 4682;
@@ -29,6 +29,7 @@ pub fn noted(choices: &[u16], n: usize) -> &[u16] {
 }
 
 pub fn walk_lists(
+    rt: &HostRuntime,
     symbols: &[u8],
     plan: &[u16],
     score: &[u16],
@@ -36,7 +37,7 @@ pub fn walk_lists(
     choices: &[u16],
     log: &[u16],
     marks: &[u16],
-) {
+) -> io::Result<()> {
     let mut waiting = [0u16; WAITING_WORDS];
     let mut log_now = [0u16; SCORE_NODES];
     let mut marks_now = [9u16; SCORE_NODES];
@@ -48,11 +49,10 @@ pub fn walk_lists(
         &mut log_now,
         &mut marks_now,
     ) {
-        Walked::Refused(reason) => {
-            show(b"no start ", number(reason) as usize);
-        }
+        Walked::Refused(reason) => show(rt, b"no start ", number(reason) as usize),
         Walked::On(r) => {
             take_lists(
+                rt,
                 plan,
                 score,
                 spans,
@@ -61,24 +61,23 @@ pub fn walk_lists(
                 &mut marks_now,
                 r,
                 choices,
-            );
-            show_same(equal(log, &log_now), b" the same log");
-            show_same(equal(marks, &marks_now), b" the same marks\n");
+            )?;
+            show_same(rt, equal(log, &log_now), b" the same log")?;
+            show_same(rt, equal(marks, &marks_now), b" the same marks\n")
         }
     }
 }
 
-fn show_same(same: bool, text: &[u8]) {
-    if same {
-        io::write_all(STDOUT_FILENO, text);
-    } else {
-        io::write_all(STDOUT_FILENO, b" but not");
-        io::write_all(STDOUT_FILENO, text);
+fn show_same(rt: &HostRuntime, same: bool, text: &[u8]) -> io::Result<()> {
+    if !same {
+        write(rt, b" but not")?;
     }
+    write(rt, text)
 }
 
 // Each list is what is left behind the choice that was refused, until none is.
 fn take_lists(
+    rt: &HostRuntime,
     plan: &[u16],
     score: &[u16],
     spans: &[u16],
@@ -87,7 +86,7 @@ fn take_lists(
     marks: &mut [u16],
     begun: Record,
     choices: &[u16],
-) {
+) -> io::Result<()> {
     let mut record = begun;
     let mut accepted: usize = 0;
     let mut from: usize = 0;
@@ -95,17 +94,17 @@ fn take_lists(
         let list = behind_words(choices, from);
         match steps(plan, score, spans, waiting, log, marks, record, list) {
             Listed::All(k, r) => {
-                show_lists(lists, add(accepted, k), r);
-                return;
+                return show_lists(rt, lists, add(accepted, k), r);
             }
             Listed::Refused(reason, k, r) => {
-                show_refusal(reason);
+                show_refusal(rt, reason)?;
                 record = r;
                 accepted = add(accepted, k);
                 from = add(add(from, k), 1);
             }
         }
     }
+    Ok(())
 }
 
 // No sum comes near this number.
@@ -119,15 +118,16 @@ fn add(n: usize, more: usize) -> usize {
     n + more
 }
 
-fn show_refusal(reason: Reason) {
-    if number(reason) != 32 {
-        show(b" a choice refused ", number(reason) as usize);
+fn show_refusal(rt: &HostRuntime, reason: Reason) -> io::Result<()> {
+    match reason {
+        Reason::NoSuchItem => Ok(()),
+        other => show(rt, b" a choice refused ", number(other) as usize),
     }
 }
 
-fn show_lists(refused: usize, accepted: usize, record: Record) {
-    show(b"lists ", add(refused, 1));
-    show(b" accepted ", accepted);
-    show(b" waiting ", record.waiting);
-    show(b" logged ", record.logged);
+fn show_lists(rt: &HostRuntime, refused: usize, accepted: usize, record: Record) -> io::Result<()> {
+    show(rt, b"lists ", add(refused, 1))?;
+    show(rt, b" accepted ", accepted)?;
+    show(rt, b" waiting ", record.waiting)?;
+    show(rt, b" logged ", record.logged)
 }

@@ -3,122 +3,126 @@
 // score is walked with the built plan: taking the first item, the last, and items by a fixed pseudo-random row, each time with a refused choice
 // before every step. Printed are the accepted steps, what waits, what is logged, the refusal of the step after the end, the log where it has at
 // most ten nodes, and the marks. Each walk is made again by lists of the same choices, with a refused one behind every seventh.
-ghost use Rattle.io.specs.Counts.{IsPrefixLen};
-
 use bufferstone::limits::{
     FILE_BYTES, MOST_SHAPES, PLAN_WORDS, SCORE_NODES, SCRATCH_WORDS, SHAPES_WORDS, WAITING_WORDS,
 };
-use bufferstone::{Built, Opened, Record, Size, Walked, build, equal, number, open, start, step};
-use libc::STDOUT_FILENO;
+use bufferstone::{
+    Built, Opened, Reason, Record, Size, Walked, build, equal, number, open, start, step,
+};
 use listed::{CHOICES, note, noted, walk_lists};
-use running::showing::show;
+use running::files::{PATH_BYTES, argument, has_argument, open_named};
+use running::reading::read_full;
+use running::showing::{show, write};
 use running::texts::{first, put_numbers};
 use running::words::first_words;
+use std::io;
 
 mod listed; // the same choices by lists
 
-fn main() {
-    for i in 1..os::arg_count() {
-        if i % 2 == 1 {
-            walk_folio(i, i + 1);
+fn main(rt: HostRuntime) -> io::Result<()> {
+    for i in (1..usize::MAX).step_by(2) {
+        if !has_argument(&rt, i) {
+            return Ok(());
         }
+        walk_folio(&rt, i, i + 1)?;
+    }
+    Ok(())
+}
+
+fn walk_folio(rt: &HostRuntime, i: usize, j: usize) -> io::Result<()> {
+    let mut file = [0u8; FILE_BYTES + 1];
+    let n = read_argument(rt, i, &mut file)?;
+    let mut text = [0u8; 196608];
+    let t = read_argument(rt, j, &mut text)?;
+    let mut stored = [0u16; PLAN_WORDS];
+    let p = put_numbers(first(&text, t), &mut stored);
+    walk_file(rt, first(&file, n), first_words(&stored, p))
+}
+
+// The bytes of the file that argument i names; how many they are, 0 where there is no such file.
+fn read_argument(rt: &HostRuntime, i: usize, bytes: &mut [u8]) -> io::Result<usize> {
+    let mut name = [0u8; PATH_BYTES];
+    let n = argument(rt, i, &mut name).unwrap_or(0);
+    let path = first(&name, n);
+    write(rt, path)?;
+    write(rt, b" ")?;
+    match open_named(rt, path) {
+        Ok(mut input) => Ok(read_full(&mut input, bytes)),
+        Err(_) => Ok(0),
     }
 }
 
-fn walk_folio(i: usize, j: usize) {
-    let mut file = [0u8; FILE_BYTES + 1];
-    let n = read_named(i, &mut file);
-    let mut text = [0u8; 196608];
-    let t = read_named(j, &mut text);
-    let mut stored = [0u16; PLAN_WORDS];
-    let p = put_numbers(&text[..t], &mut stored);
-    walk_file(&file[..n], first_words(&stored, p));
-}
-
-// The bytes of the file that argument i names.
-fn read_named(i: usize, bytes: &mut [u8]) -> usize
-    ensures { IsPrefixLen result bytes.new }
-{
-    let mut name = io::buffer();
-    let n = os::arg(i, &mut name);
-    let path = &name[..n];
-    io::write_all(STDOUT_FILENO, path);
-    io::write_all(STDOUT_FILENO, b" ");
-    let fd = os::open_read(path);
-    let read = io::read_full(fd, bytes);
-    libc::close(fd);
-    read
-}
-
-fn walk_file(file: &[u8], stored: &[u16]) {
+fn walk_file(rt: &HostRuntime, file: &[u8], stored: &[u16]) -> io::Result<()> {
     let mut words = [0u16; SHAPES_WORDS];
     let mut starts = [0u16; MOST_SHAPES];
     let mut score = [0u16; SCORE_NODES];
     let mut spans = [0u16; SCORE_NODES];
     match open(file, &mut words, &mut starts, &mut score, &mut spans) {
-        Opened::Refused(reason, place) => {
-            show(b"refused ", number(reason) as usize);
-        }
+        Opened::Refused(reason, place) => show(rt, b"refused ", number(reason) as usize),
         Opened::Folio(c) => {
             walk_opened(
+                rt,
                 first(file, c.symbols),
                 first_words(&words, c.words),
                 first_words(&starts, c.shapes),
                 first_words(&score, c.nodes),
                 first_words(&spans, c.nodes),
                 stored,
-            );
+            )
         }
     }
 }
 
 fn walk_opened(
+    rt: &HostRuntime,
     symbols: &[u8],
     words: &[u16],
     starts: &[u16],
     score: &[u16],
     spans: &[u16],
     stored: &[u16],
-) {
+) -> io::Result<()> {
     let mut plan = [9u16; PLAN_WORDS];
     let mut scratch = [9u16; SCRATCH_WORDS];
     match build(symbols, words, starts, &mut plan, &mut scratch) {
         Built::Plan(size) => {
             let built = first_words(&plan, size.words);
-            show_plan(size, equal(built, stored));
-            walk_ways(symbols, built, score, spans);
+            show_plan(rt, size, equal(built, stored))?;
+            walk_ways(rt, symbols, built, score, spans)
         }
-        Built::Refused(reason) => {
-            show(b"no plan ", number(reason) as usize);
-        }
-        Built::Stopped(reason, state) => {
-            show(b"no plan ", number(reason) as usize);
-        }
+        Built::Refused(reason) => show(rt, b"no plan ", number(reason) as usize),
+        Built::Stopped(reason, state) => show(rt, b"no plan ", number(reason) as usize),
     }
 }
 
-fn show_plan(size: Size, same: bool) {
+fn show_plan(rt: &HostRuntime, size: Size, same: bool) -> io::Result<()> {
     if same {
-        show(b"plan ", size.states);
-        show(b" states ", size.words);
-        io::write_all(STDOUT_FILENO, b" words as stored\n");
-    } else {
-        io::write_all(STDOUT_FILENO, b"plan differs\n");
+        show(rt, b"plan ", size.states)?;
+        show(rt, b" states ", size.words)?;
+        return write(rt, b" words as stored\n");
     }
+    write(rt, b"plan differs\n")
 }
 
-fn walk_ways(symbols: &[u8], plan: &[u16], score: &[u16], spans: &[u16]) {
+fn walk_ways(
+    rt: &HostRuntime,
+    symbols: &[u8],
+    plan: &[u16],
+    score: &[u16],
+    spans: &[u16],
+) -> io::Result<()> {
     let none = [65535u16; SCORE_NODES];
     let mut firsts = [9u16; SCORE_NODES];
     let mut lasts = [9u16; SCORE_NODES];
     let mut others = [9u16; SCORE_NODES];
-    walk_way(symbols, plan, score, spans, &none, &mut firsts, 0);
-    walk_way(symbols, plan, score, spans, &firsts, &mut lasts, 1);
-    walk_way(symbols, plan, score, spans, &firsts, &mut others, 2);
+    walk_way(rt, symbols, plan, score, spans, &none, &mut firsts, 0)?;
+    walk_way(rt, symbols, plan, score, spans, &firsts, &mut lasts, 1)?;
+    walk_way(rt, symbols, plan, score, spans, &firsts, &mut others, 2)
 }
 
 // By single steps, and again by lists; `before` are the marks of another way.
 fn walk_way(
+    rt: &HostRuntime,
     symbols: &[u8],
     plan: &[u16],
     score: &[u16],
@@ -126,10 +130,11 @@ fn walk_way(
     before: &[u16],
     marks: &mut [u16],
     way: usize,
-) {
+) -> io::Result<()> {
     let mut log = [0u16; SCORE_NODES];
     let mut choices = [65535u16; CHOICES];
     walk_whole(
+        rt,
         symbols,
         plan,
         score,
@@ -138,17 +143,18 @@ fn walk_way(
         marks,
         &mut choices,
         way,
-    );
+    )?;
     if equal(before, marks) {
-        io::write_all(STDOUT_FILENO, b" the same marks\n");
+        write(rt, b" the same marks\n")?;
     } else {
-        show_marks(marks, score.len());
+        show_marks(rt, marks, score.len())?;
     }
     let all = noted(&choices, score.len());
-    walk_lists(symbols, plan, score, spans, all, &log, marks);
+    walk_lists(rt, symbols, plan, score, spans, all, &log, marks)
 }
 
 fn walk_whole(
+    rt: &HostRuntime,
     symbols: &[u8],
     plan: &[u16],
     score: &[u16],
@@ -157,11 +163,12 @@ fn walk_whole(
     marks: &mut [u16],
     choices: &mut [u16],
     way: usize,
-) {
+) -> io::Result<()> {
     let mut waiting = [0u16; WAITING_WORDS];
     match start(symbols, score, spans, &mut waiting, log, marks) {
         Walked::On(r) => {
             take_steps(
+                rt,
                 plan,
                 score,
                 spans,
@@ -171,16 +178,15 @@ fn walk_whole(
                 r,
                 choices,
                 way,
-            );
+            )
         }
-        Walked::Refused(reason) => {
-            show(b"no start ", number(reason) as usize);
-        }
+        Walked::Refused(reason) => show(rt, b"no start ", number(reason) as usize),
     }
 }
 
 // Steps until one is refused, and notes what was chosen.
 fn take_steps(
+    rt: &HostRuntime,
     plan: &[u16],
     score: &[u16],
     spans: &[u16],
@@ -190,27 +196,28 @@ fn take_steps(
     begun: Record,
     choices: &mut [u16],
     way: usize,
-) {
+) -> io::Result<()> {
     let mut record = begun;
     let mut turn: u32 = 1;
     for taken in 0..5000 {
         turn = next(turn);
         let choice = choose(way, record.waiting, turn);
         note(choices, taken, choice);
-        match take(plan, score, spans, waiting, log, marks, record, choice) {
+        match take(rt, plan, score, spans, waiting, log, marks, record, choice)? {
             Walked::On(r) => {
                 record = r;
             }
             Walked::Refused(reason) => {
-                show_end(taken, record, number(reason), log);
-                return;
+                return show_end(rt, taken, record, number(reason), log);
             }
         }
     }
+    Ok(())
 }
 
 // A step, after one with a choice that has to be refused.
 fn take(
+    rt: &HostRuntime,
     plan: &[u16],
     score: &[u16],
     spans: &[u16],
@@ -219,22 +226,20 @@ fn take(
     marks: &mut [u16],
     record: Record,
     choice: usize,
-) -> Walked {
+) -> io::Result<Walked> {
     let past = record.waiting;
-    show_taken(step(plan, score, spans, waiting, log, marks, record, past));
-    step(plan, score, spans, waiting, log, marks, record, choice)
+    show_taken(
+        rt,
+        step(plan, score, spans, waiting, log, marks, record, past),
+    )?;
+    Ok(step(plan, score, spans, waiting, log, marks, record, choice))
 }
 
-fn show_taken(answer: Walked) {
+fn show_taken(rt: &HostRuntime, answer: Walked) -> io::Result<()> {
     match answer {
-        Walked::On(r) => {
-            show(b" a wrong choice taken, waiting ", r.waiting);
-        }
-        Walked::Refused(reason) => {
-            if number(reason) != 32 {
-                show(b" a wrong choice refused ", number(reason) as usize);
-            }
-        }
+        Walked::On(r) => show(rt, b" a wrong choice taken, waiting ", r.waiting),
+        Walked::Refused(Reason::NoSuchItem) => Ok(()),
+        Walked::Refused(reason) => show(rt, b" a wrong choice refused ", number(reason) as usize),
     }
 }
 
@@ -255,33 +260,41 @@ fn choose(way: usize, waiting: usize, turn: u32) -> usize {
     (turn as usize) % waiting
 }
 
-fn show_end(taken: usize, record: Record, why: u16, log: &[u16]) {
-    show(b"steps ", taken);
-    show(b" waiting ", record.waiting);
-    show(b" logged ", record.logged);
-    show(b" then refused ", why as usize);
+fn show_end(
+    rt: &HostRuntime,
+    taken: usize,
+    record: Record,
+    why: u16,
+    log: &[u16],
+) -> io::Result<()> {
+    show(rt, b"steps ", taken)?;
+    show(rt, b" waiting ", record.waiting)?;
+    show(rt, b" logged ", record.logged)?;
+    show(rt, b" then refused ", why as usize)?;
     if record.logged <= 10 {
-        io::write_all(STDOUT_FILENO, b" log");
-        show_log(first_words(log, record.logged));
+        write(rt, b" log")?;
+        show_log(rt, first_words(log, record.logged))?;
     }
+    Ok(())
 }
 
-fn show_log(log: &[u16]) {
+fn show_log(rt: &HostRuntime, log: &[u16]) -> io::Result<()> {
     for i in 0..log.len() {
-        show(b" ", log[i] as usize);
+        show(rt, b" ", log[i] as usize)?;
     }
+    Ok(())
 }
 
 // The nodes among the first n that have a mark, each with its mark.
-fn show_marks(marks: &[u16], n: usize) {
-    io::write_all(STDOUT_FILENO, b" marks");
+fn show_marks(rt: &HostRuntime, marks: &[u16], n: usize) -> io::Result<()> {
+    write(rt, b" marks")?;
     for i in 0..marks.len() {
         if i < n {
             if marks[i] != 0 {
-                show(b" ", i);
-                show(b":", marks[i] as usize);
+                show(rt, b" ", i)?;
+                show(rt, b":", marks[i] as usize)?;
             }
         }
     }
-    io::write_all(STDOUT_FILENO, b"\n");
+    write(rt, b"\n")
 }
