@@ -28,27 +28,33 @@ follow_proofs() {
     while IFS= read -r line; do
         printf '%s\n' "$line"
         case $line in
-        'rt: '*' proved ('*) ;;
+        'crate '*': modules '*) ;;
         *) continue ;;
         esac
-        done_crates=$((done_crates + 1)) crate=${line#rt: }
-        [ ! -t 2 ] || printf '\r%s: crate %s of %s is proved: %-12s' "$me" "$done_crates" "$1" "${crate%% *}" >&2
+        done_crates=$((done_crates + 1)) crate=${line#crate }
+        [ ! -t 2 ] || printf '\r%s: crate %s of %s is proved: %-12s' "$me" "$done_crates" "$1" "${crate%%:*}" >&2
     done
     [ ! -t 2 ] || printf '\n' >&2
 }
 
-# Proves and builds the program if there is none, or if the crates have changed since.
+# The first file of the crates that is newer than the program; what rt keeps in a crate's out/ does not count.
+changed() {
+    find crates crates.txt -name out -prune -o -newer "$built" -print 2>/dev/null | head -n 1
+}
+
+# Proves and builds the program if there is none, or if the crates have changed since. rt runs what it has built, with no arguments and no input.
 build() {
-    if [ -x "$program" ] && [ -e "$built" ] && [ -z "$(find crates crates.txt -newer "$built" 2>/dev/null | head -n 1)" ]; then
+    if [ -x "$program" ] && [ -e "$built" ] && [ -z "$(changed)" ]; then
         return
     fi
     need_kit
     [ ! -t 2 ] || printf '%s: proving and building %s, about six minutes the first time\n' "$me" "$name" >&2
-    { rt check "$name" 2>&1 || : >"$room/failed"; } | follow_proofs "$(count_crates)" >"$room/said"
+    { (cd "crates/$name" && rt run </dev/null) 2>&1 || : >"$room/failed"; } | follow_proofs "$(count_crates)" >"$room/said"
     if [ -e "$room/failed" ]; then
         cat "$room/said" >&2
         fail "$name could not be proved and built"
     fi
+    mkdir -p target/bin && cp "crates/$name/out/$name" "$program" || fail "$name could not be copied to target/bin"
     : >"$built"
 }
 
@@ -57,7 +63,7 @@ find_runner() {
     emulator='' tools=''
     [ "$(uname -m)" != x86_64 ] || return 0
     need_kit
-    tools=$(dirname "$(dirname "$(rt doc)")")/on/$(uname -m)/toolchain
+    tools=$(dirname "$(rt doc)")/on/$(uname -m)/toolchain
     emulator=$tools/bin/qemu-x86_64
     [ -x "$emulator" ] || fail "$name is for x86-64, and the kit has no emulator for this machine"
 }

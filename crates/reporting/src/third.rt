@@ -21,7 +21,7 @@ impl Read for Third<'_> {
         if let Some(file) = &mut self.opened {
             return file.read(bytes);
         }
-        let mut file = fs::open(self.rt, "/dev/fd/3")?;
+        let mut file = fs::open(self.rt, "/proc/self/fd/3")?;
         let n = file.read(bytes)?;
         self.opened = Some(file);
         Ok(n)
