@@ -18,7 +18,7 @@ use borrow.Author.Tests.{eq-eqb, ne_eqb, lt-ltb, le-ltb}
 use Rattle.kinds.specs.Members.{◌∈◌, here, there}
 use Rattle.kinds.proofs.Bools.{and_l, and_r, false_true}
 use Rattle.kinds.proofs.Members.{in_none, in_one, ∈_append}
-use Rattle.matching.specs.Falling.{size, stands, falls, picked, falling, touched}
+use Rattle.matching.specs.Falling.{size, stands, falls, falling, touched}
 use Rattle.matching.specs.Counts.{raise, raises}
 use Rattle.matching.proofs.LawsFalling.{size_one, falling_some, falling_none, stands_out}
 
@@ -63,7 +63,7 @@ more_is (x ∷ xs) cs y h = more_is xs (set cs x (raise (get_or cs x 0))) y (rw 
 -- ---- what one shape touches
 module _ (bl : ℕ) (spans : List ℕ) where
   touched_low : (ws : List ℕ) (x y : ℕ) → y < x → times y (touched bl spans ws x) ≡ 0
-  unfolding picked
+  unfolding touched
   touched_low [] x y h = refl
   touched_low (w ∷ ws) x y h = times_append y (falling bl w x) _ ∙ go (dec_lt w bl) (touched_low ws (x + size bl spans w x) y (omega arith))
     where
@@ -73,7 +73,7 @@ module _ (bl : ℕ) (spans : List ℕ) where
       go (no l) rest = rw (falling_none bl w x (omega arith), rest)
 
   pub touched_once : (ws : List ℕ) (x y : ℕ) → times y (touched bl spans ws x) ≤ 1
-  unfolding picked
+  unfolding touched
   touched_once [] x y = omega arith
   touched_once (w ∷ ws) x y = rw (times_append y (falling bl w x) (touched bl spans ws (x + size bl spans w x)))
       (go (dec_lt w bl) (ℕ_discrete x y) (touched_once ws (x + size bl spans w x) y))
@@ -86,7 +86,7 @@ module _ (bl : ℕ) (spans : List ℕ) where
       go (no l) e ih = rw (falling_none bl w x (omega arith)) (omega arith)
 
   pub falls_inside : (score ws : List ℕ) (x y : ℕ) → falls bl score spans ws x ≡ true → y ∈ touched bl spans ws x → y < length score
-  unfolding falls picked
+  unfolding falls touched
   falls_inside score [] x y e m = in_none m
   falls_inside score (w ∷ ws) x y e m = ⊎_elim (λ i. go (dec_lt w bl) (dec_lt x (length score)) i)
       (λ i. falls_inside score ws (x + size bl spans w x) y (and_r (stands bl score w x) e) i) (∈_append (falling bl w x) m)

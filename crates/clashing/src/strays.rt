@@ -28,10 +28,12 @@ fn is_stray(words: &[u16], starts: &[u16], score: &[u16], spans: &[u16], k: usiz
     requires { k < 65536 }
     ensures { result ≡ not (matched words.now starts.now score.now spans.now (match_of k)) }
 {
-    let shape = Shape((k % 16) as u16);
-    let node = Node((k / 16) as u16);
-    let there = is_match(words, starts, score, spans, shape, node);
-    !there
+    if starts.len() <= k % 16 {
+        return true;
+    }
+    let shape = words_of(words, starts, Shape((k % 16) as u16));
+    let good = matches_at(shape, BLANK, score, spans, Node((k / 16) as u16));
+    !good
 }
 
 // Whether there is such a shape, and it matches at the node.

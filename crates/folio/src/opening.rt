@@ -2,13 +2,12 @@ ghost use Rattle.std.specs.Prelude.{◌≡◌, ◌≤◌, length, take, drop};
 ghost use Rattle.folio.specs.Holding.{Sectioned};
 ghost use Rattle.folio.specs.Opening.{lent, out, counts_of, stored, held, opened};
 
-use crate::storing::put_spans;
+use crate::storing::{put, put_spans};
 use crate::{Counts, Opened, SECTION_WORDS};
 use contents::reading::{read_score, read_shapes};
 use contents::{Score, Shapes, ShapesMet};
 use kinds::Reason;
 use kinds::limits::BLANK;
-use kinds::slices::copy;
 use sections::Sections;
 use sections::finding::{fill, find_sections};
 use term::Met;
@@ -116,9 +115,9 @@ fn store(
     if spans.len() < sc.len() {
         return Opened::Refused(Reason::Tables, 0);
     }
-    copy(words, 0, ws);
-    copy(starts, 0, st);
-    copy(score, 0, sc);
+    put(words, ws);
+    put(starts, st);
+    put(score, sc);
     put_spans(symbols, sc, spans);
     Opened::Folio(counts)
 }

@@ -8,7 +8,8 @@
 --   map_at range     each with its place; numbers in a row
 --   sum greatest     of numbers; of none 0
 --   bind need        go on with what there is; go on only if the test holds
---   or_else           what there is, or another
+--   or_else          a number that there is, or another
+--   otherwise        what there is, or another
 --   perhaps          what there is, as a list
 --   onto             words in front, the others as they were
 use Rattle.std.specs.Prelude.{List, [], ◌∷◌, ◌++◌, Bool, true, false, cond, ◌&&◌, ◌||◌, ℕ, zero, suc, ◌+◌, max, eqb, length, drop}
@@ -58,9 +59,9 @@ module _ {ℓ} {A : Type ℓ} where
   perhaps none = []
   perhaps (some a) = a ∷ []
 
-  abbrev pub or_else : Option A → A → A
-  or_else (some a) d = a
-  or_else none d = d
+  abbrev pub otherwise : Option A → A → A
+  otherwise (some a) d = a
+  otherwise none d = d
 
   abbrev pub is_nil : List A → Bool
   is_nil [] = true
@@ -83,6 +84,10 @@ module _ {ℓ κ} {A : Type ℓ} {B : Type κ} where
   abbrev pub bind : Option A → (A → Option B) → Option B
   bind none f = none
   bind (some a) f = f a
+
+abbrev pub or_else : Option ℕ → ℕ → ℕ
+or_else (some i) d = i
+or_else none d = d
 
 -- i, i + 1, …: n numbers
 abbrev pub range : ℕ → ℕ → List ℕ

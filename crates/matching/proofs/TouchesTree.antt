@@ -22,6 +22,7 @@ use Rattle.term.proofs.Numbers.{sub_number, number_append}
 use Rattle.term.proofs.Subterms.{dom_in}
 use Rattle.matching.specs.Falling.{on_symbols, touched}
 use Rattle.matching.specs.Touching.{symbol_places, touched_at}
+use Rattle.matching.proofs.LawsFalling.{touched_picked}
 use Rattle.matching.proofs.Picked.{over, overs, picked_is}
 
 -- a non-blank node q of a shape that stands at a position falls on node x
@@ -129,7 +130,7 @@ module _ (ar : List ℕ) (bl sb : ℕ) (ℓ t : Term) (fits : Fits ar bl ℓ) (g
   pub touched_touches : (y : ℕ) → y ∈ touched bl (sizes t) (flatten ℓ) x → Touches ℓ t p y
   touched_touches y i =
       let s = sub_number p t x n in
-      let h = over_touches ℓ s.0 x y (rw (picked_is on_symbols ar bl sb ℓ t fits good p x n m s.0 s.1) at i) in
+      let h = over_touches ℓ s.0 x y (rw (touched_picked bl (sizes t) (flatten ℓ) x ∙ picked_is on_symbols ar bl sb ℓ t fits good p x n m s.0 s.1) at i) in
       record {
         q = h.1.q;
         f = h.1.f;
@@ -142,4 +143,4 @@ module _ (ar : List ℕ) (bl sb : ℕ) (ℓ t : Term) (fits : Fits ar bl ℓ) (g
   touches_touched y h =
       let s = sub_number p t x n in
       on_map (number s.0 h.q) _ (sym (number_append p h.q t s.0 x s.1 n) ∙ h.falls) λ k ek d.
-      rw (picked_is on_symbols ar bl sb ℓ t fits good p x n m s.0 s.1, ← d) (touches_over h.q ℓ s.0 x k h.f h.symbol ek)
+      rw (touched_picked bl (sizes t) (flatten ℓ) x ∙ picked_is on_symbols ar bl sb ℓ t fits good p x n m s.0 s.1, ← d) (touches_over h.q ℓ s.0 x k h.f h.symbol ek)

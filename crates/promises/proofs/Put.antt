@@ -10,7 +10,7 @@ use Prim.Native.Nat.{ℕ, ◌+◌, ◌-◌, ◌≤◌}
 use native.Mathlib.Omega.{arith}
 use lib.ListN.{length, get_or, get_elem?, take, drop}
 use Rattle.kinds.specs.Limits.{blank_word, first_name, no_blank}
-use Rattle.kinds.specs.Lists.{bind, gather, or_else, onto}
+use Rattle.kinds.specs.Lists.{bind, gather, otherwise, onto}
 use Rattle.kinds.specs.Members.{Below}
 use Rattle.kinds.specs.Positions.{Pos}
 use Rattle.kinds.specs.Reasons.{gives}
@@ -225,8 +225,8 @@ module _ {file : List ℕ} (O : OpenFile file) (j x f : ℕ) (new : List ℕ) (m
       bound_so v e i q u eq eu =
           let z : 65504 + i - 65504 ≡ i = omega arith in
           let at : sub (score_in O) (m.place ++ q) ≡ some u = sub_append m.place q (score_in O) ∙ ap (λ o. bind o (λ y. sub y q)) e ∙ eu in
-          ap (λ k. or_else (bind (get_elem? (edges m.shape) k) (λ r. sub (score_in O) (m.place ++ r))) (blank (65504 + i))) z
-          ∙ ap (λ o. or_else (bind o (λ r. sub (score_in O) (m.place ++ r))) (blank (65504 + i))) eq ∙ ap (λ o. or_else o (blank (65504 + i))) at
+          ap (λ k. otherwise (bind (get_elem? (edges m.shape) k) (λ r. sub (score_in O) (m.place ++ r))) (blank (65504 + i))) z
+          ∙ ap (λ o. otherwise (bind o (λ r. sub (score_in O) (m.place ++ r))) (blank (65504 + i))) eq ∙ ap (λ o. otherwise o (blank (65504 + i))) at
 
   pub unchanged : (Finished (score_in O) m.place f → ⊥) → span (score_in O) ≤ length new → Unchanged O j x f new m
   unchanged no-41 room =

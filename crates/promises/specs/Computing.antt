@@ -17,7 +17,7 @@ use Rattle.listing.specs.Listing.{listed}
 use Rattle.queue.specs.Targets.{targets, marked, newly}
 use Rattle.counting.specs.Counting.{found_from, total, counted}
 use Rattle.matching.specs.Shapes.{end_of, part, shape_at}
-use Rattle.matching.specs.Falling.{size, stands, falls, picked}
+use Rattle.matching.specs.Falling.{size, stands, falls, falling, touched, picked}
 use Rattle.clashing.specs.Clashes.{clash_number, nodes_of}
 use Rattle.clashing.specs.Strays.{matched, strays}
 use Rattle.clashing.specs.Clashing.{clashes_in, clashes_of}
@@ -31,7 +31,7 @@ unfoldable pub computing : ℕ
 unfolding decode_to children_of head_of reading over spans_of sibling child_at follow target words_of distances_of trailer_of over_at symbols_of sections_of
     shapes_from shapes_of score_of stored held opened symbols_good shapes_good score_good piece_at subtree_at cleared build_of pairs counted_pairs block_at
     label_word block_of pair_at pair_in label_of lengths_of announcement_of successor_of started targets look marked newly tried stepped run run_by listed found_from
-    total counted end_of part shape_at size stands falls picked clash_number nodes_of matched strays clashes_in clashes_of mark_at
+    total counted end_of part shape_at size stands falls falling touched picked clash_number nodes_of matched strays clashes_in clashes_of mark_at
     answer_of is_known trees_in bears finished_at under piece_of result_of handed put_in put_of child_on path_to path_of digits_to
     digits dotted path_text lines report written
 computing = 0

@@ -8,7 +8,7 @@ use Rattle.std.specs.Prelude.{◌≡◌, List, ◌++◌, ℕ, ◌+◌, ◌-◌, 
 use Rattle.std.proofs.Math.Option.{some}
 use Rattle.std.proofs.Math.ListN.{get_elem?}
 use Rattle.kinds.specs.Limits.{first_name}
-use Rattle.kinds.specs.Lists.{bind, or_else}
+use Rattle.kinds.specs.Lists.{bind, otherwise}
 use Rattle.kinds.specs.Positions.{Pos}
 use Rattle.term.specs.Terms.{Term, blank, flatten, Fits}
 use Rattle.term.specs.Places.{sub, head_at, edges}
@@ -20,7 +20,7 @@ pub record IsLink (ar : List ℕ) (ℓ : Term) (link : List ℕ) (r : Term) : Ty
   pub words : link ≡ flatten r
 
 abbrev pub binding : Term → Term → Pos → ℕ → Term
-binding ℓ t p w = or_else (bind (get_elem? (edges ℓ) (w - first_name)) (λ q. sub t (p ++ q))) (blank w)
+binding ℓ t p w = otherwise (bind (get_elem? (edges ℓ) (w - first_name)) (λ q. sub t (p ++ q))) (blank w)
 
 abbrev pub replaced : Term → Term → Pos → Term → Term
 replaced ℓ t p r = put t p (fill (binding ℓ t p) r)

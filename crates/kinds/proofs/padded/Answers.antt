@@ -7,10 +7,10 @@ use Rattle.kinds.proofs.padded.Goals as goal
 
 pub loop-n-init : goal.loop-n-init
 loop-n-init c = (
-      omega (arith, c.length-n.ensures, decode_short 7 c.args.p.0),
-      ap (λ (n : ℕ). c.args.p.0 * 5 ^ (7 - n)) c.length-n.ensures
-          ∙ padded_start c.args.p.0 (omega arith),
-    )
+  omega (arith, c.length-n.ensures, decode_short 7 c.args.p.0),
+  ap (λ (n : ℕ). c.args.p.0 * 5 ^ (7 - n)) c.length-n.ensures
+      ∙ padded_start c.args.p.0 (omega arith),
+)
 
 pub overflow_mul-code : goal.overflow_mul-code
 overflow_mul-code c = omega (

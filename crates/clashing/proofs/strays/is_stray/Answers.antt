@@ -1,6 +1,12 @@
 use mathlib.Core.Bool.{not}
-use mathlib.Core.Path.{ap}
+use mathlib.Core.Path.{ap, ◌∙◌}
+use Rattle.counting.specs.Counting.{match_of}
+use Rattle.clashing.proofs.PassTurns.{match_none, match_is}
 use Rattle.clashing.proofs.strays.is_stray.Goals as goal
 
+pub returns-then-starts-k : goal.returns-then-starts-k
+returns-then-starts-k c = ap not (match_none _ _ _ _ (match_of c.args.k) c.if-starts-k.true)
+
 pub returns : goal.returns
-returns c = ap not c.is_match-there.ensures
+returns c =
+    ap not (c.matches_at-good.ensures ∙ match_is _ _ _ _ (match_of c.args.k) _ c.words_of-shape.ensures c.if-starts-k.false)

@@ -28,4 +28,4 @@ pub returns : goal.returns
 returns c =
     stored_written c.args.symbols.now c.args.ws.now c.args.st.now c.args.sc.now c.args.counts
     (lent c.args.words.now c.args.starts.now c.args.score.now c.args.spans.now) c.if-words-ws.false c.if-starts-st.false c.if-score-sc.false c.if-spans-sc.false
-    c.copy.ensures c.copy-2.ensures c.copy-3.ensures c.put_spans.ensures
+    c.put.ensures c.put-2.ensures c.put-3.ensures c.put_spans.ensures

@@ -5,29 +5,27 @@ use Rattle.kinds.proofs.KindLaws.{child_bad, child_none, child_many, child_far, 
 use Rattle.kinds.proofs.Position.child.Goals as goal
 
 pub returns-then-not-good : goal.returns-then-not-good
-returns-then-not-good c = 
+returns-then-not-good c =
     sym (child_bad c.args.self c.args.i (sym c.is_good-good.ensures ∙ not-true _ c.if-not-good.true-raw))
 
 pub returns-then-i-eq0 : goal.returns-then-i-eq0
-returns-then-i-eq0 c = 
+returns-then-i-eq0 c =
     sym (child_none c.args.self c.args.i (sym c.is_good-good.ensures ∙ not-false _ c.if-not-good.false-raw)
     (omega arith))
 
 pub returns-then-i-gt4 : goal.returns-then-i-gt4
-returns-then-i-gt4 c = 
+returns-then-i-gt4 c =
     sym (child_many c.args.self c.args.i
     (sym c.is_good-good.ensures ∙ not-false _ c.if-not-good.false-raw) c.if-i-gt4.true)
 
 pub returns-then-top-code : goal.returns-then-top-code
-returns-then-top-code c = 
-    
+returns-then-top-code c =
     sym (child_far c.args.self c.args.i
     (sym c.is_good-good.ensures ∙ not-false _ c.if-not-good.false-raw) (omega arith)
     c.if-i-gt4.false c.if-top-code.true)
 
 pub returns : goal.returns
-returns c = 
-    
+returns c =
     sym (child_at_lem c.args.self c.args.i
     (sym c.is_good-good.ensures ∙ not-false _ c.if-not-good.false-raw) (omega arith)
     c.if-i-gt4.false c.if-top-code.false)

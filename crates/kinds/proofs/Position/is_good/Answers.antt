@@ -10,14 +10,14 @@ pub loop-rest-init : goal.loop-rest-init
 loop-rest-init c = (omega arith, good_near c.args.self.0 c.if-self.false)
 
 pub returns-then-rest-eq0 : goal.returns-then-rest-eq0
-returns-then-rest-eq0 c = 
+returns-then-rest-eq0 c =
     sym (c.loop-rest.invariant.1 ∙ zero_stop c.loop-rest.rest c.loop-rest-test.true (omega arith) c.if-rest-eq0.true)
 
 pub loop-rest-smaller : goal.loop-rest-smaller
 loop-rest-smaller c = omega arith
 
 pub loop-rest-preserved : goal.loop-rest-preserved
-loop-rest-preserved c = 
+loop-rest-preserved c =
     (omega arith, c.loop-rest.invariant.1 ∙ zero_next c.loop-rest.rest c.loop-rest-test.true (omega arith) c.if-rest-eq0.false)
 
 pub returns : goal.returns

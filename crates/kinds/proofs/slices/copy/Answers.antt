@@ -11,7 +11,7 @@ pub bounds-out-at : goal.bounds-out-at
 bounds-out-at c = omega arith
 
 pub loop-i-preserved : goal.loop-i-preserved
-loop-i-preserved c = 
+loop-i-preserved c =
     (omega arith, simp length-set c.loop-i.invariant.1, c.loop-i.invariant.2 ∙ run_next _ _ _ _ c.loop-i-test.true)
 
 pub shape_of-out : goal.shape_of-out

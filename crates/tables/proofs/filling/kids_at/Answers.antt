@@ -1,7 +1,6 @@
 use Rattle.tables.proofs.TableLaws.{kids_end, kids_there, kids_on, kids_off}
 use Rattle.tables.specs.ShapeTables.{kids_from}
 use mathlib.Core.Path.{ap, sym, ◌∙◌}
-use mathlib.Core.Logic.{⊎_elim}
 use native.Mathlib.Omega.{arith}
 use native.Mathlib.Nat.{one-mul}
 use lib.Dec.{lit<}

@@ -1,6 +1,5 @@
 use Rattle.tables.proofs.TableLaws.{seek_end, seek_there, seek_down, seek_on}
 use mathlib.Core.Path.{refl, sym, ◌∙◌}
-use mathlib.Core.Logic.{⊎_elim}
 use native.Mathlib.Omega.{arith}
 use Rattle.tables.proofs.filling.seek.Goals as goal
 use Rattle.tables.proofs.filling.seek.Goals.{then-r-c-2, else-r-c-2}
