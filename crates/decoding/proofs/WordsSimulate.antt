@@ -10,7 +10,7 @@ use Rattle.kinds.specs.Positions.{decode}
 use Rattle.kinds.proofs.Codes.{decode_code}
 use Rattle.automaton.specs.Bare.{bare}
 use Rattle.automaton.specs.Paper.{paper}
-use Rattle.automaton.specs.Classes.{classes, gcp}
+use Rattle.automaton.specs.Classes.{classes}
 use Rattle.automaton.specs.Exploring.{construction}
 use Rattle.automaton.specs.PlanWords.{planned}
 use Rattle.automaton.proofs.Simulation.{Simulates, plan_simulated}

@@ -8,7 +8,6 @@ use mathlib.Core.Bool.{Bool, cond}
 use mathlib.Core.Option.{some}
 use native.Mathlib.Omega.{arith}
 use native.Mathlib.Decide.{dec_lt}
-use lib.Dec.{ltb}
 use lib.ListN.{length, get_or, get_elem?, length-append}
 use lib.Seq.{drop_at, take_at}
 use Rattle.kinds.specs.Lists.{gather}

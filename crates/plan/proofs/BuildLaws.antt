@@ -25,7 +25,7 @@ use Rattle.kinds.proofs.Bools.{both, is_eqb, or_l, or_r}
 use Rattle.kinds.specs.Members.{◌∈◌, here, there}
 use Rattle.kinds.proofs.ListLaws.{onto_sets}
 use Rattle.checks.specs.Again.{shapes_good}
-use Rattle.automaton.specs.Exploring.{Made, made, explored}
+use Rattle.automaton.specs.Exploring.{made, explored}
 use Rattle.automaton.specs.PlanWords.{Plan, halted, too_long, plan_of_lem, to_plan, planned}
 use Rattle.automaton.specs.FinalBlocks.{all_blocks, SmallOn}
 use Rattle.automaton.proofs.BlocksAgain.{blocks_again}

@@ -22,7 +22,7 @@ use Rattle.kinds.specs.Positions.{Pos, code}
 use Rattle.kinds.proofs.Codes.{Small, small_code}
 use Rattle.kinds.proofs.Options.{none_not}
 use Rattle.kinds.proofs.Places.{at_in, at_get_d}
-use Rattle.term.specs.Terms.{Term, blank, node, Terms, tnil, tcons, count, span, flatten, flattens}
+use Rattle.term.specs.Terms.{Term, blank, node, Terms, tnil, tcons, span, flatten, flattens}
 use Rattle.term.specs.Places.{sub, dom}
 use Rattle.folio.specs.Folio.{Shaped, starts_at, shape_terms}
 use Rattle.term.specs.Admitted.{IsShape, GoodSymbols, AreShapes}

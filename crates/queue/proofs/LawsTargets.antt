@@ -22,7 +22,6 @@ use lib.Seq.{sets, drop-cons, drop-set-lt}
 use Rattle.kinds.specs.Lists.{or_else, all}
 use Rattle.kinds.specs.Bits.{clear_bit, with_bit}
 use Rattle.kinds.proofs.Bools.{and_l, and_r, both, and_false, false_true, ltb_is}
-use Rattle.following.specs.declared.Reached.TheVariants as term
 use Rattle.readers.specs.PlanParts.{pair_words}
 use Rattle.queue.specs.Targets.{targets, put, marked, newly, below_room, fine, landed, closed_up}
 use Rattle.readers.specs.BlockWords.{pair_list}

@@ -7,7 +7,6 @@
 use mathlib.Core.Path.{◌≡◌, refl, ap, ap₂, sym, ◌∙◌}
 use mathlib.Core.List.{List, [], ◌∷◌, ◌++◌, map, append_assoc, append-nil}
 use mathlib.Core.Bool.{Bool, true, false, cond}
-use mathlib.Core.Option.{none}
 use mathlib.Core.Logic.{⊎_elim}
 use Prim.Native.Nat.{ℕ, suc, ◌+◌, ◌-◌, ◌*◌, ◌%◌, ◌<◌, ◌≤◌}
 use native.Mathlib.Omega.{arith}
@@ -21,7 +20,7 @@ use Rattle.kinds.specs.Positions.{code}
 use Rattle.kinds.proofs.Members.{in_one, length_range, perm_length, sort_perm}
 use Rattle.kinds.proofs.ListLaws.{map_append, concat_append, from, from_end}
 use Rattle.kinds.proofs.Places.{get_elem_some, get_d_ext, ext_length}
-use Rattle.automaton.specs.Exploring.{Succ, Block, Met, met, Made, refused, meet, meets, row, run, explored}
+use Rattle.automaton.specs.Exploring.{Succ, Block, Met, met, refused, meet, meets, row, run, explored}
 use Rattle.automaton.specs.PlanWords.{block_words}
 use Rattle.automaton.proofs.BlocksAgain.{meet_found, meets_found}
 use Rattle.goals.specs.GoalWords.{GoalWords, goals_from, flat, label_code}

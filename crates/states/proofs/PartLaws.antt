@@ -27,7 +27,7 @@ use Rattle.derivatives.specs.Passes.{PutsFirst, Derivable, Arranged}
 use Rattle.derivatives.proofs.SortLaws.{sort_length}
 use Rattle.derivatives.proofs.OrderLaws.{keyed_count}
 use Rattle.classes.specs.Squares.{shares, Closes}
-use Rattle.decoding.specs.WordMachine.{words, place_in, state_in, states_in}
+use Rattle.decoding.specs.WordMachine.{place_in, state_in, states_in}
 use Rattle.decoding.specs.GoodStates.{GoodState}
 use Rattle.decoding.proofs.Room.{flat_length}
 use Rattle.decoding.proofs.GoodLaws.{ready_few, good_low, good_label, deriv_low, deriv_room}

@@ -1,5 +1,4 @@
 use Rattle.classes.proofs.ClosureLaws.{row_none, row_skip, row_put, grown_refl, no_both}
-use mathlib.Core.Logic.{⊎_elim}
 use native.Mathlib.Omega.{arith}
 use Rattle.classes.proofs.closure.join_row.Goals as goal
 use Rattle.classes.proofs.closure.join_row.Goals.{else-dep-k, then-dep-k}

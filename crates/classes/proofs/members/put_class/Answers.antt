@@ -4,7 +4,6 @@ use Prim.Native.Nat.{◌<◌, ◌+◌}
 use lib.Seq.{sets}
 use lib.ListN.{length, get_or}
 use mathlib.Core.List.{[]}
-use mathlib.Core.Logic.{⊎_elim}
 use mathlib.Core.Path.{refl, ap, sym, ◌∙◌}
 use native.Mathlib.Omega.{arith}
 use Rattle.classes.proofs.members.put_class.Goals as goal

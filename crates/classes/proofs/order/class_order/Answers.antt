@@ -3,7 +3,6 @@ use Rattle.derivatives.specs.Orders.{begins, class_at}
 use Rattle.goals.specs.GoalWords.{pad}
 use Rattle.goals.specs.WordStages.{class_key}
 use Prim.Native.Nat.{◌+◌, ◌*◌}
-use mathlib.Core.Logic.{⊎_elim}
 use mathlib.Core.Path.{ap, sym, ◌∙◌}
 use native.Mathlib.Omega.{arith}
 use Rattle.classes.proofs.order.class_order.Goals as goal

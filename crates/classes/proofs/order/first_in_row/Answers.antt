@@ -4,7 +4,6 @@ use Rattle.derivatives.proofs.OrderLaws.{first_on, first_off, first_end, first_a
 use Prim.Native.Nat.{◌<◌}
 use lib.ListN.{length, get_or}
 use mathlib.Core.List.{[]}
-use mathlib.Core.Logic.{⊎_elim}
 use mathlib.Core.Path.{refl, sym, ◌∙◌}
 use native.Mathlib.Omega.{arith}
 use Rattle.classes.proofs.order.first_in_row.Goals as goal

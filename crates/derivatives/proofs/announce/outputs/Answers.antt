@@ -9,7 +9,6 @@ use Rattle.derivatives.specs.Orders.{goal_on, goes_out}
 use Rattle.goals.specs.WordStages.{ann_key}
 use borrow.Author.Tests.{eq-eqb, ne_eqb}
 use Prim.Native.Nat.{ℕ, ◌+◌, ◌*◌}
-use mathlib.Core.Logic.{⊎_elim}
 use mathlib.Core.Path.{ap, sym, ◌∙◌}
 use native.Mathlib.Omega.{arith}
 use Rattle.derivatives.proofs.announce.outputs.Goals as goal

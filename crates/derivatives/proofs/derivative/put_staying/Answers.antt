@@ -1,5 +1,4 @@
 use Rattle.derivatives.proofs.DeriveLaws.{passing_begin, passing_low, passing_end, stay_room, stay_on, stay_off}
-use mathlib.Core.Logic.{⊎_elim}
 use mathlib.Core.Path.{◌∙◌}
 use Rattle.derivatives.proofs.derivative.put_staying.Goals as goal
 use Rattle.derivatives.proofs.derivative.put_staying.Goals.{else-node_at-eq16, then-node_at-eq16}

@@ -1,5 +1,4 @@
 use Rattle.derivatives.proofs.LiftLaws.{least_next, least_keep, least_end}
-use mathlib.Core.Logic.{⊎_elim}
 use mathlib.Core.Path.{refl, sym, ◌∙◌}
 use native.Mathlib.Omega.{arith}
 use Rattle.derivatives.proofs.lift.least.Goals as goal

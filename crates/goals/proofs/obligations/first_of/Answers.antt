@@ -1,5 +1,4 @@
 use Rattle.goals.proofs.GoalLaws.{best_next, best_keep, best_end}
-use mathlib.Core.Logic.{⊎_elim}
 use mathlib.Core.Path.{sym, ◌∙◌}
 use native.Mathlib.Omega.{arith}
 use Rattle.goals.proofs.obligations.first_of.Goals as goal

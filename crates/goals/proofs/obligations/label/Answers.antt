@@ -1,6 +1,5 @@
 use Rattle.goals.specs.declared.Goal.{Goal}
 use Rattle.goals.proofs.GoalLaws.{label_on, label_off, label_end, low_next}
-use mathlib.Core.Logic.{⊎_elim}
 use mathlib.Core.Path.{refl, ap, sym, ◌∙◌}
 use native.Mathlib.Omega.{arith}
 use Rattle.goals.proofs.obligations.label.Goals as goal

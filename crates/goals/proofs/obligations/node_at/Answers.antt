@@ -1,4 +1,3 @@
-use mathlib.Core.Logic.{⊎_elim}
 use mathlib.Core.Path.{refl, sym, ◌∙◌}
 use Rattle.goals.proofs.GoalLaws.{node_here, node_other, node_off, node_end}
 use Rattle.goals.specs.GoalWords.{sizes_at}

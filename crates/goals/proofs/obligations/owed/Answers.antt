@@ -1,7 +1,6 @@
 use mathlib.Core.Path.{refl, ap, sym, ◌∙◌}
 use Rattle.goals.proofs.GoalLaws.{owed_on, owed_off, owed_end, run_on}
 use Rattle.goals.specs.GoalWords.{owed_from, sizes_at, code_at}
-use mathlib.Core.Logic.{⊎_elim}
 use lib.Seq.{sets}
 use lib.ListN.{length, length-set}
 use Prim.Native.Nat.{◌+◌, ◌-◌, ◌*◌, ◌/◌}
