@@ -1,74 +1,90 @@
-use crate::failing::Failure;
-use crate::holding::Output;
+use crate::failing::fail_output;
+use crate::holding::{HELD_BYTES, Held, Shown};
 use crate::names::find_names;
-use crate::reading::{find_file, find_in};
+use crate::reading::find_in;
+use crate::{first, holding, reading};
 use running::files::{PATH_BYTES, argument, has_argument};
-use running::texts::{first, same};
-use std::io;
 
 // What the arguments ask for.
 #[derive(Clone, Copy)]
 enum Asked {
     Input,
-    Arguments,
+    Arguments(usize),
     Names,
     NamesAndProgress,
 }
 
 // Prints the reports that the program's arguments ask for.
 pub fn answer(rt: &HostRuntime, by_plan: bool) {
-    let mut out = Output::new(rt);
-    if let Err(failure) = find_asked(rt, by_plan, &mut out) {
-        failure.say(rt, by_plan);
+    let mut out = [0u8; HELD_BYTES];
+    let held = find_asked(rt, by_plan, asked_by(rt, arg_count(rt)), &mut out);
+    match holding::write(rt, &out, held) {
+        Held::Lost(error) => fail_output(rt, by_plan, error),
+        Held::Bytes(_) => {}
     }
 }
 
-fn find_asked(rt: &HostRuntime, by_plan: bool, out: &mut Output<'_>) -> Result<(), Failure> {
-    match asked_by(rt) {
-        Asked::Input => {
-            find_in(by_plan, &mut rt.reader(), out)?;
+// The program's own name is counted.
+fn arg_count(rt: &HostRuntime) -> usize {
+    for i in 0..usize::MAX {
+        if !has_argument(rt, i) {
+            return i;
         }
-        Asked::Arguments => find_arguments(rt, by_plan, out)?,
-        Asked::Names => find_names(rt, by_plan, false, out)?,
-        Asked::NamesAndProgress => find_names(rt, by_plan, true, out)?,
     }
-    Ok(out.write()?)
+    usize::MAX
 }
 
-fn asked_by(rt: &HostRuntime) -> Asked {
-    if !has_argument(rt, 1) {
+fn asked_by(rt: &HostRuntime, n: usize) -> Asked {
+    if n < 2 {
         return Asked::Input;
     }
     if is_argument(rt, 1, b"--names") {
-        if !has_argument(rt, 2) {
+        if n == 2 {
             return Asked::Names;
         }
-        if is_argument(rt, 2, b"--progress") && !has_argument(rt, 3) {
-            return Asked::NamesAndProgress;
+        if n == 3 {
+            if is_argument(rt, 2, b"--progress") {
+                return Asked::NamesAndProgress;
+            }
         }
     }
-    Asked::Arguments
+    Asked::Arguments(n)
 }
 
 fn is_argument(rt: &HostRuntime, i: usize, word: &[u8]) -> bool {
     let mut name = [0u8; PATH_BYTES];
-    match argument(rt, i, &mut name) {
-        Some(n) => same(first(&name, n), word),
-        None => false,
+    let n = argument(rt, i, &mut name).unwrap_or(0);
+    reading::same(first::bytes(&name, n), word)
+}
+
+fn find_asked(rt: &HostRuntime, by_plan: bool, asked: Asked, out: &mut [u8]) -> Held {
+    match asked {
+        Asked::Input => find_in(rt, by_plan, &mut rt.stdin(), out, Held::Bytes(0)).held(),
+        Asked::Arguments(n) => find_arguments(rt, by_plan, n, out),
+        Asked::Names => find_names(rt, by_plan, false, out),
+        Asked::NamesAndProgress => find_names(rt, by_plan, true, out),
     }
 }
 
-fn find_arguments(rt: &HostRuntime, by_plan: bool, out: &mut Output<'_>) -> io::Result<()> {
-    let mut standard = rt.reader();
-    for i in 1..usize::MAX {
-        let mut name = [0u8; PATH_BYTES];
-        let Some(n) = argument(rt, i, &mut name) else {
-            return Ok(());
-        };
-        let path = first(&name, n);
-        out.put_text(path)?;
-        out.put_byte(b'\n')?;
-        find_file(rt, by_plan, path, &mut standard, out)?;
+fn find_arguments(rt: &HostRuntime, by_plan: bool, n: usize, out: &mut [u8]) -> Held {
+    let mut held = Held::Bytes(0);
+    for i in 1..n {
+        held = find_argument(rt, by_plan, i, out, held);
+        if held.is_lost() {
+            return held;
+        }
     }
-    Ok(())
+    held
+}
+
+fn find_argument(rt: &HostRuntime, by_plan: bool, i: usize, out: &mut [u8], held: Held) -> Held {
+    let mut name = [0u8; PATH_BYTES];
+    let n = argument(rt, i, &mut name).unwrap_or(0);
+    find_named(rt, by_plan, first::bytes(&name, n), out, held).held()
+}
+
+fn find_named(rt: &HostRuntime, by_plan: bool, path: &[u8], out: &mut [u8], held: Held) -> Shown {
+    let named = holding::put_text(rt, path, out, held);
+    let ended = holding::put_byte(rt, b'\n', out, named);
+    reading::find_file(rt, by_plan, path, &mut rt.stdin(), out, ended)
 }

@@ -1,28 +1,19 @@
-// What ends a run before its end.
+// Each says on standard error which program's call failed, and why.
 use running::failing::fail;
 use std::io::Error;
 
-#[derive(Clone, Copy)]
-pub enum Failure {
-    Output(Error),
-    Names(Error),
-}
-
-impl From<Error> for Failure {
-    fn from(error: Error) -> Failure {
-        Failure::Output(error)
+pub fn fail_output(rt: &HostRuntime, by_plan: bool, error: Error) {
+    if by_plan {
+        fail(&rt.stderr(), b"find: standard output", error);
+    } else {
+        fail(&rt.stderr(), b"simple: standard output", error);
     }
 }
 
-impl Failure {
-    // Says on standard error which program's call failed, and why.
-    pub fn say(self, rt: &HostRuntime, by_plan: bool) {
-        let to = rt.stderr();
-        match self {
-            Failure::Output(error) if by_plan => fail(&to, b"find: standard output", error),
-            Failure::Output(error) => fail(&to, b"simple: standard output", error),
-            Failure::Names(error) if by_plan => fail(&to, b"find: names", error),
-            Failure::Names(error) => fail(&to, b"simple: names", error),
-        }
+pub fn fail_names(rt: &HostRuntime, by_plan: bool, error: Error) {
+    if by_plan {
+        fail(&rt.stderr(), b"find: names", error);
+    } else {
+        fail(&rt.stderr(), b"simple: names", error);
     }
 }

@@ -2,7 +2,7 @@
 // What the programs `find` and `simple` share: all but the engine that makes the marks. It goes by `by_plan`: a plan and a walk, in `find`, or comparing
 // every shape at each node, in `simple`. Each program hands on a constant, so that the other engine, with its buffers, is not in it when it is compiled.
 pub mod asking; // the arguments
-mod failing; // what ends a run
+mod failing; // messages on standard error
 mod finding; // opening, counting and showing
 mod first; // the first of a slice
 mod holding; // the output
