@@ -1,3 +1,5 @@
+ghost use Rattle.std.specs.Prelude.{◌≡◌, ◌↔◌, ◌≤◌, IsTrue, length, take};
+
 // The bytes before the first `end`; all where there is none.
 pub fn before(text: &[u8], end: u8) -> &[u8] {
     first(text, find(text, end))
@@ -14,41 +16,26 @@ pub fn behind(text: &[u8], end: u8) -> &[u8] {
 }
 
 // Where the first `byte` is, or the text's length.
-fn find(text: &[u8], byte: u8) -> usize {
-    for i in 0..text.len() {
-        if text[i] == byte {
-            return i;
-        }
-    }
-    text.len()
+fn find(text: &[u8], byte: u8) -> usize
+    ensures { result ≤ length text.now }
+{
+    text.iter().position(|b| *b == byte).unwrap_or(text.len())
 }
 
 pub fn has(text: &[u8], byte: u8) -> bool {
-    find(text, byte) < text.len()
+    text.contains(&byte)
 }
 
-pub fn begins(text: &[u8], word: &[u8]) -> bool {
-    if text.len() < word.len() {
-        return false;
-    }
-    for i in 0..word.len() {
-        if text[i] != word[i] {
-            return false;
-        }
-    }
-    true
+pub fn begins(text: &[u8], word: &[u8]) -> bool
+    ensures { IsTrue result ↔ (take (length word.now) text.now ≡ word.now) }
+{
+    text.starts_with(word)
 }
 
-pub fn same(a: &[u8], b: &[u8]) -> bool {
-    if a.len() != b.len() {
-        return false;
-    }
-    for i in 0..a.len() {
-        if a[i] != b[i] {
-            return false;
-        }
-    }
-    true
+pub fn same(a: &[u8], b: &[u8]) -> bool
+    ensures { IsTrue result ↔ (a.now ≡ b.now) }
+{
+    a == b
 }
 
 // The bytes from `from` to i, where `end` is; none where it is not.
@@ -82,7 +69,9 @@ pub fn next_from(text: &[u8], from: usize, i: usize, end: u8) -> usize {
 }
 
 // The first n bytes, or all where there are fewer.
-pub fn first(bytes: &[u8], n: usize) -> &[u8] {
+pub fn first(bytes: &[u8], n: usize) -> &[u8]
+    ensures { result.now ≡ take n bytes.now }
+{
     if bytes.len() < n {
         return bytes;
     }

@@ -1,5 +1,9 @@
+ghost use Rattle.std.specs.Prelude.{◌≡◌, drop, take};
+
 // The first n words, or all where there are fewer.
-pub fn first_words(words: &[u16], n: usize) -> &[u16] {
+pub fn first_words(words: &[u16], n: usize) -> &[u16]
+    ensures { result.now ≡ take n words.now }
+{
     if words.len() < n {
         return words;
     }
@@ -7,7 +11,9 @@ pub fn first_words(words: &[u16], n: usize) -> &[u16] {
 }
 
 // The words behind the first n.
-pub fn behind_words(words: &[u16], n: usize) -> &[u16] {
+pub fn behind_words(words: &[u16], n: usize) -> &[u16]
+    ensures { result.now ≡ drop n words.now }
+{
     if words.len() < n {
         return first_words(words, 0);
     }
