@@ -1,4 +1,6 @@
-ghost use Rattle.std.specs.Prelude.{◌≤◌, length};
+ghost use Rattle.std.specs.Prelude.{◌≡◌, ◌≤◌, ℕ, List, length, IfOk};
+ghost use Rattle.std.specs.Io.KnownBytes.{Consumes, IsAtEnd};
+ghost use Rattle.running.specs.Input.{HoldsInput, ReadsOn};
 
 use crate::files::open_named;
 use std::io;
@@ -18,7 +20,9 @@ pub fn read_named(files: &impl Files, path: &[u8], file: &mut [u8]) -> io::Resul
 }
 
 // The length of an input whose first bytes are put into `file`. Nothing says that it ends: the turns are more than any input takes.
-pub fn read_whole(input: &mut impl Read, file: &mut [u8]) -> io::Result<usize> {
+pub fn read_whole<R: Read>(input: &mut R, file: &mut [u8]) -> io::Result<usize>
+    ensures { IfOk result (HoldsInput (R.remaining input.old) file.new) }
+{
     let mut length: usize = 0;
     for turn in 0..MOST_TURNS {
         let n = read_on(input, file, length)?;
@@ -30,14 +34,20 @@ pub fn read_whole(input: &mut impl Read, file: &mut [u8]) -> io::Result<usize> {
     Err(io::Error::from(io::ErrorKind::FileTooLarge))
 }
 
-fn read_on(input: &mut impl Read, file: &mut [u8], length: usize) -> io::Result<usize> {
+// What does not fit into `file` is only counted.
+fn read_on<R: Read>(input: &mut R, file: &mut [u8], length: usize) -> io::Result<usize>
+    ensures { IfOk result (ReadsOn (R.remaining input.old) (R.remaining input.new) file.old file.new length) }
+{
     if length < file.len() {
         return input.read(&mut file[length..]);
     }
     count_on(input)
 }
 
-fn count_on(input: &mut impl Read) -> io::Result<usize> {
+fn count_on<R: Read>(input: &mut R) -> io::Result<usize>
+    ensures { IfOk result (λ n. (read : List ℕ) × (length read ≡ n) × Consumes (R.remaining input.old) (R.remaining input.new) read
+        × (n ≡ 0 → IsAtEnd (R.remaining input.new))) }
+{
     let mut bytes = [0u8; 65536];
     input.read(&mut bytes)
 }
