@@ -58,7 +58,8 @@ impl Position {
         if i == 0 {
             return Child::Beyond;
         }
-        if 4 < i {
+        let beyond = 4 < i;
+        if beyond {
             return Child::Beyond;
         }
         let code = 5 * self.0 as u32 + i as u32;

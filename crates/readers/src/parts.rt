@@ -52,7 +52,8 @@ pub fn block_start(plan: &[u16], states: u16, symbols: u16, state: State, symbol
     if states <= state.0 {
         return Start::Nowhere;
     }
-    if symbols <= symbol.0 {
+    let beyond = symbols <= symbol.0;
+    if beyond {
         return Start::Nowhere;
     }
     let place = 4 + states as usize + (state.0 as usize * symbols as usize + symbol.0 as usize);

@@ -13,19 +13,19 @@ returns-then-i-eq0 c =
     sym (child_none c.args.self c.args.i (sym c.is_good-good.ensures ∙ not-false _ c.if-not-good.false-raw)
     (omega arith))
 
-pub returns-then-i-gt4 : goal.returns-then-i-gt4
-returns-then-i-gt4 c =
+pub returns-then-beyond : goal.returns-then-beyond
+returns-then-beyond c =
     sym (child_many c.args.self c.args.i
-    (sym c.is_good-good.ensures ∙ not-false _ c.if-not-good.false-raw) c.if-i-gt4.true)
+    (sym c.is_good-good.ensures ∙ not-false _ c.if-not-good.false-raw) c.if-beyond.true)
 
 pub returns-then-top-code : goal.returns-then-top-code
 returns-then-top-code c =
     sym (child_far c.args.self c.args.i
     (sym c.is_good-good.ensures ∙ not-false _ c.if-not-good.false-raw) (omega arith)
-    c.if-i-gt4.false c.if-top-code.true)
+    c.if-beyond.false c.if-top-code.true)
 
 pub returns : goal.returns
 returns c =
     sym (child_at_lem c.args.self c.args.i
     (sym c.is_good-good.ensures ∙ not-false _ c.if-not-good.false-raw) (omega arith)
-    c.if-i-gt4.false c.if-top-code.false)
+    c.if-beyond.false c.if-top-code.false)

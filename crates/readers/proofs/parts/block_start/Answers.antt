@@ -8,8 +8,8 @@ use Rattle.readers.proofs.parts.block_start.Goals as goal
 pub returns-then-states-state : goal.returns-then-states-state
 returns-then-states-state c = sym (law.start_state _ _ _ _ _ c.if-states-state.true)
 
-pub returns-then-symbols-symbol : goal.returns-then-symbols-symbol
-returns-then-symbols-symbol c = sym (law.start_symbol _ _ _ _ _ c.if-states-state.false c.if-symbols-symbol.true)
+pub returns-then-beyond : goal.returns-then-beyond
+returns-then-beyond c = sym (law.start_symbol _ _ _ _ _ c.if-states-state.false c.if-beyond.true)
 
 pub overflow_mul-place : goal.overflow_mul-place
 overflow_mul-place c =
@@ -24,7 +24,7 @@ overflow_add-place-3 c =
     omega (arith, law.product c.args.state.0 c.args.symbols (omega arith))
 
 pub returns-then-plan-place : goal.returns-then-plan-place
-returns-then-plan-place c = sym (law.start_out _ _ _ _ _ c.if-states-state.false c.if-symbols-symbol.false
+returns-then-plan-place c = sym (law.start_out _ _ _ _ _ c.if-states-state.false c.if-beyond.false
     c.if-plan-place.true)
 
 pub overflow_cast-b : goal.overflow_cast-b
@@ -33,10 +33,10 @@ overflow_cast-b c =
 
 pub returns-then-not-whole : goal.returns-then-not-whole
 returns-then-not-whole c =
-    sym (law.start_cut _ _ _ _ _ c.if-states-state.false c.if-symbols-symbol.false c.if-plan-place.false
+    sym (law.start_cut _ _ _ _ _ c.if-states-state.false c.if-beyond.false c.if-plan-place.false
     (sym c.block_fits-whole.ensures ∙ not-true _ c.if-not-whole.true-raw))
 
 pub returns : goal.returns
 returns c =
-    sym (law.start_at _ _ _ _ _ c.if-states-state.false c.if-symbols-symbol.false c.if-plan-place.false
+    sym (law.start_at _ _ _ _ _ c.if-states-state.false c.if-beyond.false c.if-plan-place.false
     (sym c.block_fits-whole.ensures ∙ not-false _ c.if-not-whole.false-raw))

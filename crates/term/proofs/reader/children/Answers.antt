@@ -7,10 +7,10 @@ pub returns-then-blanks-w : goal.returns-then-blanks-w
 returns-then-blanks-w c = sym (children_blank _ _ _ c.if-blanks-w.true)
 
 pub returns-then-symbols-w : goal.returns-then-symbols-w
-returns-then-symbols-w c = sym (children_none _ _ _ c.if-blanks-w.false c.if-symbols-w.true)
+returns-then-symbols-w c = sym (children_none _ _ _ (omega arith) c.if-symbols-w.true)
 
 pub overflow_cast-result : goal.overflow_cast-result
 overflow_cast-result c = omega (arith, c.type_inv.symbols c.args.word)
 
 pub returns : goal.returns
-returns c = sym (children_symbol _ _ _ c.if-blanks-w.false c.if-symbols-w.false)
+returns c = sym (children_symbol _ _ _ (omega arith) (omega arith))
