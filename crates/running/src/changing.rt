@@ -65,7 +65,7 @@ pub fn change_words(changes: &[u8], table: &[u8], words: &mut [u16], n: usize) -
 }
 
 // The same for the symbols, which are bytes.
-fn change_symbols(changes: &[u8], symbols: &mut [u8], n: usize) -> usize {
+pub fn change_symbols(changes: &[u8], symbols: &mut [u8], n: usize) -> usize {
     let mut now = n;
     let mut from: usize = 0;
     for i in 0..changes.len() {
