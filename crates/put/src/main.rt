@@ -6,7 +6,7 @@
 // NEW, whole or not at all; a file of that name is never touched.
 //
 // Printed is `nodes N`, the new score's, when the file stands; `refused N at P` where FOLIO or the replacement is refused; nothing where something else
-// is wrong, which standard error then names. The exit status is 0 in each case: a program here has no other.
+// is wrong, which standard error then names. The exit status is 0 in each case: what is printed says which it is.
 use asking::{Asked, is_complete, read_argument, read_numbers};
 use bufferstone::limits::FILE_BYTES;
 use bufferstone::{Node, Shape, Symbol};
