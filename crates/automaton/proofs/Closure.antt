@@ -2,7 +2,7 @@
 --   close_chain               n rounds of closing give the chains through numbers below n
 --   square_of on_square       an cell of the square is a direct dependency
 --   dep_sym                   direct dependency is symmetric
---   direct dependent-…        Dependent goals stand in the list; the relation is transitive and symmetric
+--   direct dependent_…        Dependent goals stand in the list; the relation is transitive and symmetric
 --   dependent_closed          the closed square and the paper's relation agree
 use mathlib.Core.Path.{◌≡◌, refl, ap, sym, ◌∙◌}
 use mathlib.Core.Bool.{Bool, true, false, cond, ◌&&◌, ◌||◌, false≢true, or-false}

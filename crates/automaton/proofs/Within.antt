@@ -1,6 +1,6 @@
 -- What the limits say of one shape of a setting and of one node of a score.
 --   shape_at_lem shape_node  shape number i is a shape, and begins with a symbol
---   score_arity           a node of the score has as many children as its symbol
+--   score_arity              a node of the score has as many children as its symbol
 use mathlib.Core.Path.{◌≡◌, refl, sym}
 use mathlib.Core.Bool.{false}
 use mathlib.Core.Option.{some}

@@ -1,9 +1,9 @@
 -- The blocks of what is explored, from its final states alone, for any construction.
---   succ_of    a class's successor: the first of all states that is equal to the lifted class, and the displacement
+--   succ_of     a class's successor: the first of all states that is equal to the lifted class, and the displacement
 --   block_of    what a state announces on a symbol and goes on with
---   blocks_of  its blocks, symbol by symbol
+--   blocks_of   its blocks, symbol by symbol
 --   all_blocks  those of all states
---   SmallOn    its classes, on the symbols from f on, are of at most 32 goals
+--   SmallOn     its classes, on the symbols from f on, are of at most 32 goals
 use Rattle.std.specs.Prelude.{◌≡◌, List, [], ◌∷◌, map, ℕ, suc, ◌+◌, ◌≤◌, length}
 use Rattle.std.proofs.Math.Option.{some}
 use Rattle.std.proofs.Math.ListN.{get_elem?}

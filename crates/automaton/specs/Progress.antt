@@ -1,15 +1,15 @@
 -- How far building has come: "states are numbered as first met: state 0 initial, then each state in number order, each symbol ascending, each class
 -- in the document order of its first obligation position; building stops at the first class, in that order, with over 32 goals (20) or new past 128
 -- states (21); one that is both gives 20."
---   ClassAt      class number c of state number i on symbol f, among the states met
---   Known New    a state met is equal to what the class lifts to; none of them is
---   Reached      the states met when class number c of state number i on symbol f is looked at next; behind the last class the next symbol,
---                behind the last symbol the next state
---   AllMet       every class of every state was looked at
---   NextClass    the class to look at next, of state number i
---   OverGoals    it has over 32 goals
---   OverStates   it has not, and is new, and 128 states are met
---   words_of      the plan of the states met: its blocks are said by these alone
+--   ClassAt     class number c of state number i on symbol f, among the states met
+--   Known New   a state met is equal to what the class lifts to; none of them is
+--   Reached     the states met when class number c of state number i on symbol f is looked at next; behind the last class the next symbol,
+--               behind the last symbol the next state
+--   AllMet      every class of every state was looked at
+--   NextClass   the class to look at next, of state number i
+--   OverGoals   it has over 32 goals
+--   OverStates  it has not, and is new, and 128 states are met
+--   words_of    the plan of the states met: its blocks are said by these alone
 --   TooLong Fits "plan longer than its buffer or than 65,535 words", and not
 use Rattle.std.specs.Prelude.{◌≡◌, true, false, List, [], ◌∷◌, ◌++◌, ◌⊎◌, ℕ, suc, ◌<◌, ◌≤◌, length}
 use Rattle.std.proofs.Math.Option.{some}

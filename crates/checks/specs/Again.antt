@@ -2,7 +2,7 @@
 --   symbols_good  opening accepts the symbols
 --   shapes_good   not 19: symbols, shape words and starts are such as opening writes or accepts
 --   score_good    not 31: score words and spans are such as opening writes for these symbols
---   piece_at       the words of the term that stands whole at a word, within limits counted from there; none where there is none
+--   piece_at      the words of the term that stands whole at a word, within limits counted from there; none where there is none
 --   subtree_at    "one call answers with the words of one subtree as a part of the shape table or of the score, according to which of the two was asked for"
 use Rattle.std.specs.Prelude.{ℕ, ◌-◌, List, [], Bool, true, false, ◌&&◌, take, drop}
 use Rattle.kinds.specs.Lists.{same}

@@ -1,8 +1,8 @@
 -- Over one folio's tables: words say of matches and of the nodes that they touch what the terms say.
 --   match_of_lem matched_is is_matched  a match by the tables is one by the terms
---   nodes_at nodes_in_lem in_nodes   the nodes that it touches are the same by both
---   clashes_same                     and so is the clash number
---   SaysOf says_of                   all together, for tables that are those of terms
+--   nodes_at nodes_in_lem in_nodes      the nodes that it touches are the same by both
+--   clashes_same                        and so is the clash number
+--   SaysOf says_of                      all together, for tables that are those of terms
 use Prim.Native.Nat.{ℕ, ◌<◌}
 use mathlib.Core.Path.{◌≡◌, ap}
 use mathlib.Core.List.{List, [], ◌++◌}

@@ -1,8 +1,8 @@
 -- A store into a square, growth, and the step of Warshall's closure.
---   put cell-… square_put     a yes stored
---   grown-…                   growth, one after the other
---   Row row-…                 row i joined with row k, column by column
---   rows_more closed-…        row by row, and third by third
+--   put cell_… square_put     a yes stored
+--   grown_…                   growth, one after the other
+--   Row row_…                 row i joined with row k, column by column
+--   rows_more closed_…        row by row, and third by third
 --   filled_closes             filled from a test and then closed
 use Prim.Native.Nat.{ℕ, ◌+◌, ◌<◌, ◌≤◌}
 use mathlib.Core.Path.{◌≡◌, refl, ap, sym, ◌∙◌}

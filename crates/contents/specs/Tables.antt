@@ -2,7 +2,7 @@
 -- Within score, at each node: 14, 13, 17, 15; then 16."
 --   shape_limits     16 nodes from a shape's first word
 --   score_limits     4,096 nodes, and no blanks
---   shape_reason     the reason of a fault in a shape; scoreReason: in the score
+--   shape_reason     the reason of a fault in a shape; score_reason: in the score
 --   shapes_met another  what shapes were met with: how many, and the depth of the deepest; with one more
 --   ShapesRead       an answer, and the starts of the shapes that were whole before it
 --   shapes_from      the shapes from a word on, after those met, with room for c more

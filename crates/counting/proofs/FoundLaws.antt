@@ -1,8 +1,8 @@
 -- The matches that marks hold, node by node.
 --   found_one found_at  a shape's match at a node, if there is one; the matches of a node
---   found_nodes        all are those of each node
---   in_found           what is known of one of them
---   total_found        how many there are
+--   found_nodes         all are those of each node
+--   in_found            what is known of one of them
+--   total_found         how many there are
 use mathlib.Core.Path.{◌≡◌, refl, ap, ap₂, sym, ◌∙◌}
 use mathlib.Core.List.{List, [], ◌∷◌, ◌++◌, map, append-nil}
 use mathlib.Core.Bool.{Bool, true, false, cond}

@@ -1,8 +1,8 @@
 -- Counting in the marks: "Start and counting: 31 before 30." "Only the first n mark words are looked at."
 --   Match match_at  a shape at a node
---   match_of         match number k: "by node, then shape"
+--   match_of        match number k: "by node, then shape"
 --   found           its bit is set
---   found_from       the matches that marks hold, among n numbers from k on
+--   found_from      the matches that marks hold, among n numbers from k on
 --   found_in        all of them
 --   total           "matches (ones in all marks)"
 --   counted         what f says of the first n marks, or 31, or 30

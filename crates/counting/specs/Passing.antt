@@ -1,6 +1,6 @@
 -- Inside: going from match to match.
---   next_of    the number of the first match that marks hold from number k on, or k + n if none of the n numbers is one
---   long_of   how many marks are looked at, or 31, or 30
+--   next_of  the number of the first match that marks hold from number k on, or k + n if none of the n numbers is one
+--   long_of  how many marks are looked at, or 31, or 30
 use Rattle.std.specs.Prelude.{ℕ, zero, suc, List, cond, length}
 use Rattle.counting.specs.Counting.{match_of, found, counted}
 use Rattle.counting.specs.declared.Counted.{Counted}

@@ -1,9 +1,9 @@
 -- The classes on words are the classes, in the same order.
---   closed_words                the closed square on words is the closed square
---   owed_all                    the codes that goals owe are the codes of all their obligations
---   Owing row_owing             goals that are Fine and owe something; those of a row that begins a class
---   first_of key_is before_is    classes on words are ordered as classes are
---   classes_is                  for Fine goals that each owe something
+--   closed_words               the closed square on words is the closed square
+--   owed_all                   the codes that goals owe are the codes of all their obligations
+--   Owing row_owing            goals that are Fine and owe something; those of a row that begins a class
+--   first_of key_is before_is  classes on words are ordered as classes are
+--   classes_is                 for Fine goals that each owe something
 use mathlib.Core.Path.{◌≡◌, refl, ap, ap₂, sym, ◌∙◌, subst}
 use mathlib.Core.List.{List, [], ◌∷◌, map}
 use mathlib.Core.Bool.{Bool}

@@ -2,7 +2,7 @@
 --   codes_end               past the codes of seven digits
 --   select                  the elements whose bits are set in a mask
 --   solid roots kid_masks   the masks of children that are no blanks
---   shape_at                 a shape by its number
+--   shape_at                a shape by its number
 --   goal_meant state_meant  the goal, and the state, that words mean
 --   TableOf                 the tables say a shape's nodes: positions, powers, words and children
 use Rattle.std.specs.Prelude.{List, [], ◌∷◌, ◌++◌, map, cond, ◌≡◌, ℕ, suc, ◌+◌, ◌*◌, ◌/◌, ◌%◌, ◌^◌, ◌<◌, eqb, length, get_or}

@@ -1,7 +1,7 @@
 -- Inside: the construction on words, as numbering and layout take it; and the states met, as scratch holds them.
 --   announcement_w  a goal's announcement
 --   words           for tables and n shapes
---   place_in         the states in scratch: 128 counts of goals, then 96 words a state; behind the last of them the class that is looked up
+--   place_in        the states in scratch: 128 counts of goals, then 96 words a state; behind the last of them the class that is looked up
 --   used_words      of all
 --   state_in        state i of scratch
 --   states_in       the first m states

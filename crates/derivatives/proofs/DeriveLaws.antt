@@ -1,10 +1,10 @@
 -- A pass over the goals of a state that writes what each one gives.
 --   node_is                 the open node, of a goal as the code hands it on
 --   pass_next pass_end      what is left to write, goal by goal
---   Passing passing-…       a pass, turn by turn
+--   Passing passing_…       a pass, turn by turn
 --   stay leave goes…        what one goal gives
---   fresh-… born-…          fresh goals, shape by shape and child by child
---   deriv-… three_runs      the derivative's words, pass after pass
+--   fresh_… born_…          fresh goals, shape by shape and child by child
+--   deriv_… three_runs      the derivative's words, pass after pass
 use Prim.Native.Nat.{ℕ, suc, ◌+◌, ◌-◌, ◌*◌, ◌<◌, ◌≤◌}
 use mathlib.Core.Path.{◌≡◌, refl, ap, ap₂, sym, ◌∙◌}
 use mathlib.Core.List.{List, [], ◌∷◌, ◌++◌, map}

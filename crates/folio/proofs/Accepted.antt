@@ -1,7 +1,7 @@
 -- An accepted file is one list of shapes and one score within the limits of a folio, and the tables hold their words, starts and spans.
---   Meaning one_meaning         what the sections of a file mean, and only that
---   Accepted accepted           an accepted file has a meaning, which the tables hold
---   made                        and a file that has one is accepted
+--   Meaning one_meaning             what the sections of a file mean, and only that
+--   Accepted accepted               an accepted file has a meaning, which the tables hold
+--   made                            and a file that has one is accepted
 --   shape_terms_lem score_term_lem  the terms that the tables' words hold
 use mathlib.Core.Path.{◌≡◌, refl, ap, ap₂, sym, ◌∙◌}
 use mathlib.Core.List.{List, [], map, append-nil}

@@ -1,5 +1,5 @@
 -- The symbols that opening accepts: 1 to 32 of them, none with more than 4 children.
---   GoodSymbols               such symbols
+--   GoodSymbols                such symbols
 --   symbols_is symbols_of_lem  what 5 and 6 let pass, and that they do
 use mathlib.Core.Path.{◌≡◌, refl, ◌∙◌}
 use mathlib.Core.Bool.{Bool, true, false}

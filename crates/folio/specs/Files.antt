@@ -1,8 +1,8 @@
 -- A folio's file, from its tables: document 01, "The folio". "Words are 16 bits, low byte first."
---   bytes_of    the bytes of words
---   trailer    "three words a, b, c, the distances from the trailer's first byte back to the start of symbols, shapes and score; then the bytes 83, 67"
---   bound      symbols, shape words, score words and the trailer
---   file_of    the same of a folio's terms
+--   bytes_of  the bytes of words
+--   trailer   "three words a, b, c, the distances from the trailer's first byte back to the start of symbols, shapes and score; then the bytes 83, 67"
+--   bound     symbols, shape words, score words and the trailer
+--   file_of   the same of a folio's terms
 use Rattle.std.specs.Prelude.{List, [], ◌∷◌, ◌++◌, ℕ, ◌+◌, ◌*◌, ◌/◌, ◌%◌, length}
 use Rattle.kinds.specs.Lists.{gather}
 use Rattle.term.specs.Terms.{Term, flatten}

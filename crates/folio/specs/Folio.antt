@@ -2,7 +2,7 @@
 --   Scored       words that are a score's
 --   Folio        "1 to 32 symbols, each 0 to 4 children; 1 to 16 shapes; a score"
 --   Meaning      what the sections of a file mean
---   Shaped GoodScore   tables such as opening writes; startsAt: where shapes begin
+--   Shaped GoodScore   tables such as opening writes; starts_at: where shapes begin
 --   counts_in    how many symbols, shapes, shape words and nodes a folio has, its score's depth and the greatest of its shapes' depths
 --   answered     what opening answers and writes for a folio
 --   shape_terms  the shapes that shape words hold; score_term the score that score words hold, a blank where they hold none

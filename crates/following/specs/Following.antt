@@ -6,7 +6,7 @@
 --   node_good  a node is below the score words lent, and 65,536
 --   target     the node that a code leads to from a node
 --   reached    as the kind that a call answers
---   node_of     the node that a part of it answers, if there is one
+--   node_of    the node that a part of it answers, if there is one
 use Rattle.std.specs.Prelude.{ℕ, zero, suc, ◌+◌, List, [], ◌∷◌, Bool, ◌&&◌, ltb, leb, length, get_or}
 use Rattle.std.proofs.Math.Option.{Option, none, some}
 use Rattle.kinds.specs.Limits.{numbered_nodes}

@@ -1,18 +1,18 @@
 -- Inside: goals as three words, and the tables of the shapes that they lean on.
---   GoalWords     shape number, code of the announcement position, mask of the open nodes of the shape
---   code_of …      the five tables, 16 shapes by 16 nodes each: code of a node's position, five to the power of its depth, span, word, mask of the children that are no blanks
---   powers_at …   where each of the five begins after the codes, which stand first
---   Tabled        what code asks of the tables
---   NodeIn        what it asks of a node of a shape; Owable: where it lists obligations; BothIn: of two shapes
---   code_at        the code of a node of a shape announced at a code: a · 5^depth + code
---   owed_by       the codes of a goal's obligations, in document order
---   node_at       the open node that stands at a code, 16 where none does
---   mask_after    the mask without a node, with its children that are no blanks
---   pad           a code padded to six digits; firstCode: the first in document order
---   goals_from    the goals that words hold; flat: the words of goals
---   no_code       65,535: past every code, for none
---   label_code    the label's code, no_code where no goal announces at the root
---   GoalsIn       n goals lie in words, at most so many; Stored: and their shapes in the tables
+--   GoalWords    shape number, code of the announcement position, mask of the open nodes of the shape
+--   code_of …    the five tables, 16 shapes by 16 nodes each: code of a node's position, five to the power of its depth, span, word, mask of the children that are no blanks
+--   powers_at …  where each of the five begins after the codes, which stand first
+--   Tabled       what code asks of the tables
+--   NodeIn       what it asks of a node of a shape; Owable: where it lists obligations; BothIn: of two shapes
+--   code_at      the code of a node of a shape announced at a code: a · 5^depth + code
+--   owed_by      the codes of a goal's obligations, in document order
+--   node_at      the open node that stands at a code, 16 where none does
+--   mask_after   the mask without a node, with its children that are no blanks
+--   pad          a code padded to six digits; first_code: the first in document order
+--   goals_from   the goals that words hold; flat: the words of goals
+--   no_code      65,535: past every code, for none
+--   label_code   the label's code, no_code where no goal announces at the root
+--   GoalsIn      n goals lie in words, at most so many; Stored: and their shapes in the tables
 use Rattle.std.specs.Prelude.{List, [], ◌∷◌, ◌++◌, cond, ℕ, zero, suc, ◌+◌, ◌*◌, ◌/◌, ◌%◌, ◌^◌, ◌≤◌, ◌<◌, eqb, ltb, length, get_or}
 use Rattle.std.specs.Int.Bits.{bit_or, bit_xor}
 use Rattle.tables.specs.ShapeTables.{area_words, table_words}

@@ -1,6 +1,6 @@
 -- Inside: the first element of a list that stands in another.
 --   first_shared  that element, or none
---   is_at          whether there is one
+--   is_at         whether there is one
 use Rattle.std.specs.Prelude.{ℕ, List, [], ◌∷◌, Bool, true, false}
 use Rattle.goals.specs.WordStages.{has_code}
 use Rattle.goals.specs.declared.Shared.{Shared}

@@ -1,11 +1,11 @@
 -- Inside: the stages of the construction on goals of three words. Each is the construction's own under the decoding of Decoding.
---   deriv_w      the derivative: what stays, what moves on, what is born
+--   deriv_w       the derivative: what stays, what moves on, what is born
 --   same_state_w  equality of states
---   dep_w        direct dependency: a shared code; closedW: the square of it, closed
---   least_code   the shortest announcement, in a class the greatest common prefix
---   lift_w       a goal lifted: only its announcement changes; displacement_w, liftedW: of a class
---   classes_w    the classes, by the padded code of their first obligation position
---   outputs_w    the goals that are announced, by padded code and then shape
+--   dep_w         direct dependency: a shared code; closed_w: the square of it, closed
+--   least_code    the shortest announcement, in a class the greatest common prefix
+--   lift_w        a goal lifted: only its announcement changes; displacement_w, lifted_w: of a class
+--   classes_w     the classes, by the padded code of their first obligation position
+--   outputs_w     the goals that are announced, by padded code and then shape
 use Rattle.std.specs.Prelude.{List, [], ◌∷◌, ◌++◌, map, Bool, true, false, cond, ◌&&◌, ◌||◌, ℕ, zero, suc, ◌+◌, ◌*◌, ◌/◌, ◌%◌, eqb, ltb, length}
 use Rattle.kinds.specs.Lists.{gather, range, sort}
 use Rattle.automaton.specs.Classes.{Square, close, rows_from, picked}

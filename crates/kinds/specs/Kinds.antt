@@ -1,11 +1,11 @@
 -- The position kind: "The root position and the largest code in use, 15,624, belong to the kind itself."
---   position       the kind of a code
---   root           the root position
---   child_of       a position followed by a child number: none for a code that is no position, a number that is not 1 to 4, or past the largest code
---   child_says     its answer in document 01's numbers
---   is_good        is it the code of a position in use
---   length_of       how many numbers it has
---   comes_before   document order
+--   position      the kind of a code
+--   root          the root position
+--   child_of      a position followed by a child number: none for a code that is no position, a number that is not 1 to 4, or past the largest code
+--   child_says    its answer in document 01's numbers
+--   is_good       is it the code of a position in use
+--   length_of     how many numbers it has
+--   comes_before  document order
 use Rattle.std.specs.Prelude.{ℕ, ◌+◌, ◌*◌, [], ◌∷◌, Bool, leb, length}
 use Rattle.kinds.specs.Limits.{most_children}
 use Rattle.kinds.specs.Lists.{unless}

@@ -1,10 +1,11 @@
 -- The refusal numbers of document 01's table and of document 02, and what an answer says in its numbers.
---   number_of   the number of each reason
+--   number_of  the number of each reason
 --   Says       number 0 and the values answered (gives), or a refusal's number and its place (refusal; refuses: by its reason), and the values
 --              that a call answers with a refusal too (refusal_with)
 use Rattle.std.specs.Prelude.{ℕ, List, [], ◌∷◌}
 use Rattle.kinds.specs.declared.Reason.{Reason}
-use Rattle.kinds.specs.declared.Reason.TheVariants.{Short, Long, EndBytes, Trailer, Symbols, Children, ShapeWord, ShapeEnds, LoneBlank, ShapeNodes, ShapeDepth, Shapes, ScoreWord, ScoreEnds, ScoreDepth, Surplus, ScoreNodes, Tables, BadShapes, ManyGoals, ManyStates, LongPlan, ShortScratch, ShortBuffers, BadScore, NoSuchItem, OutOfRange, NoSuchMatch, NotThere, IsFinished, NoTree, PastLimits, ShortScore}
+use Rattle.kinds.specs.declared.Reason.TheVariants.{Short, Long, EndBytes, Trailer, Symbols, Children, ShapeWord, ShapeEnds, LoneBlank, ShapeNodes, ShapeDepth, Shapes, ScoreWord, ScoreEnds, ScoreDepth, Surplus, ScoreNodes, Tables}
+use Rattle.kinds.specs.declared.Reason.TheVariants.{BadShapes, ManyGoals, ManyStates, LongPlan, ShortScratch, ShortBuffers, BadScore, NoSuchItem, OutOfRange, NoSuchMatch, NotThere, IsFinished, NoTree, PastLimits, ShortScore}
 
 abbrev pub number_of : Reason → ℕ
 number_of Short = 1

@@ -2,7 +2,7 @@
 --   ListOutcome            an answer, and the walk as it is then
 --   accepted_in record_in  of an answer: how many choices were accepted, the record after them
 --   list_outcome           the outcome of a call, from its answer and the buffers that it leaves
---   all_of stop_of          k choices were accepted: and these were all; and the one behind them was refused
+--   all_of stop_of         k choices were accepted: and these were all; and the one behind them was refused
 --   one_more further       an answer, and an outcome, where one more was accepted before
 --   followed               the first choice, and the others after it
 --   listed                 `stepped`, one choice after the other: "here it is only the refused choice that writes nothing"

@@ -1,6 +1,6 @@
 -- The words of a shape, among those of shapes laid one behind the other.
 --   shape_words_lem  they are the words of the term
---   shapes_laid    they lie among the words
+--   shapes_laid      they lie among the words
 use Prim.Native.Nat.{ℕ, zero, suc, ◌+◌, ◌-◌, ◌<◌, ◌≤◌}
 use mathlib.Core.Path.{◌≡◌, refl, ap, ap₂, sym, ◌∙◌}
 use mathlib.Core.List.{List, [], ◌∷◌, ◌++◌, append_assoc}

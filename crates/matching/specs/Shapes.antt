@@ -1,7 +1,7 @@
 -- One shape's words among all shapes' words, by their starts; none where there is no such part.
---   end_of     where it ends: at the next one's start, or with the words
+--   end_of    where it ends: at the next one's start, or with the words
 --   part      the words from an index to another
---   shape_at   the words of shape j
+--   shape_at  the words of shape j
 --   Laid      each shape has such a part: its start is not behind its end, and that not behind the words'
 use Rattle.std.specs.Prelude.{ℕ, suc, ◌-◌, ◌<◌, ◌≤◌, List, [], cond, ltb, leb, length, get_or, take, drop}
 

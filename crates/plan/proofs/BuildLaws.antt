@@ -1,5 +1,5 @@
 -- Building, step by step.
---   Clearing clearing-…            the first words zero
+--   Clearing clearing_…            the first words zero
 --   cleared_again                  what clearing leaves depends only on the words behind
 --   same_self                      a state is the same as itself
 --   Ended ended_is ended_counts    what exploring to the end tells: the plan's words, their number

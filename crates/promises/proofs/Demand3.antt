@@ -1,5 +1,5 @@
 -- Demand 3 holds of every file that opens and whose build is accepted.
---   same-…     two finished walks over one file
+--   same_…     two finished walks over one file
 use mathlib.Core.Path.{◌≡◌, ap, ap₂, sym, ◌∙◌, subst}
 use mathlib.Core.List.{List, ◌++◌}
 use mathlib.Core.Logic.{◌↔◌}

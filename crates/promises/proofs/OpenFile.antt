@@ -2,8 +2,8 @@
 --   symbols_are …     the tables, as the terms that the file holds
 --   is_folio          the terms that opening read, within the limits
 --   shape_words_lem …  the tables, as the terms that opening read
---   shapes_good_lem score_good_lem  they are good; symbols-below …: and of bytes and words
---   same-…            two openings of one file have the same symbols, shapes with their words and starts, score, spans and depth
+--   shapes_good_lem score_good_lem  they are good; symbols_below …: and of bytes and words
+--   same_…            two openings of one file have the same symbols, shapes with their words and starts, score, spans and depth
 use mathlib.Core.Path.{◌≡◌, ap, ap₂, sym, ◌∙◌, subst}
 use mathlib.Core.List.{List, map}
 use Prim.Native.Nat.{ℕ, ◌-◌}

@@ -1,7 +1,7 @@
 -- The sample file opens, is built and is walked: demands 2 and 3 speak of it, and say there what document 01 shows.
 --   open_file one_file   the sample, with buffers full of nines; a step is lent the whole plan buffer, a word longer than the plan
 --   ended           ten choices of item 0, and none waits
---   shape_0_at_2_1  by demand 2, shape 0 matches at 2.1; no-shape-1-at-1: shape 1 does not at 1
+--   shape_0_at_2_1  by demand 2, shape 0 matches at 2.1; no_shape_1_at_1: shape 1 does not at 1
 --   always_ten      by demand 3, every walk to the end has ten accepted steps
 --   waits_for_6_or_8  by wish 7, whatever was chosen: where shape 0 is not marked at node 6, that node or node 8 is unread
 --   always_reported by demand 3, every walk over the file to its end, in any order and with any buffers, reports the text of document 01

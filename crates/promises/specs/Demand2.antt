@@ -1,16 +1,16 @@
 -- Demand 2: "the plan is the one that the paper's construction gives, and after a finished walk a shape is reported at a place exactly if it matches there".
---   is_folio        what opening read is a folio: the limits of document 01 hold of its symbols, shapes and score
+--   is_folio           what opening read is a folio: the limits of document 01 hold of its symbols, shapes and score
 --   shape_words_lem …  the tables that opening wrote are the preorder words, the shapes' starts and the nodes' spans
---   score_depth …   the depths that opening answered are the score's and the greatest of the shapes'
---   plan            the words that building wrote are the plan of the paper's construction with document 01's choices
---   construction    what computes that plan is what the paper says
---   exactly         a bit is set exactly if the shape matches at the node, by the paper's definition
---   no_other        no other bit is set
---   path            the path on a match's line is its node's position, for every node of the score
---   order           nodes are numbered in the document order of their positions
---   text            whatever tells which shape matches where, the whole text that find prints is `report_in` of it: the first line, then a line for each
---                   match, over the score's positions in document order and the shapes ascending
---   tested          such a test is there
+--   score_depth …      the depths that opening answered are the score's and the greatest of the shapes'
+--   plan               the words that building wrote are the plan of the paper's construction with document 01's choices
+--   construction       what computes that plan is what the paper says
+--   exactly            a bit is set exactly if the shape matches at the node, by the paper's definition
+--   no_other           no other bit is set
+--   path               the path on a match's line is its node's position, for every node of the score
+--   order              nodes are numbered in the document order of their positions
+--   text               whatever tells which shape matches where, the whole text that find prints is `report_in` of it: the first line, then a line for each
+--                      match, over the score's positions in document order and the shapes ascending
+--   tested             such a test is there
 use Rattle.std.specs.Prelude.{◌≡◌, Bool, true, List, map, ◌↔◌, ℕ, ◌<◌, length, get_or}
 use Rattle.std.proofs.Math.Option.{some}
 use Rattle.std.proofs.Math.ListN.{get_elem?}

@@ -6,10 +6,10 @@
 --   refused         a choice that is not below the number waiting is refused 32 and changes nothing
 --   taken           any other is accepted, and reads one symbol more
 --   steps           the accepted steps are at most n, and n exactly if none waits
---   log-…           the log holds nodes of the score, none twice, and each when none waits
+--   log_…           the log holds nodes of the score, none twice, and each when none waits
 --   waits           the waiting and the read are at most n together
 --   number          the stored number is the ones in the marks of the n nodes, after any choices (document 02, wish 5; for any plan words: `RunningNumber`)
---   same-…          two finished walks over the file, by any choices and with any buffers, have the same marks, the same number and the same text
+--   same_…          two finished walks over the file, by any choices and with any buffers, have the same marks, the same number and the same text
 -- The same by lists of choices (document 02, wish 4), any lists one after the other, with a refused choice in any of them at any place:
 --   lists           record and buffers are those after the accepted choices taken singly: all that this demand says of a walk, it says of lists
 --   lists_accepted  the answers say as many accepted choices as are accepted singly: each of them

@@ -4,14 +4,14 @@
 --   ItemFound    what an item finds: "The node at the item's node followed by the state's label is read"
 --   StepFound    the step, and the walk after it
 -- Each condition and its field (`View`, `LabelFound`, `BlockFound`, `PairFound` are in `Found`; the counts are the header's own):
---   "there are 1 to 128 states, 1 to 32 symbols and 1 to 16 shapes"                     View: states-in, symbols-in, shapes-in
+--   "there are 1 to 128 states, 1 to 32 symbols and 1 to 16 shapes"                     View: states_in, symbols_in, shapes_in
 --   "header, label, block start and the whole block lie within the plan words lent"     View: header; LabelFound: word; BlockFound: start, inside
 --   "the item's state", "the symbol read", "each announced shape and successor state"   LabelFound: state; BlockFound: symbol; PairFound: number_in
---   "each code met"                                                                     LabelFound: code; PairFound: code-in
---   "each node reached", "each child gone to or stepped over"                           node-read, node: both are in `target`
---   "the log has room for one more, the waiting list for all items before and after"    log-room; room-before, room_after
---   "every place named exists in its buffer"                                            symbol-read, marks-there
---   "34 also if the stored number is above sixteen times n" (document 02, wish 5)       number_in; number-held, to which no score comes that can be lent
+--   "each code met"                                                                     LabelFound: code; PairFound: code_in
+--   "each node reached", "each child gone to or stepped over"                           node_read, node: both are in `target`
+--   "the log has room for one more, the waiting list for all items before and after"    log_room; room_before, room_after
+--   "every place named exists in its buffer"                                            symbol_read, marks_there
+--   "34 also if the stored number is above sixteen times n" (document 02, wish 5)       number_in; number_held, to which no score comes that can be lent
 use Rattle.std.specs.Prelude.{◌≡◌, List, ℕ, ◌+◌, ◌*◌, ◌^◌, ◌<◌, ◌≤◌, length, get_or}
 use Rattle.std.proofs.Math.Option.{Option, some}
 use Rattle.std.proofs.Math.ListN.{get_elem?}

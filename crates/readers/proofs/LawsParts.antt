@@ -1,5 +1,5 @@
 -- Header, labels, block starts and pairs of a plan, way by way; and the readers over them.
---   counts_of is_zero not_zero counts_last  the counts
+--   counts_of_lem is_zero not_zero counts_last  the counts
 --   product                                  a product of two words
 --   label_state label_out label_at           a label
 --   no_label a_label                         a label that is answered, taken apart

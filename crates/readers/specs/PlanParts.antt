@@ -6,7 +6,7 @@
 --   block_at      a block at the head of the words: announcements and successors
 --   label_word   the label of a state, in a plan of m states
 --   block_of      the block of a state and symbol, in a plan of m states and k symbols
---   pair_at       a pair of a list, its number below a limit and its code a good one; pairIn: one of a block
+--   pair_at       a pair of a list, its number below a limit and its code a good one; pair_in: one of a block
 --   label_of …   the plan readers, over the words and the view's counts of states and symbols
 use Rattle.std.specs.Prelude.{ℕ, zero, suc, ◌+◌, ◌*◌, List, [], ◌∷◌, Bool, true, false, cond, ◌&&◌, eqb, ltb, leb, length, get_or, drop}
 use Rattle.std.proofs.Math.Option.{Option, none, some}

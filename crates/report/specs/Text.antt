@@ -3,7 +3,7 @@
 -- with a line feed; a text is its bytes.
 --   digits_to     a number in decimal, of at most d digits; digits: of any length that is met
 --   dotted        child numbers, each behind a dot
---   pathText      a position, the root as `-`
+--   path_text      a position, the root as `-`
 --   field         a text and a number behind it
 --   match_line    one match, its node's position given
 --   line          the same by the spans; none where they do not have the node

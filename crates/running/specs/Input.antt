@@ -1,4 +1,4 @@
--- What is read of an input whose bytes are known.
+-- Inside: what is read of an input whose bytes are known.
 use Rattle.std.specs.Prelude.{◌≡◌, ◌+◌, ◌-◌, ◌^◌, ℕ, List, ◌++◌, length, min, take, IfSome, Option}
 use Rattle.std.specs.Io.KnownBytes.{Consumes, IsAtEnd}
 

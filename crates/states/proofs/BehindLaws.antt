@@ -1,7 +1,7 @@
 -- A class lifted behind the states that scratch holds, and looked up among them.
 --   place_in_lem                        its number is its successor's
---   class-…                             put behind the states, and lifted there
---   lifted-…                            what scratch then holds
+--   class_…                             put behind the states, and lifted there
+--   lifted_…                            what scratch then holds
 --   met_big met_known met_full met_new  the ways to meet it
 use mathlib.Core.Path.{◌≡◌, refl, ap, ap₂, sym, ◌∙◌}
 use mathlib.Core.List.{List, [], ◌∷◌, ◌++◌}

@@ -1,9 +1,9 @@
 -- Exploring, turn by turn.
---   Meeting meeting-…                   classes in turn
---   symbol-…                            a state on a symbol, from its parts
+--   Meeting meeting_…                   classes in turn
+--   symbol_…                            a state on a symbol, from its parts
 --   block_length words_more             how many words blocks take
---   Rowing rowing-…                     symbols in turn
---   Running running-…                   states in turn
+--   Rowing rowing_…                     symbols in turn
+--   Running running_…                   states in turn
 use mathlib.Core.Path.{◌≡◌, refl, ap, ap₂, sym, ◌∙◌}
 use mathlib.Core.List.{List, [], ◌∷◌, ◌++◌, map, append_assoc, append-nil}
 use mathlib.Core.Bool.{Bool, true, false, cond}

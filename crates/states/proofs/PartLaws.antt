@@ -1,5 +1,5 @@
 -- A state on a symbol, in arrays.
---   state_in_lem held-… on_symbol  a state of those that scratch holds
+--   state_in_lem held_… on_symbol  a state of those that scratch holds
 --   label_there                    its label
 --   spared_held                    words written behind the states
 --   state_stored derivable         what announcing and deriving ask

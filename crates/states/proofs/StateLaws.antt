@@ -2,7 +2,7 @@
 --   states_length states_at                       how many; each by its number
 --   place_all place_here place_next place_end     the first that is equal to one
 --   sets_in                                       a run, read again
---   spared-…                                      words written behind the states: these stay
+--   spared_…                                      words written behind the states: these stay
 --   states_more kept_more more_behind             one more state
 use mathlib.Core.Path.{◌≡◌, refl, ap, ap₂, sym, ◌∙◌}
 use mathlib.Core.List.{List, [], ◌∷◌, ◌++◌, map}

@@ -1,19 +1,19 @@
 -- Inside: states met before, and what the code that meets them answers.
 --   place_of       the number of the first state that is equal to one, their count where none is
---   LiftsBehind   a class is put behind the states, lifted
---   AllGood       each state is good
---   Held          scratch holds m states, each good
---   Behind        scratch past its used words is as it was
---   Spared        and so are the states
---   blocks_length  how many words blocks take; row_most, allMost: at most, of one state and of all
---   ClassesMet    the states are in scratch, with two words counted for each successor
+--   LiftsBehind    a class is put behind the states, lifted
+--   AllGood        each state is good
+--   Held           scratch holds m states, each good
+--   Behind         scratch past its used words is as it was
+--   Spared         and so are the states
+--   blocks_length  how many words blocks take; row_most, all_most: at most, of one state and of all
+--   ClassesMet     the states are in scratch, with two words counted for each successor
 --   ClassMeetable what meeting a class asks; ClassesMeetable: several
---   MetIs         what meeting classes answers: that, or why it stops
---   SymbolIs      what a state on a symbol answers
---   RowMade       the states are in scratch, and a state's blocks come after others, with their words counted
---   RowIs         what a state on each symbol answers: that, or why it stops
---   AllMade       so for all states
---   ExploredIs    what all states answer
+--   MetIs          what meeting classes answers: that, or why it stops
+--   SymbolIs       what a state on a symbol answers
+--   RowMade        the states are in scratch, and a state's blocks come after others, with their words counted
+--   RowIs          what a state on each symbol answers: that, or why it stops
+--   AllMade        so for all states
+--   ExploredIs     what all states answer
 use Rattle.std.specs.Prelude.{◌≡◌, List, ◌++◌, map, ℕ, ◌+◌, ◌*◌, ◌<◌, ◌≤◌, length, get_or, take, drop}
 use Rattle.kinds.specs.Lists.{find, concat, or_else}
 use Rattle.kinds.specs.Members.{◌∈◌}

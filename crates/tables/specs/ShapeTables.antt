@@ -1,12 +1,12 @@
 -- Inside: the words of the five tables, each by itself, from child counts, shape words and starts.
---   word_at                a word, a blank past the end
---   span_at               the nodes of a term, at most 16
---   seek_from             from node to node: down to the first child, or on to the next sibling
---   kids_at               the mask of a node's children that are no blanks
---   Seekable              what code asks where it goes from node to node
---   node_word entry_in    a word for a node, by area; 0 where there is no such node
+--   word_at                 a word, a blank past the end
+--   span_at                 the nodes of a term, at most 16
+--   seek_from               from node to node: down to the first child, or on to the next sibling
+--   kids_at                 the mask of a node's children that are no blanks
+--   Seekable                what code asks where it goes from node to node
+--   node_word entry_in      a word for a node, by area; 0 where there is no such node
 --   area_words table_words  the words of one table, and of the five
---   entry_w entries_from   the tables' words, one by one
+--   entry_w entries_from    the tables' words, one by one
 use Rattle.std.specs.Prelude.{List, [], ◌∷◌, cond, ℕ, zero, suc, ◌+◌, ◌*◌, ◌/◌, ◌%◌, ◌^◌, ◌≤◌, eqb, ltb, leb, length, get_or}
 
 -- a word, a blank past the end

@@ -1,7 +1,7 @@
 -- Node numbers and positions correspond one to one.
 --   number_sub sub_number                a position has a number exactly if it is one of the term's
 --   number_place place_number            a number's position is the one whose number it is
---   number_below node_at             numbers are those below the span, and each of these is one
+--   number_below node_at_lem             numbers are those below the span, and each of these is one
 --   number_append                        the number of a position below another
 --   dom_place dom_number                 document order is the order of the numbers
 use mathlib.Core.Path.{◌≡◌, refl, ap, sym, ◌∙◌}

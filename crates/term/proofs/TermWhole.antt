@@ -1,7 +1,7 @@
 -- Every term within the limits is read whole: the way back of WholeTerm. And `parse` reads it.
 --   first                     the first word of a list that stands at an index
 --   met_with                  what a term is met with
---   read-back reads_back      words that are a term's, and others behind them
+--   read_back reads_back      words that are a term's, and others behind them
 --   term_whole                a term that stands there
 --   parse_flatten many_flatten parse_all_lem  parsed
 use mathlib.Core.Path.{◌≡◌, refl, ap, ap₂, sym, ◌∙◌}

@@ -2,7 +2,7 @@
 -- end, the greatest depth it met." A blank is a node.
 --   limits       the limits of a reading
 --   children_of  how many children a word has: a blank none, a symbol as many as its count says
---   head_of       the tests at one node that need no depth, in their order: is there a word, is it a symbol or a blank, is it one node too many
+--   head_of      the tests at one node that need no depth, in their order: is there a word, is it a symbol or a blank, is it one node too many
 --   met          what was met: the index after the last word, the greatest depth
 --   alone after  a node before its children are read; with one more child, whose nodes are a level deeper
 --   kids_of      n terms read one after the other

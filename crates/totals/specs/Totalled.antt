@@ -1,6 +1,6 @@
 -- The first line's numbers, of what the calls answered: "find use[s] the stored number" (document 02, wish 5); the simple finder's line has "`states -`".
---   states_by matchesBy  the states and the matches, by what made the marks
---   numbers totalled     the line's numbers, or why the clashes are not counted
+--   states_by matches_by  the states and the matches, by what made the marks
+--   numbers totalled      the line's numbers, or why the clashes are not counted
 use Rattle.std.specs.Prelude.{ℕ}
 use Rattle.folio.specs.declared.Counts.{Counts}
 use Rattle.report.specs.declared.States.{States}

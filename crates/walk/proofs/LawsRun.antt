@@ -1,6 +1,6 @@
 -- Choices one after the other: `run` and `accepted`, for any words.
 --   Step step              a choice is taken, or refused and nothing changes
---   takes-… stops-…        choices of which the first is taken, or refused
+--   takes_… stops_…        choices of which the first is taken, or refused
 --   run_one                one choice is a step
 --   run_append accepted_append   choices behind choices
 --   accepted_most          not more are accepted than there are

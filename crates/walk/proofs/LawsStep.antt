@@ -1,6 +1,6 @@
 -- A step, way by way through the code.
 --   step_32 step_number step_few             the refusals that need no look
---   head_counts head_label head_nowhere head_block head_at, head_good head_fits  what an item finds
+--   head_counts head_label head_nowhere head_block head_at_lem, head_good head_fits  what an item finds
 --   fits_items fits_far fits_near fits_lent, leads_outs leads_nexts, room_log room_items   what is decided before and behind it
 --   sight_few sight_head sight_leads sight_room sight_some, Sighted sighted_is sight_outs sight_block sight_new   what a step sees
 --   step_nothing step_unseen step_done done_waiting done_items   the step

@@ -1,8 +1,8 @@
 -- Words and positions: a step over the words of a plan and a score is a step of the walk over positions, item by item and bit by bit.
 --   word_item pos_item succ_item  an item by its state's number: as words, over positions; and one that goes on
---   Tied                        the words lent to a walk are those of a walk over positions
---   Next                        what a step makes of them: it is not refused, the words stay tied, and each bit that it sets was clear
---   step_tied                   a choice below the number waiting makes such a step
+--   Tied                          the words lent to a walk are those of a walk over positions
+--   Next                          what a step makes of them: it is not refused, the words stay tied, and each bit that it sets was clear
+--   step_tied                     a choice below the number waiting makes such a step
 use mathlib.Core.Path.{◌≡◌, refl, ap, sym, ◌∙◌, subst}
 use mathlib.Core.Bool.{true}
 use mathlib.Core.List.{List, [], ◌∷◌, ◌++◌, map, append_assoc}

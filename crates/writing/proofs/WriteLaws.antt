@@ -1,10 +1,10 @@
 -- Writing a plan, part by part.
---   two_stores Paired paired-…          a count and pairs of words
+--   two_stores Paired paired_…          a count and pairs of words
 --   sets_swap                           two runs that lie apart, in either order
 --   place_le place_small                a state's number
---   out_room succ_room block_put        a block from its parts; class-small: its classes are small
---   Rowed rowed-…                       the blocks of a state and their starts, in step
---   Planned planned-…                   labels, starts and blocks, in step
+--   out_room succ_room block_put        a block from its parts; class_small: its classes are small
+--   Rowed rowed_…                       the blocks of a state and their starts, in step
+--   Planned planned_…                   labels, starts and blocks, in step
 use mathlib.Core.Path.{◌≡◌, refl, ap, ap₂, sym, subst, ◌∙◌}
 use mathlib.Core.List.{List, [], ◌∷◌, ◌++◌, map}
 use mathlib.Core.Option.{Option, none, some}

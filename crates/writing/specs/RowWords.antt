@@ -1,7 +1,7 @@
 -- Inside: a plan's blocks in words, made from all of its states, and what the code that writes them asks.
 --   block_of all_blocks SmallOn  those of any construction
 --   block_in     the words of state i's block on symbol f
---   row_words    the words of state i's blocks, from symbol f on; rowAll: of all of them
+--   row_words    the words of state i's blocks, from symbol f on; row_all: of all of them
 --   plan_in      the plan of the m states in scratch
 --   pairs        two words for each
 --   out_words    a count and the announcements of the goals named

@@ -9,7 +9,10 @@ loop-left-init c = (refl, refl)
 
 pub loop-left-preserved : goal.loop-left-preserved
 loop-left-preserved c =
-    elim c.if-ws-here.branch [ then-ws-here w ↦ (omega arith, c.loop-left.invariant.1 ∙ rw w.found-is (least_next c.args.ws.now c.loop-left.here c.loop-left.left c.loop-left.found c.loop-left-test.true w.if-ws-here.true)) | else-ws-here w ↦ (omega arith, c.loop-left.invariant.1 ∙ rw w.found-is (least_keep c.args.ws.now c.loop-left.here c.loop-left.left c.loop-left.found c.loop-left-test.true w.if-ws-here.false)) ]
+    elim c.if-ws-here.branch [
+      | then-ws-here w ↦ (omega arith, c.loop-left.invariant.1 ∙ rw w.found-is (least_next c.args.ws.now c.loop-left.here c.loop-left.left c.loop-left.found c.loop-left-test.true w.if-ws-here.true))
+      | else-ws-here w ↦ (omega arith, c.loop-left.invariant.1 ∙ rw w.found-is (least_keep c.args.ws.now c.loop-left.here c.loop-left.left c.loop-left.found c.loop-left-test.true w.if-ws-here.false))
+    ]
 
 pub returns : goal.returns
 returns c =
