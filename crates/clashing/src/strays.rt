@@ -28,7 +28,8 @@ fn is_stray(words: &[u16], starts: &[u16], score: &[u16], spans: &[u16], k: usiz
     requires { k < 65536 }
     ensures { result ≡ not (matched words.now starts.now score.now spans.now (match_of k)) }
 {
-    if starts.len() <= k % 16 {
+    let above = starts.len() <= k % 16;
+    if above {
         return true;
     }
     let shape = words_of(words, starts, Shape((k % 16) as u16));

@@ -11,16 +11,16 @@ returns-then-k-gt32 c =
 
 pub find_state-requires : goal.find_state-requires
 find_state-requires c =
-    (lifted_kept c.requires c.lift_behind-class.ensures, c.if-k-gt32.false)
+    (lifted_kept c.requires c.lift_behind-class.ensures, (omega arith))
 
 pub returns-then-find_state-m : goal.returns-then-find_state-m
 returns-then-find_state-m c =
-    record { is = met_known c.requires c.lift_behind-class.ensures c.find_state.ensures c.if-k-gt32.false c.if-find_state-m.true; behind = (lifted_spared c.requires c.lift_behind-class.ensures).behind }
+    record { is = met_known c.requires c.lift_behind-class.ensures c.find_state.ensures (omega arith) c.if-find_state-m.true; behind = (lifted_spared c.requires c.lift_behind-class.ensures).behind }
 
 pub returns-then-m-eq-STATES : goal.returns-then-m-eq-STATES
 returns-then-m-eq-STATES c =
     record {
-      is = met_full c.requires c.lift_behind-class.ensures c.find_state.ensures c.if-k-gt32.false
+      is = met_full c.requires c.lift_behind-class.ensures c.find_state.ensures (omega arith)
           c.if-find_state-m.false c.if-m-eq-STATES.true;
       behind = (lifted_spared c.requires c.lift_behind-class.ensures).behind;
     }
@@ -31,5 +31,5 @@ bounds-scratch-m c =
 
 pub returns : goal.returns
 returns c = let made =
-    met_new c.requires c.lift_behind-class.ensures c.find_state.ensures c.if-k-gt32.false
+    met_new c.requires c.lift_behind-class.ensures c.find_state.ensures (omega arith)
     c.if-find_state-m.false c.if-m-eq-STATES.false in record { is = made.0; behind = made.1 }

@@ -23,10 +23,6 @@ pub clear-requires : goal.clear-requires
 clear-requires c =
     omega (arith, c.if-scratch-lt-SCRATCH_WORDS.false, c.make-answer.auto.scratch)
 
-pub shape_of-plan-then-shapes_good : goal.shape_of-plan-then-shapes_good
-shape_of-plan-then-shapes_good c =
-    c.make-answer.auto.plan
-
 pub shape_of-scratch-then-shapes_good : goal.shape_of-scratch-then-shapes_good
 shape_of-scratch-then-shapes_good c =
     c.clear.auto.scratch ∙ c.make-answer.auto.scratch
