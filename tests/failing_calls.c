@@ -1,4 +1,4 @@
-// Put before the C library, it lets the read with the number FAIL_AT, counted from 1, fail once; and each fsync, close or rename, whichever FAIL_CALL names.
+// Put before the C library, it lets each fsync, close or rename fail, whichever FAIL_CALL names.
 #include <errno.h>
 #include <stdlib.h>
 #include <string.h>
@@ -13,13 +13,6 @@ static int failed(void) {
 static int is_to_fail(const char *call) {
     const char *name = getenv("FAIL_CALL");
     return name && strcmp(name, call) == 0;
-}
-
-ssize_t read(int fd, void *bytes, size_t n) {
-    static int reads;
-    const char *at = getenv("FAIL_AT");
-    if (at && ++reads == atoi(at)) return failed();
-    return syscall(SYS_read, fd, bytes, n);
 }
 
 int fsync(int fd) { return is_to_fail("fsync") ? failed() : syscall(SYS_fsync, fd); }

@@ -1,4 +1,4 @@
--- Document 01, "The folio", made and not read: symbols, "1 to 32 of them", shapes, "1 to 16 shapes", "each 1 to 16 nodes", and a score, "1 to 4,096 nodes",
+-- Inside: document 01, "The folio", made and not read: symbols, "1 to 32 of them", shapes, "1 to 16 shapes", "each 1 to 16 nodes", and a score, "1 to 4,096 nodes",
 -- become a file. That they are symbols, shapes and a score is not looked at: opening does that.
 --   shapes_words   the words of 16 shapes of 16 nodes
 --   BindOutcome    an answer, and the buffer as it is then; a refusal writes nothing

@@ -1,4 +1,4 @@
--- The first line's numbers, of what the calls answered: "find use[s] the stored number" (document 02, wish 5); the simple finder's line has "`states -`".
+-- Inside: the first line's numbers, of what the calls answered: "find use[s] the stored number" (document 02, wish 5); the simple finder's line has "`states -`".
 --   states_by matches_by  the states and the matches, by what made the marks
 --   numbers totalled      the line's numbers, or why the clashes are not counted
 use Rattle.std.specs.Prelude.{ℕ}
