@@ -5,14 +5,15 @@
 // With a `=` behind the folio's name the shapes are compared, and no field of marks stands before the changes: each mark lent is 65,535 before. Printed
 // behind the line are then the marks that are not 0, each with its node, or the refusal, and each mark that was to stay 65,535 and did not.
 use bufferstone::limits::{FILE_BYTES, MOST_SHAPES, SCORE_NODES, SHAPES_WORDS};
-use bufferstone::{Counted, Opened, clashes, number, open};
+use bufferstone::{clashes, number, open};
 use compared::compare_lent;
-use running::changing::{Lengths, change_tables, change_words};
+use kinds::{Reason, Refusal};
+use running::changing::change_table;
 use running::files::read_folio;
-use running::reading::{INPUT_BYTES, read_full};
-use running::showing::{show, write};
-use running::texts::{before, behind, ended, first, has, next_from, value_of};
-use running::words::first_words;
+use running::lines::answer_lines;
+use running::parts::first;
+use running::tables::{Buffers, Lengths, Tables};
+use running::texts::{before, field, has, value_of};
 use std::io;
 
 mod compared; // the marks by comparing, and those that stay
@@ -21,30 +22,10 @@ mod compared; // the marks by comparing, and those that stay
 const ROOM: usize = 4;
 
 fn main(rt: HostRuntime) -> io::Result<()> {
-    let mut text = [0u8; INPUT_BYTES];
-    let n = read_full(&mut rt.reader(), &mut text);
-    run_lines(&rt, &text[..n])
+    answer_lines(&rt, |line| run_case(&rt, line))
 }
 
-fn run_lines(rt: &HostRuntime, text: &[u8]) -> io::Result<()> {
-    let mut from: usize = 0;
-    for i in 0..text.len() {
-        run_line(rt, ended(text, from, i, b'\n'))?;
-        from = next_from(text, from, i, b'\n');
-    }
-    Ok(())
-}
-
-fn run_line(rt: &HostRuntime, line: &[u8]) -> io::Result<()> {
-    if line.len() == 0 {
-        return Ok(());
-    }
-    write(rt, line)?;
-    run_case(rt, line)?;
-    write(rt, b"\n")
-}
-
-// A folio's symbols are its first bytes.
+// A folio's symbols are its first bytes. The same stands in `puts`: `running`, which both have, is below opening.
 fn run_case(rt: &HostRuntime, line: &[u8]) -> io::Result<()> {
     let mut file = [0u8; FILE_BYTES + ROOM];
     let mut words = [0u16; SHAPES_WORDS + ROOM];
@@ -59,82 +40,52 @@ fn run_case(rt: &HostRuntime, line: &[u8]) -> io::Result<()> {
         &mut score,
         &mut spans,
     ) {
-        Opened::Refused(reason, place) => show(rt, b"not opened ", number(reason) as usize),
-        Opened::Folio(c) => {
-            let opened = Lengths::opened(c.symbols, c.words, c.shapes, c.nodes);
-            let n = change_tables(
-                changes_of(line),
-                &mut file,
-                &mut words,
-                &mut starts,
-                &mut score,
-                &mut spans,
-                opened,
-            );
-            run_changed(
-                rt,
-                line,
-                first(&file, n.symbols),
-                first_words(&words, n.words),
-                first_words(&starts, n.starts),
-                first_words(&score, n.score),
-                first_words(&spans, n.spans),
-            )
+        Err(Refusal(reason, place)) => print!(rt; "not opened {}", number(reason)),
+        Ok(c) => {
+            let mut buffers = Buffers {
+                symbols: &mut file,
+                words: &mut words,
+                starts: &mut starts,
+                score: &mut score,
+                spans: &mut spans,
+                lengths: Lengths::opened(c.symbols, c.words, c.shapes, c.nodes),
+            };
+            buffers.change(changes_of(line));
+            run_changed(rt, line, buffers.tables())
         }
     }
 }
 
 fn compares(line: &[u8]) -> bool {
-    has(before(line, b'|'), b'=')
+    has(field(line, 0), b'=')
 }
 
 // The last field.
 fn changes_of(line: &[u8]) -> &[u8] {
-    let fields = behind(behind(line, b'|'), b'|');
     if compares(line) {
-        return before(fields, b'|');
+        return field(line, 2);
     }
-    before(behind(fields, b'|'), b'|')
+    field(line, 3)
 }
 
-fn run_changed(
-    rt: &HostRuntime,
-    line: &[u8],
-    symbols: &[u8],
-    words: &[u16],
-    starts: &[u16],
-    score: &[u16],
-    spans: &[u16],
-) -> io::Result<()> {
-    let fields = behind(line, b'|');
-    let lent = value_of(before(fields, b'|'));
+fn run_changed(rt: &HostRuntime, line: &[u8], tables: Tables<'_>) -> io::Result<()> {
+    let lent = value_of(field(line, 1));
     if compares(line) {
-        return compare_lent(rt, lent, symbols, words, starts, score, spans);
+        return compare_lent(rt, lent, tables);
     }
-    let marked = before(behind(fields, b'|'), b'|');
-    show_answer(
-        rt,
-        count_marked(marked, lent, symbols, words, starts, score, spans),
-    )
+    match count_marked(field(line, 2), lent, tables) {
+        Ok(n) => print!(rt; "{n}"),
+        Err(reason) => print!(rt; "refused {}", number(reason)),
+    }
 }
 
-fn count_marked(
-    marked: &[u8],
-    lent: usize,
-    symbols: &[u8],
-    words: &[u16],
-    starts: &[u16],
-    score: &[u16],
-    spans: &[u16],
-) -> Counted {
+fn count_marked(marked: &[u8], lent: usize, tables: Tables<'_>) -> Result<usize, Reason> {
     let mut marks = [0u16; SCORE_NODES + ROOM];
-    let n = change_words(marked, b"", &mut marks, lent);
-    clashes(symbols, words, starts, score, spans, first_words(&marks, n))
-}
-
-fn show_answer(rt: &HostRuntime, answer: Counted) -> io::Result<()> {
-    match answer {
-        Counted::Number(n) => show(rt, b"", n),
-        Counted::Refused(reason) => show(rt, b"refused ", number(reason) as usize),
-    }
+    let n = change_table(marked, b"", &mut marks, lent);
+    clashes(
+        tables.symbols,
+        tables.shapes(),
+        tables.score(),
+        first(&marks, n),
+    )
 }

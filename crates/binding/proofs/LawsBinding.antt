@@ -1,17 +1,16 @@
 -- Binding a folio's file.
 --   stored_then                               two runs stored one behind the other
---   word_stored words_next words_end          a word as two bytes; words one by one
+--   words_next words_end                      words one by one
 --   trailer_stored                            the trailer, word by word
 --   length_bound                              how many bytes
 --   bound_counted body_stored bound_stored    the parts one behind the other
---   many_symbols many_words many_nodes no_room bind_written   refusals, then the file
-use Prim.Native.Nat.{ℕ, ◌+◌, ◌*◌, ◌/◌, ◌%◌, ◌<◌, ◌≤◌}
+--   no_room bind_written                      no room for it, or the file
+use Prim.Native.Nat.{ℕ, ◌+◌, ◌*◌, ◌<◌, ◌≤◌}
 use mathlib.Core.Path.{◌≡◌, refl, ap, ap₂, sym, ◌∙◌}
 use mathlib.Core.List.{List, [], ◌∷◌, ◌++◌}
 use native.Mathlib.Omega.{arith}
-use native.Mathlib.Numerals.{add-one}
 use borrow.Author.Tests.{le-leb, lt-leb}
-use lib.ListN.{length, get_or, drop, set, length-append}
+use lib.ListN.{length, get_or, drop, length-append}
 use lib.Seq.{sets}
 use Rattle.kinds.proofs.ListLaws.{sets_append, from, from_end, onto_sets}
 use Rattle.folio.specs.Files.{bytes_of, trailer, body, bound}
@@ -22,9 +21,6 @@ use Rattle.binding.specs.Binding.{bind_out, bind_of}
 stored_then : (f : List ℕ) (at : ℕ) (xs ys : List ℕ) {f₁ f₂ : List ℕ} {n : ℕ} → f₁ ≡ sets f at xs → n ≡ at + length xs → f₂ ≡ sets f₁ n ys
     → f₂ ≡ sets f at (xs ++ ys)
 stored_then f at xs ys e m d = d ∙ ap₂ (λ l k. sets l k ys) e m ∙ sym (sets_append f at xs ys)
-
-pub word_stored : (f : List ℕ) (at w : ℕ) → set (set f at (w % 256)) (at + 1) (w / 256) ≡ sets f at (bytes_of (w ∷ []))
-word_stored f at w = ap (λ n. set (set f at (w % 256)) n (w / 256)) (add-one at)
 
 pub words_next : (f ws : List ℕ) (here i : ℕ) {f₁ : List ℕ} {next : ℕ} → i < length ws → f₁ ≡ sets f here (bytes_of (get_or ws i 0 ∷ [])) → next ≡ here + 2
     → sets f here (bytes_of (drop i ws)) ≡ sets f₁ next (bytes_of (drop (i + 1) ws))
@@ -73,20 +69,8 @@ module _ (ar ws sc : List ℕ) where
         let distances = ap (λ a. trailer a (2 * length ws + 2 * length sc) (2 * length sc)) (sym (length_body ar ws sc)) in
         stored_then file 0 (body ar ws sc) _ body_stored behind (e₄ ∙ ap (sets f₃ end) distances)
 
-  -- ---- refusals, then the file
+  -- ---- no room for it, or the file
   module _ (file : List ℕ) where
-    pub many_symbols : 32 < length ar → bind_out 0 file ≡ bind_of ar ws sc file
-    unfolding bind_of
-    many_symbols h = rw (lt-leb _ _ h)
-
-    pub many_words : length ar ≤ 32 → 256 < length ws → bind_out 0 file ≡ bind_of ar ws sc file
-    unfolding bind_of
-    many_words a h = rw (le-leb _ _ a, lt-leb _ _ h)
-
-    pub many_nodes : length ar ≤ 32 → length ws ≤ 256 → 4096 < length sc → bind_out 0 file ≡ bind_of ar ws sc file
-    unfolding bind_of
-    many_nodes a b h = rw (le-leb _ _ a, le-leb _ _ b, lt-leb _ _ h)
-
     module _ (a : length ar ≤ 32) (b : length ws ≤ 256) (c : length sc ≤ 4096) where
       pub no_room : length file < length ar + (2 * length ws + 2 * length sc) + 8 → bind_out 0 file ≡ bind_of ar ws sc file
       unfolding bind_of

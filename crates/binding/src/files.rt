@@ -5,16 +5,11 @@ use crate::storing::{put_bytes, put_trailer, put_words};
 use kinds::limits::{MOST_SYMBOLS, SCORE_NODES, SHAPES_WORDS, TRAILER_BYTES};
 
 // The bytes of a folio, and how many they are; 0 where a part is over its limit or there is no room for them.
+#[tactic(auto, unfolding(crate::specs::Binding::bind_of))]
 pub fn bind(symbols: &[u8], words: &[u16], score: &[u16], file: &mut [u8]) -> usize
     ensures { bind_out result file.new ≡ bind_of symbols.now words.now score.now file.old }
 {
-    if MOST_SYMBOLS < symbols.len() {
-        return 0;
-    }
-    if SHAPES_WORDS < words.len() {
-        return 0;
-    }
-    if SCORE_NODES < score.len() {
+    if MOST_SYMBOLS < symbols.len() || SHAPES_WORDS < words.len() || SCORE_NODES < score.len() {
         return 0;
     }
     let scored = 2 * score.len();

@@ -8,12 +8,9 @@ pub fn put_bytes(bytes: &[u8], file: &mut [u8], at: usize) -> usize
     ensures file_after { file.new ≡ sets file.old at bytes.now }
     ensures value { result ≡ at + length bytes.now }
 {
-    let mut i = 0;
-    while i < bytes.len() {
-        file[at + i] = bytes[i];
-        i += 1;
-    }
-    at + i
+    let end = at + bytes.len();
+    file[at..end].copy_from_slice(bytes);
+    end
 }
 
 pub fn put_words(words: &[u16], file: &mut [u8], at: usize) -> usize
@@ -22,10 +19,8 @@ pub fn put_words(words: &[u16], file: &mut [u8], at: usize) -> usize
     ensures value { result ≡ at + 2 * length words.now }
 {
     let mut here = at;
-    let mut i = 0;
-    while i < words.len() {
-        here = put_word(words[i], file, here);
-        i += 1;
+    for word in words {
+        here = put_word(*word, file, here);
     }
     here
 }
@@ -35,9 +30,7 @@ fn put_word(word: u16, file: &mut [u8], at: usize) -> usize
     ensures file_after { file.new ≡ sets file.old at (bytes_of (word ∷ [])) }
     ensures value { result ≡ at + 2 }
 {
-    file[at] = (word % 256) as u8;
-    file[at + 1] = (word / 256) as u8;
-    at + 2
+    put_bytes(&word.to_le_bytes(), file, at)
 }
 
 // The distances back to symbols, shapes and score, and the end bytes.

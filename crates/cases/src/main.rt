@@ -3,10 +3,11 @@
 // is its standard input, with plan buffers of 56 words and of 55, and with a scratch of one word too few; printed are the two lengths, what
 // building answers and the plan buffer's words.
 use bufferstone::limits::{FILE_BYTES, MOST_SHAPES, SCORE_NODES, SCRATCH_WORDS, SHAPES_WORDS};
-use bufferstone::{Built, Opened, Reason, build, number, open};
-use running::files::{PATH_BYTES, argument, open_named};
+use bufferstone::{Counts, Reason, Refusal, Shapes, Unbuilt, build, number, open};
+use running::files::{Name, open_named};
+use running::parts::first;
 use running::reading::read_full;
-use running::texts::first;
+use running::showing::show_spaced;
 use std::io;
 use std::io::Read;
 
@@ -17,11 +18,10 @@ fn main(rt: HostRuntime) -> io::Result<()> {
 
 fn show_arguments(rt: &HostRuntime) -> io::Result<()> {
     for i in 1..usize::MAX {
-        let mut name = [0u8; PATH_BYTES];
-        let Some(n) = argument(rt, i, &mut name) else {
+        let Some(name) = Name::argument(rt, i) else {
             return Ok(());
         };
-        show_named(rt, first(&name, n))?;
+        show_named(rt, name.as_bytes())?;
     }
     Ok(())
 }
@@ -49,10 +49,10 @@ fn show_file(rt: &HostRuntime, input: &mut impl Read) -> io::Result<()> {
     print!(rt; "\n")
 }
 
-fn show_answer(rt: &HostRuntime, answer: Opened) -> io::Result<()> {
+fn show_answer(rt: &HostRuntime, answer: Result<Counts, Refusal>) -> io::Result<()> {
     match answer {
-        Opened::Refused(reason, place) => show_refusal(rt, reason, place),
-        Opened::Folio(c) => {
+        Err(Refusal(reason, place)) => show_refusal(rt, reason, place),
+        Ok(c) => {
             print!(rt; ": opens {} {} {}", c.symbols, c.shapes, c.words)?;
             print!(rt; " {} {} {}", c.nodes, c.depth, c.deepest)
         }
@@ -66,41 +66,37 @@ fn show_sample(rt: &HostRuntime) -> io::Result<()> {
     let mut starts = [0u16; 2];
     let mut score = [0u16; 10];
     let mut spans = [0u16; 10];
-    open(&file, &mut words, &mut starts, &mut score, &mut spans);
+    let _ = open(&file, &mut words, &mut starts, &mut score, &mut spans);
     let symbols = [file[0], file[1], file[2]];
     let mut enough = [9u16; 56];
     let mut short = [9u16; 55];
     let mut scratch = [9u16; SCRATCH_WORDS];
     let mut little = [9u16; 32767];
-    show_build(rt, &symbols, &words, &starts, &mut enough, &mut scratch)?;
-    show_build(rt, &symbols, &words, &starts, &mut short, &mut scratch)?;
-    show_build(rt, &symbols, &words, &starts, &mut short, &mut little)
+    let shapes = Shapes {
+        words: &words,
+        starts: &starts,
+    };
+    show_build(rt, &symbols, shapes, &mut enough, &mut scratch)?;
+    show_build(rt, &symbols, shapes, &mut short, &mut scratch)?;
+    show_build(rt, &symbols, shapes, &mut short, &mut little)
 }
 
 fn show_build(
     rt: &HostRuntime,
     symbols: &[u8],
-    words: &[u16],
-    starts: &[u16],
+    shapes: Shapes<'_>,
     plan: &mut [u16],
     scratch: &mut [u16],
 ) -> io::Result<()> {
     print!(rt; "plan {} {}", plan.len(), scratch.len())?;
-    match build(symbols, words, starts, plan, scratch) {
-        Built::Refused(reason) => show_refusal(rt, reason, 0)?,
-        Built::Stopped(reason, state) => show_refusal(rt, reason, state.0 as usize)?,
-        Built::Plan(size) => print!(rt; ": builds {} {}", size.states, size.words)?,
+    match build(symbols, shapes, plan, scratch) {
+        Err(Unbuilt::Refused(reason)) => show_refusal(rt, reason, 0)?,
+        Err(Unbuilt::Stopped(reason, state)) => show_refusal(rt, reason, state.0 as usize)?,
+        Ok(size) => print!(rt; ": builds {} {}", size.states, size.words)?,
     }
     print!(rt; ":")?;
-    show_words(rt, plan)?;
+    show_spaced(rt, plan)?;
     print!(rt; "\n")
-}
-
-fn show_words(rt: &HostRuntime, words: &[u16]) -> io::Result<()> {
-    for word in words {
-        print!(rt; " {word}")?;
-    }
-    Ok(())
 }
 
 fn show_refusal(rt: &HostRuntime, reason: Reason, place: usize) -> io::Result<()> {

@@ -4,49 +4,31 @@
 --   score_good    not 31: score words and spans are such as opening writes for these symbols
 --   piece_at      the words of the term that stands whole at a word, within limits counted from there; none where there is none
 --   subtree_at    "one call answers with the words of one subtree as a part of the shape table or of the score, according to which of the two was asked for"
-use Rattle.std.specs.Prelude.{ℕ, ◌-◌, List, [], Bool, true, false, ◌&&◌, take, drop}
+use Rattle.term.specs.declared.Fault.{Fault}
+use Rattle.term.specs.declared.Met.{Met}
+use Rattle.std.specs.Prelude.{ℕ, ◌-◌, List, [], Bool, true, false, ◌&&◌, take, drop, Err, Ok, Result, is_ok}
 use Rattle.kinds.specs.Lists.{same}
 use Rattle.term.specs.Reading.{reading}
 use Rattle.term.specs.Spans.{spans_of}
 use Rattle.term.specs.declared.Limits.{Limits}
-use Rattle.term.specs.declared.Reading.{Reading}
-use Rattle.term.specs.declared.Reading.TheVariants as read
 use Rattle.sections.specs.Sections.{symbols_of}
-use Rattle.sections.specs.declared.Verdict.{Verdict}
-use Rattle.sections.specs.declared.Verdict.TheVariants.{Good, Bad}
 use Rattle.contents.specs.Tables.{shape_limits, score_limits, shapes_of, score_of}
 use Rattle.kinds.specs.Limits.{blank_word, shape_levels, score_levels}
-use Rattle.contents.specs.declared.Shapes.{Shapes}
-use Rattle.contents.specs.declared.Shapes.TheVariants as shapes
-use Rattle.contents.specs.declared.Score.{Score}
-use Rattle.contents.specs.declared.Score.TheVariants as score
 use Rattle.checks.specs.declared.Asked.{Asked}
 use Rattle.checks.specs.declared.Asked.TheVariants as asked
 
-abbrev pub passes : Verdict → Bool
-passes Good = true
-passes (Bad r p) = false
-
 unfoldable pub symbols_good : List ℕ → Bool
-symbols_good ar = passes (symbols_of ar)
-
-abbrev pub is_found : Shapes → Bool
-is_found (shapes.Whole m) = true
-is_found (shapes.Refused r i) = false
-
-abbrev pub is_whole : Score → Bool
-is_whole (score.Whole m) = true
-is_whole (score.Refused r i) = false
+symbols_good ar = is_ok (symbols_of ar)
 
 unfoldable pub shapes_good : List ℕ → List ℕ → List ℕ → Bool
-shapes_good ar ws st = symbols_good ar && (is_found (shapes_of ar blank_word ws).answer && same st (shapes_of ar blank_word ws).starts)
+shapes_good ar ws st = symbols_good ar && (is_ok (shapes_of ar blank_word ws).answer && same st (shapes_of ar blank_word ws).starts)
 
 unfoldable pub score_good : List ℕ → List ℕ → List ℕ → Bool
-score_good ar ws sp = symbols_good ar && (is_whole (score_of ar ws) && same sp (spans_of ar ws))
+score_good ar ws sp = symbols_good ar && (is_ok (score_of ar ws) && same sp (spans_of ar ws))
 
-abbrev pub cut : List ℕ → ℕ → Reading → List ℕ
-cut ws at (read.Whole m) = take (m.end - at) (drop at ws)
-cut ws at (read.Refused f p) = []
+abbrev pub cut : List ℕ → ℕ → Result Met (Fault × ℕ) → List ℕ
+cut ws at (Ok m) = take (m.end - at) (drop at ws)
+cut ws at (Err (f, p)) = []
 
 unfoldable pub piece_at : List ℕ → List ℕ → Limits → ℕ → ℕ → List ℕ
 piece_at ar ws l levels at = cut ws at (reading ar ws l levels at)

@@ -3,21 +3,21 @@ ghost use Rattle.term.specs.Reading.{limits};
 ghost use Rattle.checks.specs.Again.{piece_at, subtree_at};
 
 use crate::Asked;
+use kinds::Refusal;
 use kinds::limits::{BLANK, NO_BLANK, SCORE_LEVELS, SCORE_NODES, SHAPE_LEVELS, SHAPE_NODES};
-use sections::Verdict;
 use sections::finding::test_symbols;
+use term::Limits;
 use term::reader::read_term;
-use term::{Limits, Reading};
 
 // The words of the subtree asked for, as a part of its table; no words where none stands there within that table's limits.
 pub fn subtree<'a>(asked: Asked, symbols: &[u8], shapes: &'a [u16], score: &'a [u16]) -> &'a [u16]
     ensures { result.now ≡ subtree_at asked symbols.now shapes.now score.now }
 {
     match test_symbols(symbols) {
-        Verdict::Bad(why, place) => {
+        Err(why) => {
             return &shapes[0..0];
         }
-        Verdict::Good => {}
+        Ok(()) => {}
     }
     match asked {
         Asked::Shapes(at) => piece(symbols, shapes, BLANK, SHAPE_NODES, SHAPE_LEVELS, at),
@@ -57,8 +57,8 @@ fn piece<'a>(
         at,
         levels,
     ) {
-        Reading::Refused(f, p) => &words[0..0],
-        Reading::Whole(m) => {
+        Err(why) => &words[0..0],
+        Ok(m) => {
             let e = m.end;
             &words[at..e]
         }

@@ -1,5 +1,5 @@
 -- A store into a square, growth, and the step of Warshall's closure.
---   put cell_… square_put     a yes stored
+--   put put_…                 a yes stored
 --   grown_…                   growth, one after the other
 --   Row row_…                 row i joined with row k, column by column
 --   rows_more closed_…        row by row, and third by third
@@ -12,50 +12,17 @@ use mathlib.Core.Logic.{◌⊎◌, inl, inr, ⊎_elim}
 use native.Mathlib.Omega.{arith}
 use borrow.Author.Count.{below_more}
 use native.Mathlib.Decide.{ℕ_discrete}
-use lib.ListN.{length, get_or, set, length-set, replicate, get_or-replicate}
-use lib.Seq.{get_or-set_same, get_or-set_other}
+use lib.ListN.{length, replicate, get_or-replicate}
 use Rattle.kinds.specs.Chains.{Chain, one, via, Yes}
-use Rattle.kinds.proofs.ChainLaws.{chain_bind, chain_step, chain_split, chain_wider, chain_within}
+use Rattle.kinds.proofs.ChainLaws.{chain_bind, chain_step, chain_split, chain_within}
 use Rattle.automaton.specs.Classes.{Square, cell}
+use Rattle.classes.proofs.SquareLaws.{store, store_same, store_other, store_square}
 use Rattle.classes.specs.Squares.{IsSquare, RowsFilled, Grown, RowJoined, RowsJoined, ClosedUpTo, Closes}
 
 abbrev pub put : Square → ℕ → ℕ → Square
-put d i j = set d i (set (get_or d i []) j true)
+put d i j = store d i j true
 
-module _ (m : ℕ) (d : Square) (sq : IsSquare m d) (i j : ℕ) (hi : i < m) (hj : j < m) where
-  in_rows : i < length d
-  in_rows = omega (arith, sq.rows)
-
-  in_cols : j < length (get_or d i [])
-  in_cols = omega (arith, sq.cols i hi)
-
-  row_same : get_or (put d i j) i [] ≡ set (get_or d i []) j true
-  row_same = get_or-set_same d i _ [] in_rows
-
-  pub cell_same : cell (put d i j) i j ≡ true
-  cell_same = ap (λ (r : List Bool). get_or r j false) row_same ∙ get_or-set_same (get_or d i []) j true false in_cols
-
-  pub cell_other : (a b : ℕ) → (a ≡ i → b ≡ j → ⊥) → cell (put d i j) a b ≡ cell d a b
-  cell_other a b ne = go (ℕ_discrete a i)
-    where
-      go : Dec (a ≡ i) → cell (put d i j) a b ≡ cell d a b
-      go (yes p) =
-          ap (λ (x : ℕ). cell (put d i j) x b) p
-          ∙ ap (λ (r : List Bool). get_or r b false) row_same
-          ∙ get_or-set_other (get_or d i []) j b true false (ne p)
-          ∙ ap (λ (x : ℕ). cell d x b) (sym p)
-      go (no q) = ap (λ (r : List Bool). get_or r b false) (get_or-set_other d i a _ [] q)
-
-  pub square_put : IsSquare m (put d i j)
-  square_put = record { rows = simp length-set sq.rows; cols = λ a h. go a h (ℕ_discrete a i) }
-    where
-      go : (a : ℕ) → a < m → Dec (a ≡ i) → length (get_or (put d i j) a []) ≡ m
-      go a h (yes p) =
-          ap (λ (x : ℕ). length (get_or (put d i j) x [])) p
-          ∙ ap (λ (r : List Bool). length r) row_same
-          ∙ simp length-set (sq.cols i hi)
-      go a h (no q) = ap (λ (r : List Bool). length r) (get_or-set_other d i a _ [] q) ∙ sq.cols a h
-
+module _ (d : Square) (i j : ℕ) (hi : i < 96) (hj : j < 96) (sq : IsSquare 96 d) where
   here? : (a b : ℕ) → ((a ≡ i) × (b ≡ j)) ⊎ (a ≡ i → b ≡ j → ⊥)
   here? a b = both (ℕ_discrete a i) (ℕ_discrete b j)
     where
@@ -67,22 +34,22 @@ module _ (m : ℕ) (d : Square) (sq : IsSquare m d) (i j : ℕ) (hi : i < m) (hj
   pub put_grows : (a b : ℕ) → cell d a b ≡ true → cell (put d i j) a b ≡ true
   put_grows a b h =
       ⊎_elim
-      (λ w. ap (λ (x : ℕ). cell (put d i j) x b) w.0 ∙ ap (λ (x : ℕ). cell (put d i j) i x) w.1 ∙ cell_same)
-      (λ ne. cell_other a b ne ∙ h)
+      (λ w. ap (λ (x : ℕ). cell (put d i j) x b) w.0 ∙ ap (λ (x : ℕ). cell (put d i j) i x) w.1 ∙ store_same d i j true hi hj sq)
+      (λ ne. store_other d i j true hi hj sq a b ne ∙ h)
       (here? a b)
 
   pub put_only : (p : ℕ → ℕ → Type 0) → p i j → ((a b : ℕ) → cell d a b ≡ true → p a b) → (a b : ℕ) → cell (put d i j) a b ≡ true → p a b
   put_only p it only a b h =
       ⊎_elim
       (λ w. rw (w.0, w.1) it)
-      (λ ne. only a b (sym (cell_other a b ne) ∙ h))
+      (λ ne. only a b (sym (store_other d i j true hi hj sq a b ne) ∙ h))
       (here? a b)
 
   pub grown_put : (n : ℕ) → i < n → j < n → Chain n (Yes (cell d)) i j → Grown n d (put d i j)
   grown_put n gi gj r = record {
     grows = put_grows;
     sound = put_only (Chain n (Yes (cell d))) r (λ a b h. one h);
-    kept = λ a b o. cell_other a b (λ p q. ⊎_elim (λ h. omega arith) (λ h. omega arith) o);
+    kept = λ a b o. store_other d i j true hi hj sq a b (λ p q. ⊎_elim (λ h. omega arith) (λ h. omega arith) o);
   }
 
 module _ (n : ℕ) where
@@ -122,13 +89,13 @@ module _ (n k i : ℕ) (hn : n ≤ 96) (hk : k < n) (hi : i < n) (e : Square) wh
   row_put {d} {j} hj r ik kj =
       let i96 : i < 96 = omega arith in
       let j96 : j < 96 = omega arith in
-      let g = grown_put 96 d r.square i j i96 j96 n hi hj (via hk (one (r.grown.grows i k ik)) (one kj)) in
+      let g = grown_put d i j i96 j96 r.square n hi hj (via hk (one (r.grown.grows i k ik)) (one kj)) in
       record {
         within = omega arith;
-        square = square_put 96 d r.square i j i96 j96;
+        square = store_square d i j true i96 j96 r.square;
         grown = grown_trans n r.grown g;
         joined = below_more (λ (b : ℕ). cell e k b ≡ true → cell (put d i j) i b ≡ true) j (λ b h x. g.grows i b (r.joined b h x))
-            (λ h. cell_same 96 d r.square i j i96 j96);
+            (λ h. store_same d i j true i96 j96 r.square);
       }
 
 pub rows_more : {n k i : ℕ} {e d x : Square} → i < n → RowsJoined n k e d i → RowJoined n k i d x → RowsJoined n k e x (i + 1)
@@ -155,10 +122,6 @@ closed_more {n} {k} {e} {d} {x} h r j = record {
 
 pub closed_none : (n : ℕ) (e : Square) → IsSquare 96 e → ClosedUpTo n e e 0
 closed_none n e sq = record { within = omega arith; square = sq; grown = grown_refl n e; closed = λ a b ha hb way. chain_step way }
-
-pub closed_all : {n k : ℕ} {e x : Square} → ClosedUpTo n e x k → n ≤ k → ClosedUpTo n e x n
-closed_all r h =
-    record { within = omega arith; square = r.square; grown = r.grown; closed = λ a b ha hb way. r.closed a b ha hb (chain_wider h way) }
 
 -- a square that was filled from a test and then closed
 pub filled_closes : {n : ℕ} {p : ℕ → ℕ → Bool} {e x : Square} → RowsFilled n p e n → ClosedUpTo n e x n → Closes n (Yes p) x

@@ -1,61 +1,58 @@
 -- Equality of states along the words.
-use Prim.Native.Nat.{ℕ, ◌+◌, ◌-◌, ◌<◌, ◌≤◌}
-use mathlib.Core.Path.{◌≡◌, refl, ap, sym, ◌∙◌}
-use mathlib.Core.List.{List}
-use mathlib.Core.Bool.{Bool, true, false, ◌||◌}
-use borrow.Author.Tests.{eq-eqb, ne_eqb}
-use lib.Dec.{eqb}
-use Rattle.goals.specs.GoalWords.{GoalWords, goal_at, goals_from}
 use Rattle.goals.specs.GoalKinds.{as_goal, as_words}
-use Rattle.goals.specs.WordStages.{same_w, among_w, within_w, same_state_w}
 use Rattle.goals.specs.declared.Goal.{Goal}
-use Rattle.goals.proofs.GoalLaws.{goals_next, goals_end}
+use Prim.Native.Nat.{ℕ, zero, suc, ◌+◌, ◌*◌, ◌<◌}
+use mathlib.Core.Path.{◌≡◌, refl, ap, sym, ◌∙◌}
+use mathlib.Core.List.{List, [], ◌∷◌}
+use mathlib.Core.Bool.{Bool, true, false, ◌||◌, ◌&&◌}
+use Rattle.goals.specs.GoalWords.{GoalWords, goal_at, goals_from}
+use Rattle.goals.specs.WordStages.{same_w, among_w, within_w}
+use Rattle.std.specs.Bool.{MatchBool}
+use Rattle.std.specs.List.{list_any, list_all, range_with_len, HoldsAt, AllWithin}
+use Rattle.std.proofs.lemmas.List.Folds.{list_any_at, list_all_at}
+use lib.ListN.{length}
+use native.Mathlib.Omega.{arith}
+use native.Mathlib.Nat.{add-zero}
 
-module _ (g h : GoalWords) where
-  pub other_shape : (g.sh ≡ h.sh → ⊥) → same_w g h ≡ false
-  other_shape d = rw (ne_eqb _ _ d) refl
+-- what a search through a list answers
+module _ (p : ℕ → Bool) where
+  pub any_is : (r : Bool) (xs : List ℕ)
+      → MatchBool r ((k : ℕ) × (k < length xs) × HoldsAt (λ x. p x ≡ true) xs k) (AllWithin (λ x. p x ≡ false) xs 0 (length xs)) → r ≡ list_any p xs
+  any_is true xs h = sym (list_any_at p xs h.0 0 h.1 (h.2 0))
+  any_is false [] h = refl
+  any_is false (x ∷ xs) h =
+      any_is false xs (λ k d a b. h (suc k) d (omega arith) (omega arith)) ∙ sym (ap (λ b. b || list_any p xs) (h 0 x (omega arith) (omega arith)))
 
-  pub other_place : g.sh ≡ h.sh → (g.an ≡ h.an → ⊥) → same_w g h ≡ false
-  other_place e d = rw (eq-eqb _ _ e, ne_eqb _ _ d) refl
+  pub all_is : (r : Bool) (xs : List ℕ)
+      → MatchBool r (AllWithin (λ x. p x ≡ true) xs 0 (length xs)) ((k : ℕ) × (k < length xs) × HoldsAt (λ x. p x ≡ false) xs k) → r ≡ list_all p xs
+  all_is false xs h = sym (list_all_at p xs h.0 0 h.1 (h.2 0))
+  all_is true [] h = refl
+  all_is true (x ∷ xs) h =
+      all_is true xs (λ k d a b. h (suc k) d (omega arith) (omega arith)) ∙ sym (ap (λ b. b && list_all p xs) (h 0 x (omega arith) (omega arith)))
 
-  pub by_mask : g.sh ≡ h.sh → g.an ≡ h.an → same_w g h ≡ eqb g.mask h.mask
-  by_mask e d = rw (eq-eqb _ _ e, eq-eqb _ _ d) refl
+-- over the numbers of the goals
+module _ (vs : List ℕ) (at : ℕ) where
+  next : (i : ℕ) → at + 3 * i + 3 ≡ at + 3 * (i + 1)
+  next i = omega arith
 
-module _ (g : GoalWords) (vs : List ℕ) (at k : ℕ) where
-  pub among_next : 0 < k → among_w g (goals_from vs at k) ≡ (same_w g (goal_at vs at) || among_w g (goals_from vs (at + 3) (k - 1)))
-  unfolding among_w
-  among_next h = ap (among_w g) (goals_next vs at k h)
+  module _ (g : GoalWords) where
+    among_from : (i k : ℕ) → list_any (λ j. same_w g (goal_at vs (at + 3 * j))) (range_with_len i k) ≡ among_w g (goals_from vs (at + 3 * i) k)
+    unfolding among_w goals_from
+    among_from i zero = refl
+    among_from i (suc k) = rw (among_from (i + 1) k, next i)
 
-  pub among_here : 0 < k → same_w g (goal_at vs at) ≡ true → among_w g (goals_from vs at k) ≡ true
-  among_here h e = among_next h ∙ rw e refl
+    pub among_any : (k : ℕ) → list_any (λ j. same_w g (goal_at vs (at + 3 * j))) (range_with_len 0 k) ≡ among_w g (goals_from vs at k)
+    among_any k = among_from 0 k ∙ rw (add-zero at)
 
-  pub among_not : 0 < k → same_w g (goal_at vs at) ≡ false → among_w g (goals_from vs at k) ≡ among_w g (goals_from vs (at + 3) (k - 1))
-  among_not h e = among_next h ∙ rw e refl
+  module _ (hs : List GoalWords) where
+    within_from : (i k : ℕ) → list_all (λ j. among_w (goal_at vs (at + 3 * j)) hs) (range_with_len i k) ≡ within_w (goals_from vs (at + 3 * i) k) hs
+    unfolding within_w goals_from
+    within_from i zero = refl
+    within_from i (suc k) = rw (within_from (i + 1) k, next i)
 
-  pub among_end : k ≤ 0 → among_w g (goals_from vs at k) ≡ false
-  unfolding among_w
-  among_end h = ap (among_w g) (goals_end vs at k h)
+    pub within_all : (k : ℕ) → list_all (λ j. among_w (goal_at vs (at + 3 * j)) hs) (range_with_len 0 k) ≡ within_w (goals_from vs at k) hs
+    within_all k = within_from 0 k ∙ rw (add-zero at)
 
 -- the answer for a goal that was read
 pub among_is : (hs : List GoalWords) (h : GoalWords) {r t : Bool} {g : Goal} → r ≡ among_w (as_words g) hs → g ≡ as_goal h → r ≡ t → among_w h hs ≡ t
 among_is hs h a b c = ap (λ (x : Goal). among_w (as_words x) hs) (sym b) ∙ sym a ∙ c
-
-module _ (hs : List GoalWords) (ws : List ℕ) (at k : ℕ) where
-  pub within_on : 0 < k → among_w (goal_at ws at) hs ≡ true → within_w (goals_from ws at k) hs ≡ within_w (goals_from ws (at + 3) (k - 1)) hs
-  unfolding within_w
-  within_on h e = ap (λ gs. within_w gs hs) (goals_next ws at k h) ∙ rw e refl
-
-  pub within_off : 0 < k → among_w (goal_at ws at) hs ≡ false → within_w (goals_from ws at k) hs ≡ false
-  unfolding within_w
-  within_off h e = ap (λ gs. within_w gs hs) (goals_next ws at k h) ∙ rw e refl
-
-  pub within_end : k ≤ 0 → within_w (goals_from ws at k) hs ≡ true
-  unfolding within_w
-  within_end h = ap (λ gs. within_w gs hs) (goals_end ws at k h)
-
-module _ (gs hs : List GoalWords) where
-  pub same_back : within_w gs hs ≡ true → same_state_w gs hs ≡ within_w hs gs
-  same_back e = rw e refl
-
-  pub same_not : within_w gs hs ≡ false → same_state_w gs hs ≡ false
-  same_not e = rw e refl

@@ -1,6 +1,6 @@
 -- Storing into a square, and a row filled from a test.
-use Prim.Native.Nat.{ℕ, ◌+◌, ◌<◌, ◌≤◌}
-use mathlib.Core.Path.{◌≡◌, refl, ap, ◌∙◌}
+use Prim.Native.Nat.{ℕ, ◌+◌, ◌<◌}
+use mathlib.Core.Path.{◌≡◌, ap, ◌∙◌}
 use mathlib.Core.List.{[]}
 use mathlib.Core.Bool.{Bool, false}
 use native.Mathlib.Omega.{arith}
@@ -39,9 +39,6 @@ module _ (d : Square) (i j : ℕ) (v : Bool) (hi : i < 96) (hj : j < 96) (sq : I
           rw e (ap length (get_or-set_same d i (set (get_or d i []) j v) [] (rw sq.rows hi)) ∙ length-set (get_or d i []) j v ∙ sq.cols i hi)
       go a h (no n) = ap length (get_or-set_other d i a (set (get_or d i []) j v) [] n) ∙ sq.cols a h
 
-pub row_none : (i : ℕ) (p : ℕ → Bool) (e : Square) → IsSquare 96 e → RowFilled i p e e 0
-row_none i p e sq = record { square = sq; row = λ b h. absurd (omega arith); others = λ a b n. refl }
-
 pub row_more : (i : ℕ) (p : ℕ → Bool) (e d : Square) (j : ℕ) (v : Bool) → i < 96 → j < 96 → RowFilled i p e d j → v ≡ p j
     → RowFilled i p e (store d i j v) (j + 1)
 row_more i p e d j v hi hj r w = record {
@@ -54,15 +51,9 @@ row_more i p e d j v hi hj r w = record {
     go b h (yes z) = rw z (store_same d i j v hi hj r.square ∙ w)
     go b h (no n) = store_other d i j v hi hj r.square i b (λ _ z. n z) ∙ r.row b (omega (arith, n))
 
-pub rows_none : (n : ℕ) (p : ℕ → ℕ → Bool) (d : Square) → IsSquare 96 d → RowsFilled n p d 0
-rows_none n p d sq = record { square = sq; rows = λ a b h g. absurd (omega arith) }
-
 pub rows_more : (n : ℕ) (p : ℕ → ℕ → Bool) (d x : Square) (i : ℕ) → RowsFilled n p d i → RowFilled i (p i) d x n → RowsFilled n p x (i + 1)
 rows_more n p d x i r f = record { square = f.square; rows = λ a b h g. go a b h g (ℕ_discrete a i) }
   where
     go : (a b : ℕ) → a < i + 1 → b < n → Dec (a ≡ i) → cell x a b ≡ p a b
     go a b h g (yes z) = rw z (f.row b g)
     go a b h g (no z) = f.others a b z ∙ r.rows a b (omega (arith, z)) g
-
-pub rows_all : {n : ℕ} {p : ℕ → ℕ → Bool} {d : Square} {i : ℕ} → RowsFilled n p d i → n ≤ i → RowsFilled n p d n
-rows_all r h = record { square = r.square; rows = λ a b ha hb. r.rows a b (omega arith) hb }

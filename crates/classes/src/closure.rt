@@ -7,12 +7,10 @@ fn join_row(dep: &mut [[bool; 96]; 96], n: usize, k: usize, i: usize)
     ensures { RowJoined n k i dep.old dep.new }
 {
     if dep[i][k] {
-        let mut j = 0;
-        while j < n {
+        for j in 0..n {
             if dep[k][j] {
                 dep[i][j] = true;
             }
-            j += 1;
         }
     }
 }
@@ -21,10 +19,8 @@ fn round(dep: &mut [[bool; 96]; 96], n: usize, k: usize)
     requires { RowsJoinable n k dep.old }
     ensures { RowsJoined n k dep.old dep.new n }
 {
-    let mut i = 0;
-    while i < n {
+    for i in 0..n {
         join_row(dep, n, k, i);
-        i += 1;
     }
 }
 
@@ -33,9 +29,7 @@ pub fn close(dep: &mut [[bool; 96]; 96], n: usize)
     requires { (n ≤ 96) × IsSquare 96 dep.old }
     ensures { ClosedUpTo n dep.old dep.new n }
 {
-    let mut k = 0;
-    while k < n {
+    for k in 0..n {
         round(dep, n, k);
-        k += 1;
     }
 }

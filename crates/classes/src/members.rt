@@ -12,14 +12,7 @@ pub fn leader(dep: &[[bool; 96]; 96], i: usize) -> bool
     requires { (i < 96) × IsSquare 96 dep.now }
     ensures { result ≡ leads i (get_or dep.now i []) }
 {
-    let mut j = 0;
-    while j < i {
-        if dep[i][j] {
-            return false;
-        }
-        j += 1;
-    }
-    dep[i][i]
+    dep[i].iter().position(|yes| *yes) == Some(i)
 }
 
 // The goals of row i, of n goals, into `out` from `to` on; answers the place after them.
@@ -35,15 +28,11 @@ pub fn put_class(
     ensures { Puts (flat (class_at dep.now ws.now n i)) to result out.old out.new }
 {
     let mut next = to;
-    let mut here = 0;
-    let mut j = 0;
-    while j < n {
-        if dep[i][j] {
-            put_goal(out, next, goal_at(ws, here));
+    for (j, yes) in dep[i][..n].iter().enumerate() {
+        if *yes {
+            put_goal(out, next, goal_at(ws, 3 * j));
             next += 3;
         }
-        here += 3;
-        j += 1;
     }
     next
 }

@@ -24,13 +24,11 @@ pub fn class_order(
     ensures { Arranged (lead_items tab.now dep.now ws.now n) result items.old items.new }
 {
     let mut k = 0;
-    let mut i = 0;
-    while i < n {
+    for i in 0..n {
         if leader(dep, i) {
             items[k] = 128 * padded(first_in_row(tab, ws, n, dep, i)) + i as u32;
             k += 1;
         }
-        i += 1;
     }
     arrange(items, k);
     k
@@ -42,12 +40,10 @@ fn first_in_row(tab: &[u16], ws: &[u16], n: usize, dep: &[[bool; 96]; 96], i: us
     ensures { result ≡ first_code no_code (gather (owed_by tab.now) (class_at dep.now ws.now n i)) }
 {
     let mut best: u32 = NO_CODE;
-    let mut j = 0;
-    while j < n {
-        if dep[i][j] {
+    for (j, yes) in dep[i][..n].iter().enumerate() {
+        if *yes {
             best = first_owed(tab, goal_at(ws, 3 * j), best);
         }
-        j += 1;
     }
     best
 }

@@ -9,13 +9,7 @@ use goals::words::goal_at;
 fn same_goal(g: Goal, h: Goal) -> bool
     ensures { result ≡ same_w (as_words g) (as_words h) }
 {
-    if g.shape.0 != h.shape.0 {
-        return false;
-    }
-    if g.at.0 != h.at.0 {
-        return false;
-    }
-    g.mask == h.mask
+    g.shape.0 == h.shape.0 && g.at.0 == h.at.0 && g.mask == h.mask
 }
 
 // Does a goal stand among the k goals from `at` on?
@@ -23,16 +17,7 @@ fn among(g: Goal, vs: &[u16], at: usize, k: usize) -> bool
     requires { GoalsIn 96 vs.now at k }
     ensures { result ≡ among_w (as_words g) (goals_from vs.now at k) }
 {
-    let mut here = at;
-    let mut left = k;
-    while 0 < left {
-        if same_goal(g, goal_at(vs, here)) {
-            return true;
-        }
-        here += 3;
-        left -= 1;
-    }
-    false
+    (0..k).any(|j| same_goal(g, goal_at(vs, at + 3 * j)))
 }
 
 // Is each of the n goals from `from` on among the k goals from `at` on?
@@ -40,17 +25,7 @@ fn within(ws: &[u16], from: usize, n: usize, vs: &[u16], at: usize, k: usize) ->
     requires { GoalsIn 96 ws.now from n × GoalsIn 96 vs.now at k }
     ensures { result ≡ within_w (goals_from ws.now from n) (goals_from vs.now at k) }
 {
-    let mut here = from;
-    let mut left = n;
-    while 0 < left {
-        if among(goal_at(ws, here), vs, at, k) {
-            here += 3;
-            left -= 1;
-        } else {
-            return false;
-        }
-    }
-    true
+    (0..n).all(|j| among(goal_at(ws, from + 3 * j), vs, at, k))
 }
 
 // Are two states of at most 32 goals the same set of goals?
@@ -58,8 +33,5 @@ pub fn same_state(ws: &[u16], from: usize, n: usize, vs: &[u16], at: usize, k: u
     requires { GoalsIn 32 ws.now from n × GoalsIn 32 vs.now at k }
     ensures { result ≡ same_state_w (goals_from ws.now from n) (goals_from vs.now at k) }
 {
-    if within(ws, from, n, vs, at, k) {
-        return within(vs, at, k, ws, from, n);
-    }
-    false
+    within(ws, from, n, vs, at, k) && within(vs, at, k, ws, from, n)
 }

@@ -6,9 +6,9 @@ ghost use Rattle.goals.specs.WordStages.{dep_w};
 ghost use Rattle.classes.specs.Squares.{IsSquare, RowOf, shares, RowFilled, RowsFilled, Closes};
 
 use crate::closure::close;
+use goals::Goal;
 use goals::obligations::share;
 use goals::words::goal_at;
-use goals::{Goal, Shared};
 
 // Do two goals share an obligation position?
 fn depends(tab: &[u16], g: Goal, h: Goal) -> bool
@@ -16,8 +16,8 @@ fn depends(tab: &[u16], g: Goal, h: Goal) -> bool
     ensures { result ≡ dep_w tab.now (as_words g) (as_words h) }
 {
     match share(tab, g, h) {
-        Shared::At(x) => true,
-        Shared::Nothing => false,
+        Some(x) => true,
+        None => false,
     }
 }
 
@@ -27,10 +27,9 @@ fn fill_row(tab: &[u16], ws: &[u16], n: usize, i: usize, dep: &mut [[bool; 96]; 
     ensures { RowFilled i (shares tab.now ws.now i) dep.old dep.new n }
 {
     let g = goal_at(ws, 3 * i);
-    let mut j = 0;
-    while j < n {
+    // By index: what a part of a row holds when it comes back is not known to the proof.
+    for j in 0..n {
         dep[i][j] = depends(tab, g, goal_at(ws, 3 * j));
-        j += 1;
     }
 }
 
@@ -39,10 +38,8 @@ fn fill(tab: &[u16], ws: &[u16], n: usize, dep: &mut [[bool; 96]; 96])
     requires { Stored tab.now ws.now 0 n × IsSquare 96 dep.old }
     ensures { RowsFilled n (shares tab.now ws.now) dep.new n }
 {
-    let mut i = 0;
-    while i < n {
+    for i in 0..n {
         fill_row(tab, ws, n, i, dep);
-        i += 1;
     }
 }
 

@@ -3,19 +3,19 @@
 --   answer_bad answer_go         19, or what the score and the marks give
 --   refused_is number_is         the outcome of a refusal, and of a number
 --   tells_bad tells_refused tells_number   the same, by what the code finds
---   one_is                       1 for true, 0 for false
---   MarkFrom mark_begin words_in_lem mark_room mark_next mark_done  a node's mark, shape by shape
---   mark_fits                    how large it is
+--   MarkFrom mark_begin mark_half words_in_lem mark_room mark_next mark_done  a node's mark, shape by shape
 --   found_is                     they hold a match exactly if its shape is one and stands there
-use Prim.Native.Nat.{ℕ, ◌+◌, ◌-◌, ◌*◌, ◌^◌, ◌<◌, ◌≤◌}
+use Rattle.std.specs.Prelude.{Err, Ok}
+use Prim.Native.Nat.{ℕ, suc, ◌+◌, ◌-◌, ◌*◌, ◌^◌, ◌<◌, ◌≤◌}
 use mathlib.Core.Path.{◌≡◌, ap, ap₂, sym, ◌∙◌}
 use mathlib.Core.Bool.{Bool, true, false, cond, ◌&&◌}
-use mathlib.Core.List.{List, map}
+use mathlib.Core.List.{List, [], ◌∷◌, ◌++◌, append_assoc, append-nil}
 use native.Mathlib.Omega.{arith}
 use native.Mathlib.Nat.{zero-add}
+use native.Mathlib.Numerals.{add-one}
 use lib.Dec.{eqb, ltb}
-use lib.ListN.{length, get_or, take, drop, length-map}
-use lib.Seq.{sets}
+use lib.ListN.{length, get_or, take, drop, length-map, length-append}
+use lib.Seq.{sets, get_or-append_seam}
 use Rattle.kinds.specs.Bits.{bit}
 use Rattle.kinds.specs.Limits.{blank_word}
 use Rattle.kinds.specs.Lists.{gather, range, onto}
@@ -30,14 +30,13 @@ use Rattle.folio.proofs.GoodTables.{shapes_good_shaped}
 use Rattle.folio.proofs.ShapesFound.{length_starts}
 use Rattle.counting.specs.Counting.{match_at, found, total, counted}
 use Rattle.counting.specs.Passing.{long_of}
-use Rattle.counting.specs.declared.Counted.TheVariants.{Number, Refused}
 use Rattle.counting.proofs.CountLaws.{looked, unlooked}
 use Rattle.matching.specs.Shapes.{end_of, part, shape_at, Laid}
 use Rattle.matching.specs.Falling.{falls}
 use Rattle.matching.proofs.LawsShapes.{end_last, end_next, part_is, words_are}
 use Rattle.matching.proofs.ShapeWords.{shapes_laid}
 use Rattle.comparing.specs.Comparing.{matched_at, mark_at, marks_to, marks_of, answer_of, out_of, compared}
-use Rattle.comparing.proofs.MarkLaws.{bits_fit, BitsFrom, bits_begin, bits_room, bits_down, bits_end, bit_of}
+use Rattle.comparing.proofs.MarkLaws.{BitsFrom, bits_begin, bits_half, bits_room, bits_down, bits_end, bit_of}
 
 trees_laid : (ss : List Term) {ws st : List ℕ} → ws ≡ gather flatten ss → st ≡ starts_at 0 ss → Laid ws st
 trees_laid ss a b = rw (a, b) (shapes_laid ss)
@@ -48,95 +47,109 @@ good_shapes ar ws st e =
     (omega (arith, ap length s.begins, length_starts 0 s.trees, s.few_shapes), trees_laid s.trees s.words s.begins)
 
 module _ (ar ws st score spans marks : List ℕ) where
-  pub answer_bad : shapes_good ar ws st ≡ false → answer_of ar ws st score spans marks ≡ Refused BadShapes
+  pub answer_bad : shapes_good ar ws st ≡ false → answer_of ar ws st score spans marks ≡ Err BadShapes
   unfolding answer_of
   answer_bad e = rw e
 
   pub answer_go : shapes_good ar ws st ≡ true
-      → answer_of ar ws st score spans marks ≡ counted (λ ms. Number (total (marks_of ws st score spans))) ar score spans marks
+      → answer_of ar ws st score spans marks ≡ counted (λ ms. Ok (total (marks_of ws st score spans))) ar score spans marks
   unfolding answer_of
   answer_go e = rw e
 
-  pub refused_is : {r : Reason} → answer_of ar ws st score spans marks ≡ Refused r → compared ar ws st score spans marks ≡ out_of (Refused r) marks
+  pub refused_is : {r : Reason} → answer_of ar ws st score spans marks ≡ Err r → compared ar ws st score spans marks ≡ out_of (Err r) marks
   refused_is e = rw e
 
-  pub number_is : {k : ℕ} → answer_of ar ws st score spans marks ≡ Number k
-      → compared ar ws st score spans marks ≡ out_of (Number k) (onto (marks_of ws st score spans) marks)
+  pub number_is : {k : ℕ} → answer_of ar ws st score spans marks ≡ Ok k
+      → compared ar ws st score spans marks ≡ out_of (Ok k) (onto (marks_of ws st score spans) marks)
   number_is e = rw e
 
   -- ---- what the code answers
-  pub tells_bad : shapes_good ar ws st ≡ false → out_of (Refused BadShapes) marks ≡ compared ar ws st score spans marks
+  pub tells_bad : shapes_good ar ws st ≡ false → out_of (Err BadShapes) marks ≡ compared ar ws st score spans marks
   tells_bad e = sym (refused_is (answer_bad e))
 
   module _ (e : shapes_good ar ws st ≡ true) where
-    pub tells_refused : {r : Reason} → long_of ar score spans marks ≡ Refused r → out_of (Refused r) marks ≡ compared ar ws st score spans marks
-    tells_refused {r} h = sym (refused_is (answer_go e ∙ unlooked ar score spans marks (λ ms. Number (total (marks_of ws st score spans))) r h))
+    pub tells_refused : {r : Reason} → long_of ar score spans marks ≡ Err r → out_of (Err r) marks ≡ compared ar ws st score spans marks
+    tells_refused {r} h = sym (refused_is (answer_go e ∙ unlooked ar score spans marks (λ ms. Ok (total (marks_of ws st score spans))) r h))
 
-    pub tells_number : {n k : ℕ} {ms : List ℕ} → long_of ar score spans marks ≡ Number n
+    pub tells_number : {n k : ℕ} {ms : List ℕ} → long_of ar score spans marks ≡ Ok n
         → (k ≡ total (marks_to ws st score spans n)) × (ms ≡ sets marks 0 (marks_to ws st score spans n))
-        → out_of (Number k) ms ≡ compared ar ws st score spans marks
+        → out_of (Ok k) ms ≡ compared ar ws st score spans marks
     tells_number {n} h w =
         let l = looked ar score spans marks n h in
         let all : marks_to ws st score spans n ≡ marks_of ws st score spans = ap (marks_to ws st score spans) l.nodes in
         let long : length (marks_of ws st score spans) ≡ length score =
         length-map (range 0 (length score)) (mark_at ws st score spans) ∙ length_range 0 (length score) in
-        ap₂ (λ c m. out_of (Number c) m) (w.0 ∙ ap total all) (w.1 ∙ ap (sets marks 0) all
+        ap₂ (λ c m. out_of (Ok c) m) (w.0 ∙ ap total all) (w.1 ∙ ap (sets marks 0) all
         ∙ sym (onto_sets (marks_of ws st score spans) marks (omega (arith, long, l.nodes, l.inside))))
-        ∙ sym (number_is (answer_go e ∙ l.counts (λ ms. Number (total (marks_of ws st score spans)))))
+        ∙ sym (number_is (answer_go e ∙ l.counts (λ ms. Ok (total (marks_of ws st score spans)))))
 
--- ---- the mark of a node, from shape j on; its words end where the next shape's begin
 abbrev one : Bool → ℕ
 one b = cond b 1 0
 
-pub one_is : {a b : Bool} → a ≡ b → one b ≡ one a
-one_is e = ap one (sym e)
+-- ---- the mark of a node, where the shapes that start at l are left: the words of the last of them end where those of the next shape begin
+pub record MarkFrom (ws st score spans : List ℕ) (x mark : ℕ) (l : List ℕ) (end : ℕ) : Type 0 where
+  pub bits : BitsFrom (matched_at ws st score spans x) (length st) mark (length l)
+  pub ends : (j : ℕ) → length l ≡ suc j → end ≡ end_of ws st j
+  pub done : List ℕ
+  pub whole : st ≡ l ++ done
 
-pub record MarkFrom (ws st score spans : List ℕ) (x mark j end : ℕ) : Type 0 where
-  pub bits : BitsFrom (matched_at ws st score spans x) (length st) mark j
-  pub ends : 0 < j → end ≡ end_of ws st (j - 1)
-
-pub mark_begin : (ws st score spans : List ℕ) (x : ℕ) → MarkFrom ws st score spans x 0 (length st) (length ws)
-mark_begin ws st score spans x = record {
+pub mark_begin : (ws st score spans : List ℕ) (x : ℕ) {l : List ℕ} → l ≡ st → MarkFrom ws st score spans x 0 l (length ws)
+mark_begin ws st score spans x e = rw e (record {
   bits = bits_begin (matched_at ws st score spans x) (length st);
-  ends = λ h. sym (end_last ws st (length st - 1) (omega arith));
-}
+  ends = λ j h. sym (end_last ws st j (omega arith));
+  done = [];
+  whole = sym (append-nil st);
+})
 
-module _ {ws st score spans : List ℕ} {x mark j end : ℕ} (m : MarkFrom ws st score spans x mark j end) where
-  pub mark_done : j ≤ 0 → mark ≡ mark_at ws st score spans x
+module _ {ws st score spans : List ℕ} {x mark end : ℕ} {l : List ℕ} (m : MarkFrom ws st score spans x mark l end) where
+  pub mark_done : length l ≡ 0 → mark ≡ mark_at ws st score spans x
   unfolding mark_at
-  mark_done h = bits_end m.bits h
+  mark_done e = bits_end (rw e at m.bits)
 
-  module _ (h : 0 < j) (laid : Laid ws st) where
-    pub words_in_lem : (get_or st (j - 1) 0 ≤ end) × (end ≤ length ws)
-    words_in_lem = let l = laid (j - 1) (omega (arith, h, m.bits.inside)) in (omega (arith, l.0, m.ends h), omega (arith, l.1, m.ends h))
+  module _ (k : List ℕ) (s : ℕ) (e : l ≡ k ++ (s ∷ [])) where
+    fewer : length l ≡ suc (length k)
+    fewer = omega (arith, ap length e, length-append k (s ∷ []))
 
-    shape_is : take (end - get_or st (j - 1) 0) (drop (get_or st (j - 1) 0) ws) ≡ shape_at ws st (j - 1)
-    shape_is = sym (words_are ws st (j - 1) (omega (arith, h, m.bits.inside))
-        ∙ ap (part ws (get_or st (j - 1) 0)) (sym (m.ends h)) ∙ part_is ws (get_or st (j - 1) 0) end words_in_lem.0 words_in_lem.1)
+    whole : st ≡ k ++ (s ∷ m.done)
+    whole = m.whole ∙ ap (λ r. r ++ m.done) e ∙ append_assoc k (s ∷ []) m.done
 
-    module _ {b : ℕ} (e : b ≡ one (falls blank_word score spans (take (end - get_or st (j - 1) 0) (drop (get_or st (j - 1) 0) ws)) x)) where
-      bit_is : b ≡ one (matched_at ws st score spans x (j - 1))
-      bit_is = e ∙ ap (λ w. one (falls blank_word score spans w x)) shape_is
+    here : get_or st (length k) 0 ≡ s
+    here = ap (λ r. get_or r (length k) 0) whole ∙ get_or-append_seam k s m.done 0
 
-      pub mark_room : length st ≤ 16 → mark * 2 + b < 2 ^ 16
-      mark_room l = bits_room m.bits h bit_is l
+    inside : length k < length st
+    inside = omega (arith, m.bits.inside, fewer)
 
-      pub mark_next : MarkFrom ws st score spans x (mark * 2 + b) (j - 1) (get_or st (j - 1) 0)
-      mark_next = record {
-        bits = bits_down m.bits h bit_is;
-        ends = λ k.
-            let q : j - 1 - 1 + 1 ≡ j - 1 = omega arith in
-            sym (end_next ws st (j - 1 - 1) (omega (arith, h, m.bits.inside)) ∙ ap (λ i. get_or st i 0) q);
-      }
+    bits : BitsFrom (matched_at ws st score spans x) (length st) mark (suc (length k))
+    bits = rw fewer at m.bits
+
+    pub mark_half : length st ≤ 16 → mark < 2 ^ 15
+    mark_half h = bits_half bits h
+
+    module _ (laid : Laid ws st) where
+      pub words_in_lem : (s ≤ end) × (end ≤ length ws)
+      words_in_lem = let h = laid (length k) inside in
+          (omega (arith, h.0, here, m.ends (length k) fewer), omega (arith, h.1, m.ends (length k) fewer))
+
+      shape_is : take (end - s) (drop s ws) ≡ shape_at ws st (length k)
+      shape_is = sym (words_are ws st (length k) inside ∙ ap₂ (part ws) here (sym (m.ends (length k) fewer))
+          ∙ part_is ws s end words_in_lem.0 words_in_lem.1)
+
+      module _ {b : ℕ} (d : b ≡ one (falls blank_word score spans (take (end - s) (drop s ws)) x)) where
+        bit_is : b ≡ one (matched_at ws st score spans x (length k))
+        bit_is = d ∙ ap (λ w. one (falls blank_word score spans w x)) shape_is
+
+        pub mark_room : length st ≤ 16 → mark * 2 + b < 2 ^ 16
+        mark_room h = bits_room bits bit_is h
+
+        pub mark_next : MarkFrom ws st score spans x (mark * 2 + b) k s
+        mark_next = record {
+          bits = bits_down bits bit_is;
+          ends = λ j h. sym (end_next ws st j (omega (arith, inside)) ∙ ap (λ i. get_or st i 0) (add-one j ∙ sym h) ∙ here);
+          done = s ∷ m.done;
+          whole = whole;
+        }
 
 module _ (ws st score spans : List ℕ) where
-  pub mark_fits : (x : ℕ) {mark : ℕ} → length st ≤ 16 → mark ≡ mark_at ws st score spans x → mark < 2 ^ 16
-  unfolding mark_at
-  mark_fits x h e =
-      let l : length (map (matched_at ws st score spans x) (range 0 (length st))) ≡ length st =
-      length-map (range 0 (length st)) (matched_at ws st score spans x) ∙ length_range 0 (length st) in
-      omega (arith, e, bits_fit 16 (map (matched_at ws st score spans x) (range 0 (length st))) (omega arith))
-
   pub found_is : (x j : ℕ) → x < length score
       → found (marks_of ws st score spans) (match_at x j) ≡ (ltb j (length st) && matched_at ws st score spans x j)
   unfolding mark_at

@@ -3,19 +3,20 @@
 --   BitsFrom                          a number has the bits that f tells, from bit j on
 --   bits_begin bits_half bits_room bits_down bits_end   none, how large it is, one more below them, all
 --   MarksFrom                         the marks that f tells are written and counted up to a node
---   marks_begin marks_next marks_end  none, one more, all
+--   marks_begin marks_next marks_end marks_front  none, one more, all; in a longer buffer
 use Prim.Native.Nat.{ℕ, zero, suc, ◌+◌, ◌-◌, ◌*◌, ◌/◌, ◌%◌, ◌^◌, ◌<◌, ◌≤◌}
-use mathlib.Core.Path.{◌≡◌, refl, ap, ap₂, sym, ◌∙◌}
+use mathlib.Core.Path.{◌≡◌, ap, ap₂, sym, ◌∙◌}
 use mathlib.Core.Bool.{Bool, true, false, cond, ◌&&◌}
-use mathlib.Core.List.{List, [], ◌∷◌, map}
+use mathlib.Core.List.{List, [], ◌∷◌, ◌++◌, map, append-nil}
 use native.Mathlib.Omega.{arith}
 use native.Mathlib.Nat.{add-zero, div-one, pow-succ', sub-zero, zero-add}
 use borrow.Author.Tests.{lt-ltb, le-ltb}
 use lib.Count.{ones, ones-le}
 use lib.Dec.{eqb, ltb}
-use lib.ListN.{length, set, length-map, length-set}
+use lib.ListN.{length, take, drop, set, length-map, drop_of_length-le}
 use lib.Pow.{pow_pos}
-use lib.Seq.{sets}
+use lib.Seq.{sets, length-take-le}
+use Rattle.kinds.proofs.ListLaws.{onto_sets}
 use Rattle.kinds.specs.Bits.{bit}
 use Rattle.kinds.specs.Lists.{range}
 use Rattle.kinds.proofs.Bools.{not_true, eqb_is, ltb_suc}
@@ -69,31 +70,29 @@ pub record BitsFrom (f : ℕ → Bool) (n m j : ℕ) : Type 0 where
 pub bits_begin : (f : ℕ → Bool) (n : ℕ) → BitsFrom f n 0 n
 bits_begin f n = record { is = sym (ap (λ l. of_bits (map f l)) (none_left n n (omega arith))); inside = omega arith }
 
-module _ {f : ℕ → Bool} {n m j : ℕ} (b : BitsFrom f n m j) where
-  pub bits_end : j ≤ 0 → m ≡ of_bits (map f (range 0 n))
-  bits_end h = let e : j ≡ 0 = omega arith in b.is ∙ ap (λ k. of_bits (map f (range k (n - k)))) e ∙ ap (λ k. of_bits (map f (range 0 k))) (sub-zero n)
+module _ {f : ℕ → Bool} {n m : ℕ} where
+  pub bits_end : BitsFrom f n m 0 → m ≡ of_bits (map f (range 0 n))
+  bits_end b = b.is ∙ ap (λ k. of_bits (map f (range 0 k))) (sub-zero n)
 
-  module _ (h : 0 < j) where
+  module _ {j : ℕ} (b : BitsFrom f n m (suc j)) where
     pub bits_half : n ≤ 16 → m < 2 ^ 15
     bits_half l =
-        let e : length (map f (range j (n - j))) ≡ n - j = length-map (range j (n - j)) f ∙ length_range j (n - j) in
-        omega (arith, b.is, bits_fit 15 (map f (range j (n - j))) (omega arith))
+        let e : length (map f (range (suc j) (n - (suc j)))) ≡ n - (suc j) = length-map (range (suc j) (n - (suc j))) f ∙ length_range (suc j) (n - (suc j)) in
+        omega (arith, b.is, b.inside, bits_fit 15 (map f (range (suc j) (n - (suc j)))) (omega arith))
 
-    module _ {c : ℕ} (e : c ≡ cond (f (j - 1)) 1 0) where
+    module _ {c : ℕ} (e : c ≡ cond (f j) 1 0) where
       pub bits_room : n ≤ 16 → m * 2 + c < 2 ^ 16
-      bits_room l = go (f (j - 1)) e
+      bits_room l = go (f j) e
         where
           go : (d : Bool) → c ≡ cond d 1 0 → m * 2 + c < 2 ^ 16
           go true k = omega (arith, bits_half l)
           go false k = omega (arith, bits_half l)
 
-      pub bits_down : BitsFrom f n (m * 2 + c) (j - 1)
+      pub bits_down : BitsFrom f n (m * 2 + c) j
       bits_down = record {
         is =
-            let k : suc (j - 1) ≡ j = omega arith in
             ap₂ (λ (x y : ℕ). x * 2 + y) b.is e
-            ∙ sym (ap (λ l. of_bits (map f l)) (range_next (j - 1) n (omega (arith, b.inside)))
-            ∙ ap (λ i. of_bits (map f (range i (n - i))) * 2 + cond (f (j - 1)) 1 0) k);
+            ∙ sym (ap (λ l. of_bits (map f l)) (range_next j n (omega (arith, b.inside))));
         inside = omega (arith, b.inside);
       }
 
@@ -102,16 +101,12 @@ pub record MarksFrom (f : ℕ → ℕ) (n : ℕ) (marks₀ marks : List ℕ) (su
   pub written : sets marks x (map f (range x (n - x))) ≡ sets marks₀ 0 (map f (range 0 n))
   pub counted : sum + total (map f (range x (n - x))) ≡ total (map f (range 0 n))
   pub few : sum ≤ 16 * x
-  pub long : length marks ≡ length marks₀
-  pub inside : x ≤ n
 
 pub marks_begin : (f : ℕ → ℕ) (n : ℕ) (marks : List ℕ) → MarksFrom f n marks marks 0 0
 marks_begin f n marks = record {
   written = ap (λ k. sets marks 0 (map f (range 0 k))) (sub-zero n);
   counted = zero-add (total (map f (range 0 (n - 0)))) ∙ ap (λ k. total (map f (range 0 k))) (sub-zero n);
   few = omega arith;
-  long = refl;
-  inside = omega arith;
 }
 
 module _ {f : ℕ → ℕ} {n : ℕ} {marks₀ marks : List ℕ} {sum x : ℕ} (b : MarksFrom f n marks₀ marks sum x) where
@@ -127,8 +122,6 @@ module _ {f : ℕ → ℕ} {n : ℕ} {marks₀ marks : List ℕ} {sum x : ℕ} (
         written = ap (λ i. sets (set marks x m) i (map f (range (x + 1) (n - (x + 1))))) (sym one) ∙ sym (ap (sets marks x) rest) ∙ b.written;
         counted = turned sum (ones m) _ _ _ t b.counted;
         few = omega (arith, b.few, ones-le 16 m l);
-        long = length-set marks x m ∙ b.long;
-        inside = omega arith;
       }
     where
       turned : (s o r t w : ℕ) → t ≡ o + r → s + t ≡ w → s + o + r ≡ w
@@ -139,3 +132,13 @@ module _ {f : ℕ → ℕ} {n : ℕ} {marks₀ marks : List ℕ} {sum x : ℕ} (
   marks_end h =
       let e = none_left x n h in
       (sym (add-zero sum) ∙ ap (λ l. sum + total (map f l)) (sym e) ∙ b.counted, ap (λ l. sets marks x (map f l)) (sym e) ∙ b.written)
+
+-- where the marks are the first n of a buffer
+pub marks_front : (f : ℕ → ℕ) (n : ℕ) (buffer : List ℕ) {marks : List ℕ} → n ≤ length buffer → marks ≡ sets (take n buffer) 0 (map f (range 0 n))
+    → marks ++ drop n buffer ≡ sets buffer 0 (map f (range 0 n))
+marks_front f n buffer h e =
+    let new : List ℕ = map f (range 0 n) in
+    let long : length new ≡ n = length-map (range 0 n) f ∙ length_range 0 n in
+    let front : length (take n buffer) ≡ n = length-take-le n buffer h in
+    ap (λ l. l ++ drop n buffer) (e ∙ sym (onto_sets new (take n buffer) (omega arith)) ∙ rw (drop_of_length-le (take n buffer) {i = length new} (omega arith)) (append-nil new))
+    ∙ ap (λ k. new ++ drop k buffer) (sym long) ∙ onto_sets new buffer (omega arith)

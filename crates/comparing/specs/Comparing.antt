@@ -7,14 +7,13 @@
 --   answer_of    how many matches they hold, or 19, 31, 30
 --   CompareOutcome out_of   an answer, and the marks as they are then
 --   marks_after compared   a refusal writes nothing; else the first n marks are those, and the others keep their values
-use Rattle.std.specs.Prelude.{ℕ, ◌+◌, ◌*◌, List, [], ◌∷◌, map, Bool, cond, length}
+use Rattle.kinds.specs.declared.Reason.{Reason}
+use Rattle.std.specs.Prelude.{ℕ, ◌+◌, ◌*◌, List, [], ◌∷◌, map, Bool, cond, length, Err, Ok, Result}
 use Rattle.kinds.specs.Limits.{blank_word}
 use Rattle.kinds.specs.Lists.{unless, range, onto}
 use Rattle.kinds.specs.declared.Reason.TheVariants.{BadShapes}
 use Rattle.checks.specs.Again.{shapes_good}
 use Rattle.counting.specs.Counting.{total, counted}
-use Rattle.counting.specs.declared.Counted.{Counted}
-use Rattle.counting.specs.declared.Counted.TheVariants.{Number, Refused}
 use Rattle.matching.specs.Shapes.{shape_at}
 use Rattle.matching.specs.Falling.{falls}
 
@@ -35,20 +34,20 @@ module _ (ws st score spans : List ℕ) where
   abbrev pub marks_of : List ℕ
   marks_of = marks_to (length score)
 
-unfoldable pub answer_of : List ℕ → List ℕ → List ℕ → List ℕ → List ℕ → List ℕ → Counted
+unfoldable pub answer_of : List ℕ → List ℕ → List ℕ → List ℕ → List ℕ → List ℕ → Result ℕ Reason
 answer_of ar ws st score spans marks =
-    unless (shapes_good ar ws st) (Refused BadShapes) (counted (λ ms. Number (total (marks_of ws st score spans))) ar score spans marks)
+    unless (shapes_good ar ws st) (Err BadShapes) (counted (λ ms. Ok (total (marks_of ws st score spans))) ar score spans marks)
 
 pub record CompareOutcome : Type 0 where
-  pub answer : Counted
+  pub answer : Result ℕ Reason
   pub marks : List ℕ
 
-abbrev pub out_of : Counted → List ℕ → CompareOutcome
+abbrev pub out_of : Result ℕ Reason → List ℕ → CompareOutcome
 out_of a ms = record { answer = a; marks = ms }
 
-abbrev pub marks_after : Counted → List ℕ → List ℕ → List ℕ
-marks_after (Number k) new marks = onto new marks
-marks_after (Refused r) new marks = marks
+abbrev pub marks_after : Result ℕ Reason → List ℕ → List ℕ → List ℕ
+marks_after (Ok k) new marks = onto new marks
+marks_after (Err r) new marks = marks
 
 abbrev pub compared : List ℕ → List ℕ → List ℕ → List ℕ → List ℕ → List ℕ → CompareOutcome
 compared ar ws st score spans marks =

@@ -6,52 +6,37 @@ ghost use Rattle.comparing.specs.Comparing.{marks_to, out_of, compared};
 
 use crate::nodes::mark_at;
 use checks::checking::shapes_good;
-use counting::Counted;
 use counting::marks::looked_at;
-use kinds::{Node, Reason};
+use kinds::{Node, Reason, Score, Shapes};
 
 // Compares every shape with the subtree at each node, and sets the marks of the score's nodes; answers how many matches they hold.
 pub fn compare(
     symbols: &[u8],
-    words: &[u16],
-    starts: &[u16],
-    score: &[u16],
-    spans: &[u16],
+    shapes: Shapes<'_>,
+    score: Score<'_>,
     marks: &mut [u16],
-) -> Counted
-    ensures { out_of result marks.new ≡ compared symbols.now words.now starts.now score.now spans.now marks.old }
+) -> Result<usize, Reason>
+    ensures { out_of result marks.new ≡ compared symbols.now shapes.entry.words.now shapes.entry.starts.now score.entry.words.now score.entry.spans.now marks.old }
 {
-    let good = shapes_good(symbols, words, starts);
+    let good = shapes_good(symbols, shapes);
     if !good {
-        return Counted::Refused(Reason::BadShapes);
+        return Err(Reason::BadShapes);
     }
-    match looked_at(symbols, score, spans, marks) {
-        Counted::Refused(reason) => Counted::Refused(reason),
-        Counted::Number(n) => Counted::Number(mark_all(words, starts, score, spans, n, marks)),
-    }
+    let n = looked_at(symbols, score, marks)?;
+    Ok(mark_all(shapes, score, n, marks))
 }
 
 // The marks of the first n nodes, each written; answers how many matches they hold.
-fn mark_all(
-    words: &[u16],
-    starts: &[u16],
-    score: &[u16],
-    spans: &[u16],
-    n: usize,
-    marks: &mut [u16],
-) -> usize
-    requires { (length starts.now ≤ 16) × Laid words.now starts.now × (n ≤ 4096) × (n ≤ length marks.old) }
-    ensures count { result ≡ total (marks_to words.now starts.now score.now spans.now n) }
-    ensures buffer { marks.new ≡ sets marks.old 0 (marks_to words.now starts.now score.now spans.now n) }
+fn mark_all(shapes: Shapes<'_>, score: Score<'_>, n: usize, marks: &mut [u16]) -> usize
+    requires { (length shapes.starts.now ≤ 16) × Laid shapes.words.now shapes.starts.now × (n ≤ 4096) × (n ≤ length marks.old) }
+    ensures count { result ≡ total (marks_to shapes.entry.words.now shapes.entry.starts.now score.entry.words.now score.entry.spans.now n) }
+    ensures buffer { marks.new ≡ sets marks.old 0 (marks_to shapes.entry.words.now shapes.entry.starts.now score.entry.words.now score.entry.spans.now n) }
 {
     let mut sum: usize = 0;
-    let mut x = 0;
-    while x < n {
-        let node = x as u16;
-        let mark = mark_at(words, starts, score, spans, Node(node));
-        marks[x] = mark;
-        sum += u16::count_ones(mark) as usize;
-        x += 1;
+    for (x, mark) in marks[..n].iter_mut().enumerate() {
+        let made = mark_at(shapes, score, Node(x as u16));
+        *mark = made;
+        sum += made.count_ones() as usize;
     }
     sum
 }

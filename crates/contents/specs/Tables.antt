@@ -8,22 +8,18 @@
 --   shapes_from      the shapes from a word on, after those met, with room for c more
 --   shapes_of        1 to 16 shapes and nothing left over
 --   score_of         one tree and nothing left over
-use Rattle.std.specs.Prelude.{ℕ, zero, suc, ◌+◌, max, List, [], ◌∷◌, Bool, cond, ltb, leb, length, get_or}
+use Rattle.kinds.specs.declared.Refusal.{Refusal}
+use Rattle.kinds.specs.Reasons.{refused_at}
+use Rattle.std.specs.Prelude.{ℕ, zero, suc, ◌+◌, max, List, [], ◌∷◌, Bool, cond, ltb, leb, length, get_or, Err, Ok, Result}
 use Rattle.kinds.specs.Limits.{most_shapes, shape_nodes, shape_levels, score_nodes, score_levels, no_blank}
 use Rattle.term.specs.Reading.{limits, reading}
 use Rattle.term.specs.declared.Limits.{Limits}
 use Rattle.term.specs.declared.Met.{Met}
 use Rattle.term.specs.declared.Fault.{Fault}
 use Rattle.term.specs.declared.Fault.TheVariants.{Ends, NoSymbol, Many, Deep}
-use Rattle.term.specs.declared.Reading.{Reading}
-use Rattle.term.specs.declared.Reading.TheVariants as read
 use Rattle.kinds.specs.declared.Reason.{Reason}
 use Rattle.kinds.specs.declared.Reason.TheVariants as reason
 use Rattle.contents.specs.declared.ShapesMet.{ShapesMet}
-use Rattle.contents.specs.declared.Shapes.{Shapes}
-use Rattle.contents.specs.declared.Shapes.TheVariants as shapes
-use Rattle.contents.specs.declared.Score.{Score}
-use Rattle.contents.specs.declared.Score.TheVariants as score
 
 abbrev pub shape_limits : ℕ → ℕ → Limits
 shape_limits bl at = limits bl (at + shape_nodes)
@@ -50,33 +46,33 @@ abbrev pub another : ShapesMet → Met → ShapesMet
 another k m = shapes_met (k.number + 1) (max k.depth m.depth)
 
 pub record ShapesRead : Type 0 where
-  pub answer : Shapes
+  pub answer : Result ShapesMet Refusal
   pub starts : List ℕ
 
-abbrev pub shapes_read : Shapes → List ℕ → ShapesRead
+abbrev pub shapes_read : Result ShapesMet Refusal → List ℕ → ShapesRead
 shapes_read a s = record { answer = a; starts = s }
 
 abbrev pub push : ℕ → ShapesRead → ShapesRead
 push at r = shapes_read r.answer (at ∷ r.starts)
 
 -- the shape at `at`, whose first word is a blank or not, and then what comes after it
-abbrev pub one_shape : Reading → ℕ → Bool → (Met → ShapesRead) → ShapesRead
-one_shape (read.Refused f p) at lone k = shapes_read (shapes.Refused (shape_reason f) p) []
-one_shape (read.Whole m) at lone k = cond lone (shapes_read (shapes.Refused reason.LoneBlank at) []) (push at (k m))
+abbrev pub one_shape : Result Met (Fault × ℕ) → ℕ → Bool → (Met → ShapesRead) → ShapesRead
+one_shape (Err (f, p)) at lone k = shapes_read (Err (refused_at (shape_reason f) p)) []
+one_shape (Ok m) at lone k = cond lone (shapes_read (Err (refused_at reason.LoneBlank at)) []) (push at (k m))
 
 unfoldable pub shapes_from : List ℕ → ℕ → List ℕ → ℕ → ShapesMet → ℕ → ShapesRead
-shapes_from ar bl ws zero k at = cond (ltb at (length ws)) (shapes_read (shapes.Refused reason.Shapes at) []) (shapes_read (shapes.Whole k) [])
+shapes_from ar bl ws zero k at = cond (ltb at (length ws)) (shapes_read (Err (refused_at reason.Shapes at)) []) (shapes_read (Ok k) [])
 shapes_from ar bl ws (suc c) k at =
     cond (ltb at (length ws))
     (one_shape (reading ar ws (shape_limits bl at) shape_levels at) at (leb bl (get_or ws at 0)) (λ m. shapes_from ar bl ws c (another k m) m.end))
-    (shapes_read (shapes.Whole k) [])
+    (shapes_read (Ok k) [])
 
 unfoldable pub shapes_of : List ℕ → ℕ → List ℕ → ShapesRead
-shapes_of ar bl ws = cond (ltb 0 (length ws)) (shapes_from ar bl ws most_shapes (shapes_met 0 0) 0) (shapes_read (shapes.Refused reason.Shapes 0) [])
+shapes_of ar bl ws = cond (ltb 0 (length ws)) (shapes_from ar bl ws most_shapes (shapes_met 0 0) 0) (shapes_read (Err (refused_at reason.Shapes 0)) [])
 
-abbrev pub whole_score : Reading → ℕ → Score
-whole_score (read.Refused f p) n = score.Refused (score_reason f) p
-whole_score (read.Whole m) n = cond (ltb m.end n) (score.Refused reason.Surplus m.end) (score.Whole m)
+abbrev pub whole_score : Result Met (Fault × ℕ) → ℕ → Result Met Refusal
+whole_score (Err (f, p)) n = Err (refused_at (score_reason f) p)
+whole_score (Ok m) n = cond (ltb m.end n) (Err (refused_at reason.Surplus m.end)) (Ok m)
 
-unfoldable pub score_of : List ℕ → List ℕ → Score
+unfoldable pub score_of : List ℕ → List ℕ → Result Met Refusal
 score_of ar ws = whole_score (reading ar ws (score_limits 0) score_levels 0) (length ws)

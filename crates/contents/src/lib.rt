@@ -11,16 +11,3 @@ pub struct ShapesMet {
     pub number: usize,
     pub depth: usize,
 }
-
-// What the shapes were met with, or why not, and at which word.
-#[derive(Clone, Copy)]
-pub enum Shapes {
-    Whole(ShapesMet),
-    Refused(Reason, usize),
-}
-
-#[derive(Clone, Copy)]
-pub enum Score {
-    Whole(Met),
-    Refused(Reason, usize),
-}

@@ -2,45 +2,50 @@ ghost use Rattle.std.specs.Prelude.{◌≡◌, ◌≤◌, length};
 ghost use Rattle.std.proofs.lemmas.List.Edits.{sets};
 ghost use Rattle.contents.specs.Tables.{shape_reason, score_reason, shapes_of, score_of};
 
-use crate::{Score, Shapes, ShapesMet};
-use kinds::Reason;
+use crate::ShapesMet;
 use kinds::limits::{MOST_SHAPES, NO_BLANK, SCORE_LEVELS, SCORE_NODES, SHAPE_LEVELS, SHAPE_NODES};
-use kinds::numbers::greater;
+use kinds::{Reason, Refusal};
 use term::reader::read_term;
-use term::{Fault, Limits, Reading};
+use term::{Fault, Limits, Met};
 
 // Reads shapes back to back, words from `blanks` on being blanks, and writes each one's start once it is whole.
-pub fn read_shapes(symbols: &[u8], blanks: usize, words: &[u16], starts: &mut [u16]) -> Shapes
+pub fn read_shapes(
+    symbols: &[u8],
+    blanks: usize,
+    words: &[u16],
+    starts: &mut [u16],
+) -> Result<ShapesMet, Refusal>
     requires { 16 ≤ length starts.old }
     ensures answer { result ≡ (shapes_of symbols.now blanks words.now).answer }
     ensures buffer { starts.new ≡ sets starts.old 0 (shapes_of symbols.now blanks words.now).starts }
 {
-    if words.len() == 0 {
-        return Shapes::Refused(Reason::Shapes, 0);
+    if words.is_empty() {
+        return Err(Refusal(Reason::Shapes, 0));
     }
     let mut at = 0;
     let mut n = 0;
-    let mut depth = 0;
+    let mut depth: usize = 0;
+    // A while: the cursor jumps from shape to shape.
     while at < words.len() {
         if n == MOST_SHAPES {
-            return Shapes::Refused(Reason::Shapes, at);
+            return Err(Refusal(Reason::Shapes, at));
         }
         let stop = at + SHAPE_NODES;
         let m = match read_term(symbols, words, Limits { blanks, stop }, at, SHAPE_LEVELS) {
-            Reading::Refused(f, p) => {
-                return Shapes::Refused(shape_reason(f), p);
+            Err((f, p)) => {
+                return Err(Refusal(shape_reason(f), p));
             }
-            Reading::Whole(m) => m,
+            Ok(m) => m,
         };
         if blanks <= words[at] as usize {
-            return Shapes::Refused(Reason::LoneBlank, at);
+            return Err(Refusal(Reason::LoneBlank, at));
         }
         starts[n] = at as u16;
         at = m.end;
         n += 1;
-        depth = greater(depth, m.depth);
+        depth = depth.max(m.depth);
     }
-    Shapes::Whole(ShapesMet { number: n, depth })
+    Ok(ShapesMet { number: n, depth })
 }
 
 fn shape_reason(fault: Fault) -> Reason
@@ -55,7 +60,8 @@ fn shape_reason(fault: Fault) -> Reason
 }
 
 // Whether the words are one whole tree without blanks.
-pub fn read_score(symbols: &[u8], words: &[u16]) -> Score
+#[tactic(auto, unfolding(crate::specs::Tables::score_of))]
+pub fn read_score(symbols: &[u8], words: &[u16]) -> Result<Met, Refusal>
     ensures { result ≡ score_of symbols.now words.now }
 {
     match read_term(
@@ -68,12 +74,12 @@ pub fn read_score(symbols: &[u8], words: &[u16]) -> Score
         0,
         SCORE_LEVELS,
     ) {
-        Reading::Refused(f, p) => Score::Refused(score_reason(f), p),
-        Reading::Whole(m) => {
+        Err((f, p)) => Err(Refusal(score_reason(f), p)),
+        Ok(m) => {
             if m.end < words.len() {
-                return Score::Refused(Reason::Surplus, m.end);
+                return Err(Refusal(Reason::Surplus, m.end));
             }
-            Score::Whole(m)
+            Ok(m)
         }
     }
 }

@@ -2,8 +2,9 @@
 --   few_nodes                     a good score has at most 4,096 words
 --   count_bad count_short count_on   31, 30, or what f says of the first n marks
 --   long_is looked unlooked       how many marks are looked at, and what is counted in them then
---   total_next total_end          the ones, mark by mark
+--   total_ones                    the ones, mark by mark
 --   total_set total_most total_zeros   of the first n marks: where one mark is another; not more than 16 n; where they are clear
+use Rattle.std.specs.Prelude.{Err, Ok, Result}
 use Prim.Native.Nat.{ℕ, zero, suc, ◌+◌, ◌-◌, ◌*◌, ◌^◌, ◌<◌, ◌≤◌}
 use mathlib.Core.Path.{◌≡◌, refl, ap, ap₂, sym, ◌∙◌}
 use mathlib.Core.List.{List, [], ◌∷◌, ◌++◌}
@@ -11,12 +12,13 @@ use mathlib.Core.Bool.{true, false}
 use mathlib.Core.Logic.{◌⊎◌, inl, inr}
 use native.Mathlib.Omega.{arith}
 use native.Mathlib.Nat.{zero-add, sub-zero}
-use native.Mathlib.Numerals.{add-one}
 use native.Mathlib.Decide.{dec_lt}
 use borrow.Author.Tests.{lt-leb, le-leb}
 use lib.Count.{ones}
-use lib.ListN.{length, take, drop, get_or, set, replicate, drop_of_length-le}
-use lib.Seq.{drop-cons, length-take-le}
+use lib.ListN.{length, take, get_or, set, replicate}
+use lib.Seq.{length-take-le}
+use Rattle.std.specs.List.{sum_by}
+use Rattle.std.proofs.lemmas.List.Sums.{sum_by-cons}
 use Rattle.kinds.specs.Bits.{bit, sum_to}
 use Rattle.kinds.proofs.BitLaws.{ones_bits, ones_most}
 use Rattle.kinds.proofs.Bools.{test}
@@ -30,13 +32,11 @@ use Rattle.checks.proofs.LawsAgain.{score_good_is}
 use Rattle.term.proofs.LawsReading.{whole_in}
 use Rattle.counting.specs.Counting.{total, counted}
 use Rattle.counting.specs.Passing.{long_of}
-use Rattle.counting.specs.declared.Counted.{Counted}
-use Rattle.counting.specs.declared.Counted.TheVariants.{Number, Refused}
 
-number_not : {n : ℕ} {r : Reason} → Number n ≡ Refused r → ⊥
+number_not : {n : ℕ} {r : Reason} → Ok n ≡ Err r → ⊥
 number_not e = let z : ◌≡◌ {A = ℕ} 0 1 = cc in absurd (omega arith)
 
-number_is : {m n : ℕ} → Number m ≡ Number n → m ≡ n
+number_is : {m n : ℕ} → ◌≡◌ {A = Result ℕ Reason} (Ok m) (Ok n) → m ≡ n
 number_is e = cc
 
 pub few_nodes : (ar ws sp : List ℕ) → score_good ar ws sp ≡ true → length ws ≤ 4096
@@ -46,12 +46,12 @@ few_nodes ar ws sp e =
     let w = whole_in ar ws (score_limits 0) score_levels 0 t.met r.0 in
     omega (arith, w.few, r.1)
 
-module _ (f : List ℕ → Counted) (ar ws sp ms : List ℕ) where
-  pub count_bad : score_good ar ws sp ≡ false → counted f ar ws sp ms ≡ Refused BadScore
+module _ (f : List ℕ → Result ℕ Reason) (ar ws sp ms : List ℕ) where
+  pub count_bad : score_good ar ws sp ≡ false → counted f ar ws sp ms ≡ Err BadScore
   unfolding counted
   count_bad e = rw e
 
-  pub count_short : score_good ar ws sp ≡ true → length ms < length ws → counted f ar ws sp ms ≡ Refused ShortBuffers
+  pub count_short : score_good ar ws sp ≡ true → length ms < length ws → counted f ar ws sp ms ≡ Err ShortBuffers
   unfolding counted
   count_short e h = rw (e, lt-leb _ _ h)
 
@@ -60,22 +60,22 @@ module _ (f : List ℕ → Counted) (ar ws sp ms : List ℕ) where
   count_on e h = rw (e, le-leb _ _ h)
 
 -- how many marks are looked at
-abbrev long : List ℕ → Counted
-long ms = Number (length ms)
+abbrev long : List ℕ → Result ℕ Reason
+long ms = Ok (length ms)
 
 pub record Looked (ar ws sp ms : List ℕ) (n : ℕ) : Type 0 where
   pub nodes : n ≡ length ws
   pub few : n ≤ 4096
   pub inside : n ≤ length ms
   pub short : length (take (n - 0) ms) ≤ 4096
-  pub counts : (f : List ℕ → Counted) → counted f ar ws sp ms ≡ f (take (n - 0) ms)
+  pub counts : (f : List ℕ → Result ℕ Reason) → counted f ar ws sp ms ≡ f (take (n - 0) ms)
 
 module _ (ar ws sp ms : List ℕ) where
-  pub long_is : score_good ar ws sp ≡ true → length ws ≤ length ms → long_of ar ws sp ms ≡ Number (length ws)
-  long_is e h = count_on long ar ws sp ms e h ∙ ap Number (length-take-le (length ws) ms h)
+  pub long_is : score_good ar ws sp ≡ true → length ws ≤ length ms → long_of ar ws sp ms ≡ Ok (length ws)
+  long_is e h = count_on long ar ws sp ms e h ∙ ap Ok (length-take-le (length ws) ms h)
 
   -- what is counted where so many marks are looked at, and what is refused where none is
-  pub looked : (n : ℕ) → long_of ar ws sp ms ≡ Number n → Looked ar ws sp ms n
+  pub looked : (n : ℕ) → long_of ar ws sp ms ≡ Ok n → Looked ar ws sp ms n
   looked n e = go (test (score_good ar ws sp)) (dec_lt (length ms) (length ws))
     where
       go : (score_good ar ws sp ≡ true) ⊎ (score_good ar ws sp ≡ false) → Dec (length ms < length ws) → Looked ar ws sp ms n
@@ -92,23 +92,18 @@ module _ (ar ws sp ms : List ℕ) where
             counts = λ f. count_on f ar ws sp ms g l ∙ ap (λ (m : ℕ). f (take m ms)) (sym same ∙ sym (sub-zero n));
           }
 
-  pub unlooked : (f : List ℕ → Counted) (r : Reason) → long_of ar ws sp ms ≡ Refused r → counted f ar ws sp ms ≡ Refused r
+  pub unlooked : (f : List ℕ → Result ℕ Reason) (r : Reason) → long_of ar ws sp ms ≡ Err r → counted f ar ws sp ms ≡ Err r
   unlooked f r e = go (test (score_good ar ws sp)) (dec_lt (length ms) (length ws))
     where
-      go : (score_good ar ws sp ≡ true) ⊎ (score_good ar ws sp ≡ false) → Dec (length ms < length ws) → counted f ar ws sp ms ≡ Refused r
+      go : (score_good ar ws sp ≡ true) ⊎ (score_good ar ws sp ≡ false) → Dec (length ms < length ws) → counted f ar ws sp ms ≡ Err r
       go (inr g) d = count_bad f ar ws sp ms g ∙ sym (count_bad long ar ws sp ms g) ∙ e
       go (inl g) (yes h) = count_short f ar ws sp ms g h ∙ sym (count_short long ar ws sp ms g h) ∙ e
       go (inl g) (no h) = absurd (number_not (sym (long_is g (omega arith)) ∙ e))
 
-pub total_next : (ms : List ℕ) (i : ℕ) → i < length ms → get_or ms i 0 < 2 ^ 16 → total (drop i ms) ≡ ones (get_or ms i 0) + total (drop (i + 1) ms)
+pub total_ones : (ms : List ℕ) → ((i : ℕ) → get_or ms i 0 < 2 ^ 16) → sum_by ones ms ≡ total ms
 unfolding total
-total_next ms i h fits =
-    ap total (drop-cons ms i 0 h)
-    ∙ ap₂ (λ (x y : ℕ). x + y) (sym (ones_bits 16 (get_or ms i 0) fits)) (ap (λ (n : ℕ). total (drop n ms)) (sym (add-one i)))
-
-pub total_end : (ms : List ℕ) (i : ℕ) → length ms ≤ i → total (drop i ms) ≡ 0
-unfolding total
-total_end ms i h = ap total (drop_of_length-le ms h)
+total_ones [] fits = refl
+total_ones (m ∷ ms) fits = sum_by-cons ones m ms ∙ ap₂ ◌+◌ (ones_bits 16 m (fits 0)) (total_ones ms (λ i. fits (suc i)))
 
 pub total_set : (ms : List ℕ) (n i v : ℕ) → i < n → i < length ms
     → total (take n (set ms i v)) + sum_to 16 (bit (get_or ms i 0)) ≡ total (take n ms) + sum_to 16 (bit v)

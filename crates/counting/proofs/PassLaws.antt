@@ -1,10 +1,12 @@
 -- From match to match.
 --   next_here next_end next_turn   the search for the next match: it is here; none is left; the next numbers are none
 --   none_left, low_in low_found none_low   what a mark's bits from a number on tell
+--   found_few                      how many there are at most
 --   rest_from At                   the matches from number k on; k is where the first of them is, or the end
---   pass_start pass_next pass_end  a loop over all matches
+--   pass_start pass_next pass_end  a loop over all matches by their numbers
+--   left first_next first_end      what is left to a walk over them: the first of them, or none
 use Prim.Native.Nat.{ℕ, zero, suc, ◌+◌, ◌-◌, ◌*◌, ◌/◌, ◌%◌, ◌^◌, ◌<◌, ◌≤◌}
-use mathlib.Core.Path.{◌≡◌, refl, ap, sym, ◌∙◌}
+use mathlib.Core.Path.{◌≡◌, refl, ap, ap₂, sym, ◌∙◌}
 use mathlib.Core.List.{List, [], ◌∷◌}
 use mathlib.Core.Bool.{Bool, true, false}
 use native.Mathlib.Omega.{arith}
@@ -18,6 +20,7 @@ use Rattle.kinds.specs.Bits.{bit}
 use Rattle.kinds.proofs.BitLaws.{clear_or_set, no_bit, low_clear, low_set, bit_shifted, bit_past}
 use Rattle.counting.specs.Counting.{Match, match_of, found, found_from, found_in}
 use Rattle.counting.specs.Passing.{next_of}
+use Rattle.counting.specs.declared.passing.Matches.{Matches}
 
 -- ---- a mark's bits from number k on
 module _ (ms : List ℕ) (k : ℕ) (fits : get_or ms (k / 16) 0 < 2 ^ 16) where
@@ -93,6 +96,15 @@ module _ (ms : List ℕ) where
   unfolding found_from
   from_clear k n e = rw e refl
 
+  pub found_few : (k n : ℕ) → length (found_from ms k n) ≤ n
+  unfolding found_from
+  found_few k zero = omega arith
+  found_few k (suc n) = go (found ms (match_of k)) refl (found_few (suc k) n)
+    where
+      go : (b : Bool) → found ms (match_of k) ≡ b → length (found_from ms (suc k) n) ≤ n → length (found_from ms k (suc n)) ≤ suc n
+      go true e l = rw (from_found k n e) (omega arith)
+      go false e l = rw (from_clear k n e) (omega arith)
+
   record Next (k n r : ℕ) : Type 0 where
     low : k ≤ r
     high : r ≤ k + n
@@ -165,3 +177,27 @@ module _ (ms : List ℕ) where
   pub pass_end : (k : ℕ) → length ms ≤ k / 16 → rest_from k ≡ []
   unfolding found_from
   pass_end k h = let z : 16 * length ms - k ≡ 0 = omega arith in ap (found_from ms k) z
+
+  -- those from k on, where r is the number of the first
+  module _ (k r : ℕ) (h : k ≤ 16 * length ms) (e : r ≡ next_of ms k (16 * length ms - k)) where
+    same : found_from ms k (16 * length ms - k) ≡ rest_from r
+    same =
+        let n = next_is (16 * length ms - k) k in
+        let z : k + (16 * length ms - k) ≡ 16 * length ms = omega arith in
+        n.left ∙ ap₂ (λ q s. found_from ms q (s - q)) (sym e) z
+
+    pub first_next : r / 16 < length ms → rest_from k ≡ match_of r ∷ rest_from (r + 1)
+    first_next l =
+        let n = next_is (16 * length ms - k) k in
+        let s : 16 * length ms - r ≡ suc (16 * length ms - (r + 1)) = omega arith in
+        let t : suc r ≡ r + 1 = omega arith in
+        let f : found ms (match_of r) ≡ true = ap (λ q. found ms (match_of q)) e ∙ n.hit (omega arith) in
+        same ∙ ap (found_from ms r) s ∙ from_found r (16 * length ms - (r + 1)) f ∙ ap (λ i. match_of r ∷ found_from ms i (16 * length ms - (r + 1))) t
+
+    pub first_end : length ms ≤ r / 16 → rest_from k ≡ []
+    unfolding found_from
+    first_end l = let z : 16 * length ms - r ≡ 0 = omega arith in same ∙ ap (found_from ms r) z
+
+-- those that are left to a walk over the matches
+abbrev pub left : Matches → List Match
+left s = rest_from s.marks.now s.from

@@ -7,14 +7,13 @@
 --   total           "matches (ones in all marks)"
 --   counted         what f says of the first n marks, or 31, or 30
 --   counted_says    the answer in document 01's numbers
-use Rattle.std.specs.Prelude.{ℕ, ◌+◌, ◌*◌, ◌/◌, ◌%◌, List, [], ◌∷◌, map, Bool, eqb, leb, length, get_or, take}
+use Rattle.kinds.specs.declared.Reason.{Reason}
+use Rattle.std.specs.Prelude.{ℕ, ◌+◌, ◌*◌, ◌/◌, ◌%◌, List, [], ◌∷◌, map, Bool, eqb, leb, length, get_or, take, Err, Ok, Result}
 use Rattle.kinds.specs.Lists.{unless, filter, range}
 use Rattle.kinds.specs.Bits.{bit, sum_to}
 use Rattle.kinds.specs.Reasons.{Says, gives, refuses}
 use Rattle.kinds.specs.declared.Reason.TheVariants.{ShortBuffers, BadScore}
 use Rattle.checks.specs.Again.{score_good}
-use Rattle.counting.specs.declared.Counted.{Counted}
-use Rattle.counting.specs.declared.Counted.TheVariants.{Number, Refused}
 
 pub record Match : Type 0 where
   pub node : ℕ
@@ -39,15 +38,15 @@ unfoldable pub total : List ℕ → ℕ
 total [] = 0
 total (m ∷ ms) = sum_to 16 (bit m) + total ms
 
-unfoldable pub counted : (List ℕ → Counted) → List ℕ → List ℕ → List ℕ → List ℕ → Counted
+unfoldable pub counted : (List ℕ → Result ℕ Reason) → List ℕ → List ℕ → List ℕ → List ℕ → Result ℕ Reason
 counted f ar score spans marks =
-    unless (score_good ar score spans) (Refused BadScore)
-    (unless (leb (length score) (length marks)) (Refused ShortBuffers)
+    unless (score_good ar score spans) (Err BadScore)
+    (unless (leb (length score) (length marks)) (Err ShortBuffers)
     (f (take (length score) marks)))
 
-abbrev pub matches_of : List ℕ → List ℕ → List ℕ → List ℕ → Counted
-matches_of ar score spans marks = counted (λ ms. Number (total ms)) ar score spans marks
+abbrev pub matches_of : List ℕ → List ℕ → List ℕ → List ℕ → Result ℕ Reason
+matches_of ar score spans marks = counted (λ ms. Ok (total ms)) ar score spans marks
 
-abbrev pub counted_says : Counted → Says
-counted_says (Number k) = gives (k ∷ [])
-counted_says (Refused r) = refuses r 0
+abbrev pub counted_says : Result ℕ Reason → Says
+counted_says (Ok k) = gives (k ∷ [])
+counted_says (Err r) = refuses r 0

@@ -4,9 +4,3 @@ use kinds::Reason;
 
 pub mod marks; // how many matches the marks hold
 pub mod passing; // from match to match
-
-#[derive(Clone, Copy)]
-pub enum Counted {
-    Number(usize),
-    Refused(Reason),
-}

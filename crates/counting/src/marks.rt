@@ -2,32 +2,29 @@ ghost use Rattle.std.specs.Prelude.{◌≡◌, ◌≤◌, length};
 ghost use Rattle.counting.specs.Counting.{total, matches_of};
 ghost use Rattle.counting.specs.Passing.{long_of};
 
-use crate::Counted;
 use checks::checking::score_good;
-use kinds::Reason;
+use kinds::{Reason, Score};
 
 // The number of matches: the ones in the first n marks.
-pub fn matches(symbols: &[u8], score: &[u16], spans: &[u16], marks: &[u16]) -> Counted
-    ensures { result ≡ matches_of symbols.now score.now spans.now marks.now }
+pub fn matches(symbols: &[u8], score: Score<'_>, marks: &[u16]) -> Result<usize, Reason>
+    ensures { result ≡ matches_of symbols.now score.entry.words.now score.entry.spans.now marks.now }
 {
-    match looked_at(symbols, score, spans, marks) {
-        Counted::Refused(reason) => Counted::Refused(reason),
-        Counted::Number(n) => Counted::Number(ones_of(&marks[0..n])),
-    }
+    let n = looked_at(symbols, score, marks)?;
+    Ok(ones_of(&marks[0..n]))
 }
 
 // How many marks are looked at, one for each node of a good score.
-pub fn looked_at(symbols: &[u8], score: &[u16], spans: &[u16], marks: &[u16]) -> Counted
-    ensures { result ≡ long_of symbols.now score.now spans.now marks.now }
+pub fn looked_at(symbols: &[u8], score: Score<'_>, marks: &[u16]) -> Result<usize, Reason>
+    ensures { result ≡ long_of symbols.now score.entry.words.now score.entry.spans.now marks.now }
 {
-    if score_good(symbols, score, spans) {
-        let n = score.len();
+    if score_good(symbols, score) {
+        let n = score.words.len();
         if marks.len() < n {
-            return Counted::Refused(Reason::ShortBuffers);
+            return Err(Reason::ShortBuffers);
         }
-        return Counted::Number(n);
+        return Ok(n);
     }
-    Counted::Refused(Reason::BadScore)
+    Err(Reason::BadScore)
 }
 
 // The ones of all marks.
@@ -35,11 +32,5 @@ fn ones_of(marks: &[u16]) -> usize
     requires { length marks.now ≤ 65536 }
     ensures { result ≡ total marks.now }
 {
-    let mut sum: usize = 0;
-    let mut i = 0;
-    while i < marks.len() {
-        sum += u16::count_ones(marks[i]) as usize;
-        i += 1;
-    }
-    sum
+    marks.iter().map(|mark| mark.count_ones() as usize).sum()
 }

@@ -1,5 +1,5 @@
 -- A pass over the goals of a state that writes what each one gives.
---   node_is                 the open node, of a goal as the code hands it on
+--   node_is node_le         the open node, of a goal as the code hands it on; at most 16
 --   pass_next pass_end      what is left to write, goal by goal
 --   Passing passing_…       a pass, turn by turn
 --   stay leave goes…        what one goal gives
@@ -9,17 +9,18 @@ use Prim.Native.Nat.{ℕ, suc, ◌+◌, ◌-◌, ◌*◌, ◌<◌, ◌≤◌}
 use mathlib.Core.Path.{◌≡◌, refl, ap, ap₂, sym, ◌∙◌}
 use mathlib.Core.List.{List, [], ◌∷◌, ◌++◌, map}
 use native.Mathlib.Omega.{arith}
-use native.Mathlib.Nat.{zero-add, sub-zero}
+use native.Mathlib.Nat.{zero-add}
 use borrow.Author.Tests.{eq-eqb, ne_eqb, lt-ltb, le-ltb}
 use lib.ListN.{length, length-append}
 use lib.Seq.{sets, length-sets}
 use Rattle.kinds.specs.Lists.{gather, range}
 use Rattle.kinds.proofs.ListLaws.{sets_append}
-use Rattle.goals.specs.GoalWords.{GoalWords, goal_at, goals_from, flat, Low, node_at, sym_of, kids_of, mask_after}
+use Rattle.goals.specs.GoalWords.{GoalWords, goal_at, flat, Tabled, size_of, node_at}
 use Rattle.goals.specs.GoalKinds.{as_goal, as_words}
 use Rattle.goals.specs.declared.Goal.{Goal}
 use Rattle.goals.specs.WordStages.{stays, moves, reduct, goes_on, with_mask, fresh_w, freshes_w, born_w, deriv_w, unexpected}
-use Rattle.goals.proofs.GoalLaws.{goals_next, goals_end, low_next}
+use Rattle.goals.proofs.GoalLaws.{node_low}
+use Rattle.derivatives.proofs.AlongLaws.{goals_past, past_next, past_end}
 use Rattle.derivatives.specs.Passes.{passed, Puts}
 
 -- a goal as the code hands it on, and as words
@@ -27,81 +28,68 @@ pub node_is : (tab : List ℕ) (c k : ℕ) (g : GoalWords) (r : Goal) → r ≡ 
     → k ≡ node_at tab g.sh g.an g.mask c
 node_is tab c k g r e n = n ∙ ap (λ (x : Goal). node_at tab x.shape.0 x.at.0 x.mask c) e
 
+-- a node's number, or 16
+pub node_le : (tab : List ℕ) (s a m c r : ℕ) → Tabled tab × (s < 16) → r ≡ node_at tab s a m c → r ≤ 16
+node_le tab s a m c r t e = omega (arith, node_low tab s a c (size_of tab s) 0 m (omega (arith, t.0.sizes s t.1)))
+
 pub flat_append : (gs hs : List GoalWords) → flat (gs ++ hs) ≡ flat gs ++ flat hs
 unfolding flat
 flat_append [] hs = refl
 flat_append (g ∷ gs) hs = ap (λ ws. g.sh ∷ g.an ∷ g.mask ∷ ws) (flat_append gs hs)
 
--- what is left to write when k goals from at on are to be passed
-module _ (e : GoalWords → List GoalWords) (ws : List ℕ) (at k : ℕ) where
-  pass_next : 0 < k → passed e ws at k ≡ flat (e (goal_at ws at)) ++ passed e ws (at + 3) (k - 1)
+-- what the goals from the i-th on give
+abbrev pub passed_past : (GoalWords → List GoalWords) → List ℕ → ℕ → ℕ → ℕ → List ℕ
+passed_past e ws at n i = flat (gather e (goals_past ws at n i))
+
+module _ (e : GoalWords → List GoalWords) (ws : List ℕ) (at n i : ℕ) where
+  pass_next : i < n → passed_past e ws at n i ≡ flat (e (goal_at ws (at + 3 * i))) ++ passed_past e ws at n (i + 1)
   pass_next h =
-      ap (λ gs. flat (gather e gs)) (goals_next ws at k h) ∙ flat_append (e (goal_at ws at)) (gather e (goals_from ws (at + 3) (k - 1)))
+      ap (λ gs. flat (gather e gs)) (past_next ws at n i h) ∙ flat_append (e (goal_at ws (at + 3 * i))) (gather e (goals_past ws at n (i + 1)))
 
-  pass_end : k ≤ 0 → passed e ws at k ≡ []
+  pass_end : n ≤ i → passed_past e ws at n i ≡ []
   unfolding flat
-  pass_end h = ap (λ gs. flat (gather e gs)) (goals_end ws at k h)
+  pass_end h = ap (λ gs. flat (gather e gs)) (past_end ws at n i h)
 
-pub record Passing (e : GoalWords → List GoalWords) (ws : List ℕ) (at n to : ℕ) (out₀ out : List ℕ) (next here left : ℕ) : Type 0 where
-  pub long : length out ≡ length out₀
-  pub stands : here + 3 * left ≡ at + 3 * n
-  pub low : Low (goals_from ws here left)
-  pub count : next + length (passed e ws here left) ≡ to + length (passed e ws at n)
-  pub is : sets out₀ to (passed e ws at n) ≡ sets out next (passed e ws here left)
+pub record Passing (e : GoalWords → List GoalWords) (ws : List ℕ) (at n to : ℕ) (out₀ out : List ℕ) (next i : ℕ) : Type 0 where
+  pub room : next + length (passed_past e ws at n i) ≤ length out
+  pub count : next + length (passed_past e ws at n i) ≡ to + length (passed e ws at n)
+  pub is : sets out₀ to (passed e ws at n) ≡ sets out next (passed_past e ws at n i)
 
 module _ {e : GoalWords → List GoalWords} {ws : List ℕ} {at n to : ℕ} {out₀ : List ℕ} where
-  pub passing_begin : Low (goals_from ws at n) → Passing e ws at n to out₀ out₀ to at n
-  passing_begin low = record { long = refl; stands = refl; low = low; count = refl; is = refl }
+  module _ {out : List ℕ} {next i : ℕ} (s : Passing e ws at n to out₀ out next i) where
+    pub passing_fits : i < n → next + length (flat (e (goal_at ws (at + 3 * i)))) ≤ length out
+    passing_fits h =
+        let p = ap length (pass_next e ws at n i h) in
+        let q = length-append (flat (e (goal_at ws (at + 3 * i)))) (passed_past e ws at n (i + 1)) in
+        omega (arith, s.room)
 
-  module _ {out : List ℕ} {next here left : ℕ} (s : Passing e ws at n to out₀ out next here left) where
-    pub passing_low : 0 < left → (goal_at ws here).sh < 16
-    passing_low h = (low_next ws here left h s.low).0
-
-    pub passing_fits : 0 < left → to + length (passed e ws at n) ≤ length out₀ → next + length (flat (e (goal_at ws here))) ≤ length out
-    passing_fits h room =
-        let p = ap length (pass_next e ws here left h) in
-        let q = length-append (flat (e (goal_at ws here))) (passed e ws (here + 3) (left - 1)) in
-        omega (arith, s.count, s.long)
-
-    pub passing_on : 0 < left → (out' : List ℕ) (next' : ℕ) → Puts (flat (e (goal_at ws here))) next next' out out'
-        → Passing e ws at n to out₀ out' next' (here + 3) (left - 1)
+    pub passing_on : i < n → (out' : List ℕ) (next' : ℕ) → Puts (flat (e (goal_at ws (at + 3 * i)))) next next' out out'
+        → Passing e ws at n to out₀ out' next' (i + 1)
     passing_on h out' next' w =
-        let xs = flat (e (goal_at ws here)) in
-        let rest = passed e ws (here + 3) (left - 1) in
-        let p = pass_next e ws here left h in
+        let xs = flat (e (goal_at ws (at + 3 * i))) in
+        let rest = passed_past e ws at n (i + 1) in
+        let p = pass_next e ws at n i h in
         record {
-          long = ap length w.1 ∙ length-sets out next xs ∙ s.long;
-          stands = omega (arith, s.stands);
-          low = (low_next ws here left h s.low).1;
+          room = omega (arith, s.room, w.0, ap length p, length-append xs rest, ap length w.1, length-sets out next xs);
           count = omega (arith, s.count, w.0, ap length p, length-append xs rest);
-          is = s.is ∙ ap (sets out next) p ∙ sets_append out next xs rest ∙ ap₂ (λ o i. sets o i rest) (sym w.1) (sym w.0);
+          is = s.is ∙ ap (sets out next) p ∙ sets_append out next xs rest ∙ ap₂ (λ o k. sets o k rest) (sym w.1) (sym w.0);
         }
 
-    pub passing_end : left ≤ 0 → Puts (passed e ws at n) to next out₀ out
+    pub passing_end : n ≤ i → Puts (passed e ws at n) to next out₀ out
     passing_end h =
-        let p = pass_end e ws here left h in
+        let p = pass_end e ws at n i h in
         (omega (arith, s.count, ap length p), sym (s.is ∙ ap (sets out next) p))
 
 -- three stores of a run
 pub run_three : (l : List ℕ) (i x y z : ℕ) (vs : List ℕ) → sets l i (x ∷ y ∷ z ∷ vs) ≡ sets (sets l i (x ∷ y ∷ z ∷ [])) (i + 3) vs
 run_three l i x y z vs = let e : i + 3 ≡ suc (suc (suc i)) = omega arith in rw e
 
-module _ (tab : List ℕ) (c f : ℕ) (g : GoalWords) where
+module _ (tab : List ℕ) (c : ℕ) (g : GoalWords) where
   pub stay : node_at tab g.sh g.an g.mask c ≡ 16 → stays tab c g ≡ g ∷ []
   stay e = rw (eq-eqb _ _ e)
 
   pub leave : (node_at tab g.sh g.an g.mask c ≡ 16 → ⊥) → stays tab c g ≡ []
   leave e = rw (ne_eqb _ _ e)
-
-  pub no_node : node_at tab g.sh g.an g.mask c ≡ 16 → reduct tab c f g ≡ unexpected
-  no_node e = rw (eq-eqb _ _ e)
-
-  module _ (r : ℕ) (i : r ≡ node_at tab g.sh g.an g.mask c) (ne : r ≡ 16 → ⊥) where
-    pub no_symbol : (sym_of tab g.sh r ≡ f → ⊥) → reduct tab c f g ≡ unexpected
-    no_symbol d = rw (← i, ne_eqb _ _ ne, ne_eqb _ _ d)
-
-    pub reduces : sym_of tab g.sh r ≡ f → reduct tab c f g ≡ mask_after g.mask r (kids_of tab g.sh r)
-    reduces d = rw (← i, ne_eqb _ _ ne, eq-eqb _ _ d)
 
 module _ (x : ℕ) (g : GoalWords) where
   pub goes_out_lem : x ≡ 0 → goes_on x g ≡ []
@@ -123,46 +111,46 @@ unfolding flat
 flat_one gs g e = ap flat e
 
 -- one turn of the pass over the goals that stay: what the code has of the goal, and of its open node
-module _ (tab : List ℕ) (c : ℕ) {ws : List ℕ} {at n to : ℕ} {out₀ out : List ℕ} {next here left : ℕ}
-    (s : Passing (stays tab c) ws at n to out₀ out next here left) (h : 0 < left)
-    (r : Goal) (k : ℕ) (e : r ≡ as_goal (goal_at ws here)) (d : k ≡ node_at tab r.shape.0 r.at.0 r.mask c) where
+module _ (tab : List ℕ) (c : ℕ) {ws : List ℕ} {at n to : ℕ} {out₀ out : List ℕ} {next i : ℕ}
+    (s : Passing (stays tab c) ws at n to out₀ out next i) (h : i < n)
+    (r : Goal) (k : ℕ) (e : r ≡ as_goal (goal_at ws (at + 3 * i))) (d : k ≡ node_at tab r.shape.0 r.at.0 r.mask c) where
   abbrev g : GoalWords
-  g = goal_at ws here
+  g = goal_at ws (at + 3 * i)
 
   node : k ≡ node_at tab g.sh g.an g.mask c
   node = node_is tab c k g r e d
 
   words : k ≡ 16 → flat (stays tab c g) ≡ g.sh ∷ g.an ∷ g.mask ∷ []
-  words f = flat_one (stays tab c g) g (stay tab c 0 g (sym node ∙ f))
+  words f = flat_one (stays tab c g) g (stay tab c g (sym node ∙ f))
 
-  pub stay_room : k ≡ 16 → to + length (passed (stays tab c) ws at n) ≤ length out₀ → next + 3 ≤ length out
-  stay_room f room = let p = passing_fits s h room in omega (arith, ap length (words f))
+  pub stay_room : k ≡ 16 → next + 3 ≤ length out
+  stay_room f = let p = passing_fits s h in omega (arith, ap length (words f))
 
   pub stay_on : k ≡ 16 → (out' : List ℕ) (next' : ℕ) → out' ≡ sets out next (r.shape.0 ∷ r.at.0 ∷ r.mask ∷ []) → next' ≡ next + 3
-      → Passing (stays tab c) ws at n to out₀ out' next' (here + 3) (left - 1)
-  stay_on f out' next' o i = passing_on s h out' next' (
+      → Passing (stays tab c) ws at n to out₀ out' next' (i + 1)
+  stay_on f out' next' o j = passing_on s h out' next' (
     omega (arith, ap length (words f)),
     o ∙ ap (λ (x : Goal). sets out next (x.shape.0 ∷ x.at.0 ∷ x.mask ∷ [])) e ∙ ap (sets out next) (sym (words f)),
   )
 
   pub stay_off : (k ≡ 16 → ⊥) → (out' : List ℕ) (next' : ℕ) → out' ≡ out → next' ≡ next
-      → Passing (stays tab c) ws at n to out₀ out' next' (here + 3) (left - 1)
-  stay_off f out' next' o i =
-      let none = flat_none (stays tab c g) (leave tab c 0 g (λ z. f (node ∙ z))) in
+      → Passing (stays tab c) ws at n to out₀ out' next' (i + 1)
+  stay_off f out' next' o j =
+      let none = flat_none (stays tab c g) (leave tab c g (λ z. f (node ∙ z))) in
       passing_on s h out' next' (omega (arith, ap length none), o ∙ ap (sets out next) (sym none))
 
 -- one turn of the pass over the goals that move
-module _ (tab : List ℕ) (c f : ℕ) {ws : List ℕ} {at n to : ℕ} {out₀ out : List ℕ} {next here left : ℕ}
-    (s : Passing (moves tab c f) ws at n to out₀ out next here left) (h : 0 < left)
-    (r : Goal) (x : ℕ) (e : r ≡ as_goal (goal_at ws here)) (d : x ≡ reduct tab c f (as_words r)) where
-  moved : flat (goes_on x (as_words r)) ≡ flat (moves tab c f (goal_at ws here))
+module _ (tab : List ℕ) (c f : ℕ) {ws : List ℕ} {at n to : ℕ} {out₀ out : List ℕ} {next i : ℕ}
+    (s : Passing (moves tab c f) ws at n to out₀ out next i) (h : i < n)
+    (r : Goal) (x : ℕ) (e : r ≡ as_goal (goal_at ws (at + 3 * i))) (d : x ≡ reduct tab c f (as_words r)) where
+  moved : flat (goes_on x (as_words r)) ≡ flat (moves tab c f (goal_at ws (at + 3 * i)))
   moved = ap (λ y. flat (goes_on y (as_words r))) d ∙ ap (λ (y : Goal). flat (moves tab c f (as_words y))) e
 
-  pub move_room : to + length (passed (moves tab c f) ws at n) ≤ length out₀ → next + length (flat (goes_on x (as_words r))) ≤ length out
-  move_room room = let p = passing_fits s h room in omega (arith, ap length moved)
+  pub move_room : next + length (flat (goes_on x (as_words r))) ≤ length out
+  move_room = let p = passing_fits s h in omega (arith, ap length moved)
 
   pub move_on : (out' : List ℕ) (next' : ℕ) → Puts (flat (goes_on x (as_words r))) next next' out out'
-      → Passing (moves tab c f) ws at n to out₀ out' next' (here + 3) (left - 1)
+      → Passing (moves tab c f) ws at n to out₀ out' next' (i + 1)
   move_on out' next' w = passing_on s h out' next' (w.0 ∙ ap (λ xs. next + length xs) moved, w.1 ∙ ap (sets out next) moved)
 
 -- numbers one after another
@@ -188,9 +176,6 @@ module _ (n a j : ℕ) where
   unfolding flat
   fresh_end h = ap (λ js. flat (map (fresh_w a) js)) (range_end 0 n j h)
 
-pub fresh_all : (n a : ℕ) → flat (freshes_w n a) ≡ fresh_from n a 0
-fresh_all n a = rw (sub-zero n)
-
 -- and those at the children after the i-th
 abbrev pub born_from : ℕ → ℕ → ℕ → ℕ → List ℕ
 born_from n c k i = flat (gather (λ i'. freshes_w n (5 * c + i')) (range (1 + i) (k - i)))
@@ -205,9 +190,6 @@ module _ (n c k i : ℕ) where
   pub born_end : k ≤ i → born_from n c k i ≡ []
   unfolding flat
   born_end h = ap (λ js. flat (gather (λ i'. freshes_w n (5 * c + i')) js)) (range_end 1 k i h)
-
-pub born_all : (n c k : ℕ) → flat (born_w n c k) ≡ born_from n c k 0
-born_all n c k = rw (sub-zero k)
 
 -- the derivative's words, pass by pass
 pub deriv_words : (tab : List ℕ) (n c f k : ℕ) (gs : List GoalWords)

@@ -1,3 +1,4 @@
+pub mod AlongLaws
 pub mod DeriveLaws
 pub mod LiftLaws
 pub mod SortLaws

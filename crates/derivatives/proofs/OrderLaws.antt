@@ -75,34 +75,6 @@ first_pad best (c ∷ cs) = go (dec_lt (pad c) (pad best)) (first_pad c cs) (fir
     go (yes h) i k = let e : pad (first_code c cs) ≤ pad best = omega arith in rw (lt-ltb (pad c) (pad best) h) e
     go (no h) i k = rw (le-ltb (pad c) (pad best) (omega (arith, h))) k
 
-pub pad_word : (c : ℕ) → c ≤ 65535 → pad c ≤ 65535
-pad_word c h = go (dec_lt c 5) (dec_lt c 25) (dec_lt c 125) (dec_lt c 625) (dec_lt c 3125)
-  where
-    go : Dec (c < 5) → Dec (c < 25) → Dec (c < 125) → Dec (c < 625) → Dec (c < 3125) → pad c ≤ 65535
-    go (yes a) _ _ _ _ = rw (lt-ltb c 5 a) (omega arith)
-    go (no a) (yes b) _ _ _ = rw (le-ltb c 5 (omega (arith, a)), lt-ltb c 25 b) (omega arith)
-    go (no a) (no b) (yes d) _ _ = rw (le-ltb c 5 (omega (arith, a)), le-ltb c 25 (omega (arith, b)), lt-ltb c 125 d) (omega arith)
-    go (no a) (no b) (no d) (yes e) _ =
-        rw (le-ltb c 5 (omega (arith, a)), le-ltb c 25 (omega (arith, b)), le-ltb c 125 (omega (arith, d)), lt-ltb c 625 e) (omega arith)
-    go (no a) (no b) (no d) (no e) (yes f) =
-        rw (
-          le-ltb c 5 (omega (arith, a)),
-          le-ltb c 25 (omega (arith, b)),
-          le-ltb c 125 (omega (arith, d)),
-          le-ltb c 625 (omega (arith, e)),
-          lt-ltb c 3125 f,
-        )
-        (omega arith)
-    go (no a) (no b) (no d) (no e) (no f) =
-        rw (
-          le-ltb c 5 (omega (arith, a)),
-          le-ltb c 25 (omega (arith, b)),
-          le-ltb c 125 (omega (arith, d)),
-          le-ltb c 625 (omega (arith, e)),
-          le-ltb c 3125 (omega (arith, f)),
-        )
-        h
-
 pub key_of : (tab : List ℕ) (gs : List GoalWords) → class_key tab gs ≡ pad (first_code 65535 (gather (owed_by tab) gs))
 unfolding class_key
 key_of tab gs = refl

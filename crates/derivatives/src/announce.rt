@@ -24,14 +24,12 @@ pub fn outputs(
     ensures { Arranged (out_items tab.now ws.now at root.0 symbol.0 n) result items.old items.new }
 {
     let mut k = 0;
-    let mut j = 0;
-    while j < n {
+    for j in 0..n {
         let g = goal_at(ws, at + 3 * j);
         if reduce(tab, g, root, symbol) == 0 {
             items[k] = 128 * (16 * padded(g.at.0 as u32) + g.shape.0 as u32) + j as u32;
             k += 1;
         }
-        j += 1;
     }
     arrange(items, k);
     k

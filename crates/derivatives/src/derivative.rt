@@ -10,6 +10,7 @@ use goals::{CHILDREN_AT, Goal, SYMBOLS_AT, UNEXPECTED};
 use kinds::{Position, Shape, Symbol};
 
 // A goal's mask after reducing at a position by a symbol; UNEXPECTED where the symbol is not expected there.
+#[tactic(auto, using(crate::proofs::DeriveLaws::node_le))]
 pub fn reduce(tab: &[u16], g: Goal, root: Position, symbol: Symbol) -> u32
     requires { Tabled tab.now × (g.shape.0 < 16) }
     ensures { result ≡ reduct tab.now root.0 symbol.0 (as_words g) }
@@ -39,16 +40,12 @@ fn put_staying(
     ensures { Puts (passed (stays tab.now root.0) ws.now at n) to result out.old out.new }
 {
     let mut next = to;
-    let mut here = at;
-    let mut left = n;
-    while 0 < left {
-        let g = goal_at(ws, here);
+    for i in 0..n {
+        let g = goal_at(ws, at + 3 * i);
         if node_at(tab, g, root) == 16 {
             put_goal(out, next, g);
             next += 3;
         }
-        here += 3;
-        left -= 1;
     }
     next
 }
@@ -68,14 +65,10 @@ fn put_moving(
     ensures { Puts (passed (moves tab.now root.0 symbol.0) ws.now at n) to result out.old out.new }
 {
     let mut next = to;
-    let mut here = at;
-    let mut left = n;
-    while 0 < left {
-        let g = goal_at(ws, here);
+    for i in 0..n {
+        let g = goal_at(ws, at + 3 * i);
         let x = reduce(tab, g, root, symbol);
         next = put_moved(out, next, g, x);
-        here += 3;
-        left -= 1;
     }
     next
 }
@@ -109,19 +102,17 @@ pub fn put_fresh(out: &mut [u16], to: usize, n: usize, at: Position) -> usize
     ensures { Puts (flat (freshes_w n at.0)) to result out.old out.new }
 {
     let mut next = to;
-    let mut j = 0;
-    while j < n {
+    for j in 0..n {
         put_goal(
             out,
             next,
             Goal {
                 shape: Shape(j as u16),
-                at: at,
+                at,
                 mask: 1,
             },
         );
         next += 3;
-        j += 1;
     }
     next
 }
@@ -132,10 +123,8 @@ fn put_born(out: &mut [u16], to: usize, n: usize, root: Position, k: u16) -> usi
     ensures { Puts (flat (born_w n root.0 k)) to result out.old out.new }
 {
     let mut next = to;
-    let mut i = 0;
-    while i < k {
-        i += 1;
-        next = put_fresh(out, next, n, Position(5 * root.0 + i));
+    for i in 0..k {
+        next = put_fresh(out, next, n, Position(5 * root.0 + (i + 1)));
     }
     next
 }

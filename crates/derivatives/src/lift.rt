@@ -23,14 +23,8 @@ fn least(ws: &[u16], at: usize, n: usize, best: Position) -> Position
     ensures { result.0 ≡ least_code best.0 (goals_from ws.now at n) }
 {
     let mut found = best.0;
-    let mut here = at;
-    let mut left = n;
-    while 0 < left {
-        if ws[here + 1] < found {
-            found = ws[here + 1];
-        }
-        here += 3;
-        left -= 1;
+    for i in 0..n {
+        found = found.min(ws[at + 3 * i + 1]);
     }
     Position(found)
 }
@@ -41,14 +35,9 @@ fn under(top: Position, place: Position) -> Position
 {
     let mut up = place.0 as u32;
     let mut weight: u32 = 1;
-    let mut left: usize = 7;
-    while 0 < left {
-        if up <= top.0 as u32 {
-            return Position((place.0 as u32 % weight) as u16);
-        }
+    while (top.0 as u32) < up {
         up /= 5;
         weight *= 5;
-        left -= 1;
     }
     Position((place.0 as u32 % weight) as u16)
 }
@@ -58,12 +47,8 @@ fn lift_goals(ws: &mut [u16], at: usize, n: usize, top: Position)
     requires { GoalsIn 96 ws.old at n }
     ensures { ws.new ≡ sets ws.old at (flat (map (lift_w top.0) (goals_from ws.old at n))) }
 {
-    let mut here = at;
-    let mut left = n;
-    while 0 < left {
-        let place = under(top, Position(ws[here + 1]));
-        ws[here + 1] = place.0;
-        here += 3;
-        left -= 1;
+    for i in 0..n {
+        let here = at + 3 * i + 1;
+        ws[here] = under(top, Position(ws[here])).0;
     }
 }

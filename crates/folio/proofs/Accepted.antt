@@ -3,6 +3,9 @@
 --   Accepted accepted               an accepted file has a meaning, which the tables hold
 --   made                            and a file that has one is accepted
 --   shape_terms_lem score_term_lem  the terms that the tables' words hold
+use Rattle.kinds.specs.declared.Refusal.{Refusal}
+use Rattle.kinds.specs.Reasons.{refused_at}
+use Rattle.std.specs.Prelude.{Err, Ok, Result}
 use mathlib.Core.Path.{◌≡◌, refl, ap, ap₂, sym, ◌∙◌}
 use mathlib.Core.List.{List, [], map, append-nil}
 use mathlib.Core.Bool.{Bool, true, false}
@@ -30,16 +33,9 @@ use Rattle.folio.specs.Folio as folio
 use Rattle.folio.specs.Folio.{starts_at, counts_in, answered, shape_terms, or_blank, score_term, Meaning}
 use Rattle.term.specs.Admitted.{GoodSymbols, IsScore, AreShapes}
 use Rattle.sections.specs.declared.Places.{Places}
-use Rattle.sections.specs.declared.Sections.{Sections}
-use Rattle.sections.specs.declared.Sections.TheVariants as sections
 use Rattle.term.specs.declared.Met.{Met}
 use Rattle.contents.specs.declared.ShapesMet.{ShapesMet}
-use Rattle.contents.specs.declared.Shapes.{Shapes}
-use Rattle.contents.specs.declared.Shapes.TheVariants as shapes
-use Rattle.contents.specs.declared.Score.{Score}
-use Rattle.contents.specs.declared.Score.TheVariants as score
 use Rattle.folio.specs.declared.Counts.{Counts}
-use Rattle.folio.specs.declared.Opened.TheVariants.{Folio, Refused}
 use Rattle.sections.proofs.LawsSections.{sections_in, sections_good}
 use Rattle.folio.proofs.LawsOpening.{stored_all, held_on, opened_at}
 use Rattle.folio.proofs.Symbols.{symbols_is, symbols_of_lem}
@@ -58,7 +54,7 @@ one_meaning file p m n = (
 -- ---- what is answered and written
 abbrev full : List ℕ → List ℕ → List ℕ → List ℕ → Counts → Lent → OpenOutcome
 full ar ws st sc k l =
-    out (Folio k)
+    out (Ok k)
     (lent (sets l.words 0 ws) (sets l.starts 0 st) (sets l.score 0 sc) (sets l.spans 0 (spans_of ar sc)))
 
 counts_are : (ar : List ℕ) (ss : List Term) (t : Term) → counts_of ar (gather flatten ss) (met_in ss) (flatten t) (met_with 0 t) ≡ counts_in ar ss t
@@ -76,20 +72,20 @@ full_answered : (ar : List ℕ) (ss : List Term) (t : Term) (l : Lent) → folio
 full_answered ar ss t l f =
     let few = f.limits.symbols.few_symbols in
     let sp = spans_are ar no_blank t (omega arith) f.is_score.fits in
-    ap₂ (λ (k : Counts) (x : List ℕ). out (Folio k)
+    ap₂ (λ (k : Counts) (x : List ℕ). out (Ok k)
     (lent (sets l.words 0 (gather flatten ss)) (sets l.starts 0 (starts_at 0 ss)) (sets l.score 0 (flatten t)) (sets l.spans 0 x)))
     (counts_are ar ss t) sp
 
 -- ---- what is accepted
-never_folio {κ} : {C : Type κ} {r : Reason} {p : ℕ} {k : Counts} → Refused r p ≡ Folio k → C
+never_folio {κ} : {C : Type κ} {r : Reason} {p : ℕ} {k : Counts} → Err (refused_at r p) ≡ Ok k → C
 never_folio e = let z : ◌≡◌ {A = ℕ} 0 1 = cc in absurd (omega arith)
 
-on_room {κ} : {C : Type κ} (b : Bool) (l : Lent) (o : OpenOutcome) (k : Counts) → (unless b (refuse_opening reason.Tables 0 l) o).answer ≡ Folio k
-    → (b ≡ true → o.answer ≡ Folio k → C) → C
+on_room {κ} : {C : Type κ} (b : Bool) (l : Lent) (o : OpenOutcome) (k : Counts) → (unless b (refuse_opening reason.Tables 0 l) o).answer ≡ Ok k
+    → (b ≡ true → o.answer ≡ Ok k → C) → C
 on_room true l o k e c = c refl e
 on_room false l o k e c = never_folio e
 
-stored_room : (ar ws st sc : List ℕ) (counts : Counts) (l : Lent) (k : Counts) → (stored ar ws st sc counts l).answer ≡ Folio k
+stored_room : (ar ws st sc : List ℕ) (counts : Counts) (l : Lent) (k : Counts) → (stored ar ws st sc counts l).answer ≡ Ok k
     → Room l (length ws) (length st) (length sc)
 unfolding stored
 stored_room ar ws st sc counts l k e =
@@ -108,22 +104,22 @@ stored_room ar ws st sc counts l k e =
 -- shapes and score pass, and there is room
 record Held (ar ws sc : List ℕ) (l : Lent) : Type 0 where
   found : ShapesMet
-  shaped : (shapes_of ar blank_word ws).answer ≡ shapes.Whole found
+  shaped : (shapes_of ar blank_word ws).answer ≡ Ok found
   tree : Met
-  whole : score_of ar sc ≡ score.Whole tree
+  whole : score_of ar sc ≡ Ok tree
   room : Room l (length ws) (length (shapes_of ar blank_word ws).starts) (length sc)
 
-held_in_lem : (ar ws sc : List ℕ) (at : ℕ) (l : Lent) (k : Counts) → (held ar ws sc at l).answer ≡ Folio k → Held ar ws sc l
+held_in_lem : (ar ws sc : List ℕ) (at : ℕ) (l : Lent) (k : Counts) → (held ar ws sc at l).answer ≡ Ok k → Held ar ws sc l
 unfolding held
 held_in_lem ar ws sc at l k e = go (shapes_of ar blank_word ws).answer refl (score_of ar sc) refl e
   where
-    go : (a : Shapes) → (shapes_of ar blank_word ws).answer ≡ a → (b : Score) → score_of ar sc ≡ b
+    go : (a : Result ShapesMet Refusal) → (shapes_of ar blank_word ws).answer ≡ a → (b : Result Met Refusal) → score_of ar sc ≡ b
         → (on_shapes a at l (λ n. on_score b (at + 2 * length ws) l (λ m. stored ar ws (shapes_of ar blank_word ws).starts sc (counts_of ar ws n sc m) l))).answer
-        ≡ Folio k
+        ≡ Ok k
         → Held ar ws sc l
-    go (shapes.Refused r i) ea b eb e = never_folio e
-    go (shapes.Whole n) ea (score.Refused r i) eb e = never_folio e
-    go (shapes.Whole n) ea (score.Whole m) eb e = record {
+    go (Err why) ea b eb e = never_folio e
+    go (Ok n) ea (Err why) eb e = never_folio e
+    go (Ok n) ea (Ok m) eb e = record {
       found = n;
       shaped = ea;
       tree = m;
@@ -133,12 +129,12 @@ held_in_lem ar ws sc at l k e = go (shapes_of ar blank_word ws).answer refl (sco
 
 pub record Accepted (file : List ℕ) (l : Lent) : Type 0 where
   pub places : Places
-  pub placed : sections_of file ≡ sections.At places
+  pub placed : sections_of file ≡ Ok places
   pub meaning : Meaning file places
   pub room : Room l (length (gather flatten meaning.shapes)) (length meaning.shapes) (span meaning.score)
   pub is : opened file l ≡ answered (take places.shapes file) meaning.shapes meaning.score l
 
-pub made_held : (file : List ℕ) (p : Places) (m : Meaning file p) (l : Lent) → sections_of file ≡ sections.At p
+pub made_held : (file : List ℕ) (p : Places) (m : Meaning file p) (l : Lent) → sections_of file ≡ Ok p
     → Room l (length (gather flatten m.shapes)) (length m.shapes) (span m.score)
     → opened file l ≡ answered (take p.shapes file) m.shapes m.score l
 made_held file p m l e room =
@@ -159,11 +155,11 @@ pub folio_of : (ar : List ℕ) (ss : List Term) (t : Term) → GoodSymbols ar �
     → folio.Folio ar ss t
 folio_of ar ss t g s a b c = record { limits = record { symbols = g; some_shape = a; few_shapes = b; are_shapes = s }; is_score = c }
 
-pub accepted : (file : List ℕ) (l : Lent) (k : Counts) → Below 256 file → (opened file l).answer ≡ Folio k → Accepted file l
+pub accepted : (file : List ℕ) (l : Lent) (k : Counts) → Below 256 file → (opened file l).answer ≡ Ok k → Accepted file l
 unfolding opened
 accepted file l k small e = go (sections_of file) refl e
   where
-    built : (p : Places) → sections_of file ≡ sections.At p
+    built : (p : Places) → sections_of file ≡ Ok p
         → Held (take p.shapes file) (words_of (take (p.score - p.shapes) (drop p.shapes file)))
         (words_of (take (p.end - p.score) (drop p.score file))) l → Accepted file l
     built p ep h =
@@ -190,13 +186,13 @@ accepted file l k small e = go (sections_of file) refl e
         } in
         record { places = p; placed = ep; meaning = m; room = r; is = made_held file p m l ep r }
 
-    go : (s : Sections) → sections_of file ≡ s → (on_sections s file l).answer ≡ Folio k → Accepted file l
-    go (sections.Refused r i) es e = never_folio e
-    go (sections.At p) es e = built p es (held_in_lem (take p.shapes file) (words_of (take (p.score - p.shapes) (drop p.shapes file)))
+    go : (s : Result Places Refusal) → sections_of file ≡ s → (on_sections s file l).answer ≡ Ok k → Accepted file l
+    go (Err why) es e = never_folio e
+    go (Ok p) es e = built p es (held_in_lem (take p.shapes file) (words_of (take (p.score - p.shapes) (drop p.shapes file)))
         (words_of (take (p.end - p.score) (drop p.score file))) p.shapes l k e)
 
 -- a file that passes 1 to 4, and whose sections are those of a folio
-pub made : (file : List ℕ) (p : Places) (m : Meaning file p) (l : Lent) → trailer_of file ≡ sections.At p
+pub made : (file : List ℕ) (p : Places) (m : Meaning file p) (l : Lent) → trailer_of file ≡ Ok p
     → Room l (length (gather flatten m.shapes)) (length m.shapes) (span m.score)
     → opened file l ≡ answered (take p.shapes file) m.shapes m.score l
 made file p m l e room =

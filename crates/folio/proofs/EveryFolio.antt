@@ -3,6 +3,7 @@
 --   trailer_of_lem meaning_of          it passes 1 to 4, and its sections mean the folio
 --   every_folio                        opening writes it to tables that have room
 --   bound_bytes file_short             its bytes are bytes
+use Rattle.std.specs.Prelude.{Ok}
 use mathlib.Core.Path.{◌≡◌, refl, ap, ap₂, sym, ◌∙◌}
 use mathlib.Core.List.{List, [], ◌∷◌, ◌++◌, append_assoc}
 use mathlib.Core.Logic.{⊎_elim}
@@ -23,7 +24,6 @@ use Rattle.folio.specs.Folio as folio
 use Rattle.folio.specs.Folio.{answered, Meaning}
 use Rattle.term.specs.Admitted.{AreShapes}
 use Rattle.sections.specs.declared.Places.{Places}
-use Rattle.sections.specs.declared.Sections.TheVariants.{At}
 use Rattle.sections.proofs.LawsSections.{trailer_to, distances_at}
 use Rattle.folio.proofs.Accepted.{made}
 
@@ -56,7 +56,7 @@ module _ (front : List ℕ) (a b c : ℕ) where
       omega (arith, p, q)
 
   pub trailer_at_lem : length front ≤ 8736 → a ≡ length front → b ≤ a → c ≤ b → b % 2 ≡ 0 → c % 2 ≡ 0
-      → trailer_of (front ++ trailer a b c) ≡ At (places (length front - b) (length front - c) (length front))
+      → trailer_of (front ++ trailer a b c) ≡ Ok (places (length front - b) (length front - c) (length front))
   trailer_at_lem short ea ba cb eb ec =
       let n = size in
       trailer_to (front ++ trailer a b c) (omega arith) (omega arith) (behind (length (front ++ trailer a b c) - 2) 6 (omega arith))
@@ -91,7 +91,7 @@ module _ (ar : List ℕ) (ss : List Term) (t : Term) (f : folio.Folio ar ss t) w
   abbrev pub at : Places
   at = places (length ar) (length ar + 2 * length ws) (length ar + (2 * length ws + 2 * length sc))
 
-  pub trailer_of_lem : trailer_of (file_of ar ss t) ≡ At at
+  pub trailer_of_lem : trailer_of (file_of ar ss t) ≡ Ok at
   trailer_of_lem =
       let l = length_body ar ws sc in
       let w = few_words ar ss f.limits.are_shapes in
@@ -103,8 +103,8 @@ module _ (ar : List ℕ) (ss : List Term) (t : Term) (f : folio.Folio ar ss t) w
       let y : length (body ar ws sc) - 2 * length sc ≡ length ar + 2 * length ws = omega arith in
       trailer_at_lem (body ar ws sc) (length (body ar ws sc)) (2 * length ws + 2 * length sc) (2 * length sc) (omega arith) refl (omega arith)
       (omega arith) (omega arith) (omega arith)
-      ∙ ap₂ (λ (u v : ℕ). At (places u v (length (body ar ws sc)))) x y
-      ∙ ap (λ (v : ℕ). At (places (length ar) (length ar + 2 * length ws) v)) l
+      ∙ ap₂ (λ (u v : ℕ). Ok (places u v (length (body ar ws sc)))) x y
+      ∙ ap (λ (v : ℕ). Ok (places (length ar) (length ar + 2 * length ws) v)) l
 
   parts : file_of ar ss t ≡ ar ++ (bytes_of ws ++ (bytes_of sc ++ rest))
   parts = append_assoc ar (bytes_of ws ++ bytes_of sc) rest ∙ ap (λ (l : List ℕ). ar ++ l) (append_assoc (bytes_of ws) (bytes_of sc) rest)

@@ -1,8 +1,11 @@
 -- Opening, way by way.
---   stored_words stored_starts stored_score stored_spans stored_all stored_written   18, then the four tables
+--   stored_words stored_starts stored_score stored_spans stored_all   18, then the four tables
 --   held_shapes held_score held_on                     7 to 17
 --   opened_refused opened_at                           1 to 6
 --   parts_shapes parts_score parts_on, shape_part_lem score_part_lem opened_held  the same with the parts as the code has them
+use Rattle.kinds.specs.declared.Refusal.{Refusal}
+use Rattle.kinds.specs.Reasons.{refused_at}
+use Rattle.std.specs.Prelude.{Err, Ok, Result}
 use Prim.Native.Nat.{ℕ, ◌+◌, ◌*◌, ◌-◌, ◌/◌, ◌<◌, ◌≤◌}
 use mathlib.Core.Path.{◌≡◌, ap, ap₂, sym, ◌∙◌}
 use mathlib.Core.List.{List}
@@ -19,15 +22,10 @@ use Rattle.term.specs.Spans.{spans_of}
 use Rattle.sections.specs.Bytes.{words_of}
 use Rattle.sections.specs.Sections.{sections_of}
 use Rattle.sections.specs.declared.Places.{Places}
-use Rattle.sections.specs.declared.Sections.{Sections}
-use Rattle.sections.specs.declared.Sections.TheVariants as sections
 use Rattle.contents.specs.Tables.{shapes_of, score_of}
 use Rattle.kinds.specs.Limits.{blank_word}
 use Rattle.term.specs.declared.Met.{Met}
 use Rattle.contents.specs.declared.ShapesMet.{ShapesMet}
-use Rattle.contents.specs.declared.Shapes.TheVariants as shapes
-use Rattle.contents.specs.declared.Score.TheVariants as score
-use Rattle.folio.specs.declared.Opened.TheVariants.{Folio}
 use Rattle.folio.specs.declared.Counts.{Counts}
 use Rattle.folio.specs.Opening.{Lent, lent, out, refuse_opening, counts_of, stored, held, on_sections, opened}
 use Rattle.sections.proofs.LawsBytes.{length_words, words_take, words_drop}
@@ -54,45 +52,36 @@ module _ (ar ws st sc : List ℕ) (k : Counts) (l : Lent) where
   stored_spans a b c d = rw (le-leb _ _ a, le-leb _ _ b, le-leb _ _ c, lt-leb _ _ d)
 
   pub stored_all : length ws ≤ length l.words → length st ≤ length l.starts → length sc ≤ length l.score → length sc ≤ length l.spans
-      → stored ar ws st sc k l ≡ out (Folio k)
+      → stored ar ws st sc k l ≡ out (Ok k)
       (lent (sets l.words 0 ws) (sets l.starts 0 st) (sets l.score 0 sc) (sets l.spans 0 (spans_of ar sc)))
   unfolding stored
   stored_all a b c d = rw (le-leb _ _ a, le-leb _ _ b, le-leb _ _ c, le-leb _ _ d)
 
--- the tables as they are written one by one
-pub stored_written : (ar ws st sc : List ℕ) (k : Counts) (l : Lent) {w t s p : List ℕ} → length ws ≤ length l.words → length st ≤ length l.starts
-    → length sc ≤ length l.score → length sc ≤ length l.spans
-    → w ≡ sets l.words 0 ws → t ≡ sets l.starts 0 st → s ≡ sets l.score 0 sc → p ≡ sets l.spans 0 (spans_of ar sc)
-    → out (Folio k) (lent w t s p) ≡ stored ar ws st sc k l
-stored_written ar ws st sc k l a b c d ew et es ep =
-    (λ i. out (Folio k) (lent (ew i) (et i) (es i) (ep i)))
-    ∙ sym (stored_all ar ws st sc k l a b c d)
-
 module _ (ar ws sc : List ℕ) (at : ℕ) (l : Lent) where
-  pub held_shapes : {r : Reason} {i : ℕ} → (shapes_of ar blank_word ws).answer ≡ shapes.Refused r i → held ar ws sc at l ≡ refuse_opening r (at + 2 * i) l
+  pub held_shapes : {r : Reason} {i : ℕ} → (shapes_of ar blank_word ws).answer ≡ Err (refused_at r i) → held ar ws sc at l ≡ refuse_opening r (at + 2 * i) l
   unfolding held
   held_shapes e = rw e
 
-  pub held_score : {k : ShapesMet} {r : Reason} {i : ℕ} → (shapes_of ar blank_word ws).answer ≡ shapes.Whole k → score_of ar sc ≡ score.Refused r i
+  pub held_score : {k : ShapesMet} {r : Reason} {i : ℕ} → (shapes_of ar blank_word ws).answer ≡ Ok k → score_of ar sc ≡ Err (refused_at r i)
       → held ar ws sc at l ≡ refuse_opening r (at + 2 * length ws + 2 * i) l
   unfolding held
   held_score e f = rw (e, f)
 
-  pub held_on : {k : ShapesMet} {m : Met} → (shapes_of ar blank_word ws).answer ≡ shapes.Whole k → score_of ar sc ≡ score.Whole m
+  pub held_on : {k : ShapesMet} {m : Met} → (shapes_of ar blank_word ws).answer ≡ Ok k → score_of ar sc ≡ Ok m
       → held ar ws sc at l ≡ stored ar ws (shapes_of ar blank_word ws).starts sc (counts_of ar ws k sc m) l
   unfolding held
   held_on e f = rw (e, f)
 
 module _ (file : List ℕ) (l : Lent) where
-  pub opened_refused : {r : Reason} {p : ℕ} → sections_of file ≡ sections.Refused r p → opened file l ≡ refuse_opening r p l
+  pub opened_refused : {r : Reason} {p : ℕ} → sections_of file ≡ Err (refused_at r p) → opened file l ≡ refuse_opening r p l
   unfolding opened
-  opened_refused e = ap (λ (s : Sections). on_sections s file l) e
+  opened_refused e = ap (λ (s : Result Places Refusal). on_sections s file l) e
 
-  pub opened_at : (p : Places) → sections_of file ≡ sections.At p
+  pub opened_at : (p : Places) → sections_of file ≡ Ok p
       → opened file l ≡ held (take p.shapes file) (words_of (take (p.score - p.shapes) (drop p.shapes file)))
       (words_of (take (p.end - p.score) (drop p.score file))) p.shapes l
   unfolding opened
-  opened_at p e = ap (λ (s : Sections). on_sections s file l) e
+  opened_at p e = ap (λ (s : Result Places Refusal). on_sections s file l) e
 
 -- ---- the same with the parts as the code has them
 
@@ -113,19 +102,19 @@ module _ (ar both : List ℕ) (m : ℕ) (fits : m ≤ length both) where
       at l
   held_parts at l = ap₂ (λ (x y : List ℕ). held ar x y at l) (sym ws_is) (sym sc_is)
 
-  pub parts_shapes : (at : ℕ) (l : Lent) {r : Reason} {i : ℕ} → (shapes_of ar blank_word (take (m - 0) both)).answer ≡ shapes.Refused r i
+  pub parts_shapes : (at : ℕ) (l : Lent) {r : Reason} {i : ℕ} → (shapes_of ar blank_word (take (m - 0) both)).answer ≡ Err (refused_at r i)
       → held ar (take m both) (drop m both) at l ≡ refuse_opening r (at + 2 * i) l
   parts_shapes at l e = held_parts at l ∙ held_shapes _ _ _ at l e
 
-  pub parts_score : (at : ℕ) (l : Lent) {k : ShapesMet} {r : Reason} {i : ℕ} → (shapes_of ar blank_word (take (m - 0) both)).answer ≡ shapes.Whole k
-      → score_of ar (take (length both - m) (drop m both)) ≡ score.Refused r i
+  pub parts_score : (at : ℕ) (l : Lent) {k : ShapesMet} {r : Reason} {i : ℕ} → (shapes_of ar blank_word (take (m - 0) both)).answer ≡ Ok k
+      → score_of ar (take (length both - m) (drop m both)) ≡ Err (refused_at r i)
       → held ar (take m both) (drop m both) at l ≡ refuse_opening r (at + 2 * m + 2 * i) l
   parts_score at l {r = r} {i = i} e f = held_parts at l ∙ held_score ar (take (m - 0) both) _ at l e f
       ∙ ap (λ (n : ℕ). refuse_opening r (at + 2 * n + 2 * i) l) ws_length
 
   pub parts_on : (at : ℕ) (l : Lent) (k : ShapesMet) (z f : List ℕ) {t : Met} {counts : Counts}
-      → (shapes_of ar blank_word (take (m - 0) both)).answer ≡ shapes.Whole k
-      → score_of ar (take (length both - m) (drop m both)) ≡ score.Whole t → length z ≡ 16
+      → (shapes_of ar blank_word (take (m - 0) both)).answer ≡ Ok k
+      → score_of ar (take (length both - m) (drop m both)) ≡ Ok t → length z ≡ 16
       → f ≡ sets z 0 (shapes_of ar blank_word (take (m - 0) both)).starts
       → counts ≡ counts_of ar (take (m - 0) both) k (take (length both - m) (drop m both)) t
       → held ar (take m both) (drop m both) at l ≡ stored ar (take (m - 0) both) (take (k.number - 0) f) (take (length both - m) (drop m both)) counts l
@@ -182,7 +171,7 @@ module _ (file : List ℕ) (p : Places) (d : Placed file p) (z a : List ℕ) (lz
       (omega (arith, length-drop p.shapes file, d.first, d.second, d.size)))
       ∙ ap (λ (x : List ℕ). words_of (take (p.end - p.score) x)) (drop-drop (p.score - p.shapes) p.shapes file ∙ ap (λ (n : ℕ). drop n file) s)
 
-  pub opened_held : (l : Lent) → sections_of file ≡ sections.At p → opened file l
+  pub opened_held : (l : Lent) → sections_of file ≡ Ok p → opened file l
       ≡ held (take (p.shapes - 0) file) (take ((p.score - p.shapes) / 2) (take ((p.end - p.shapes) / 2 - 0) a))
       (drop ((p.score - p.shapes) / 2) (take ((p.end - p.shapes) / 2 - 0) a)) p.shapes l
   opened_held l e =

@@ -3,6 +3,7 @@
 --   whole_of below_of       what has no word from 65,536 on has no blank, and the way back
 --   Scored score_is         the words are those of a score
 --   score_of_lem            and the way back: it is met with its words and its depth
+use Rattle.std.specs.Prelude.{Ok}
 use mathlib.Core.Path.{◌≡◌, refl, ap, sym, ◌∙◌}
 use mathlib.Core.List.{List, [], ◌∷◌, ◌++◌, append-nil}
 use mathlib.Core.Logic.{⊎_elim}
@@ -17,7 +18,6 @@ use Rattle.term.proofs.LawsReading.{whole_in}
 use Rattle.term.proofs.WholeTerm.{whole_term}
 use Rattle.term.proofs.TermWhole.{met_with, read_back}
 use Rattle.sections.specs.Bytes.{words_of}
-use Rattle.contents.specs.declared.Score.TheVariants as score
 use Rattle.contents.specs.Tables.{score_limits, score_of}
 use Rattle.kinds.specs.Limits.{no_blank, score_levels}
 use Rattle.folio.specs.Folio.{Scored}
@@ -51,7 +51,7 @@ mutual
   belows_of ar tnil f h v m = in_none m
   belows_of ar (tcons t ts) f h v m = ⊎_elim (λ i. below_of ar t f.0 h.0 v i) (λ i. belows_of ar ts f.1 h.1 v i) (∈_append (flatten t) m)
 
-pub score_is : (ar ws : List ℕ) (m : Met) → Below 65536 ws → score_of ar ws ≡ score.Whole m → Scored ar ws
+pub score_is : (ar ws : List ℕ) (m : Met) → Below 65536 ws → score_of ar ws ≡ Ok m → Scored ar ws
 score_is ar ws m small e =
     let r = score_read ar ws m e in
     let a = whole_term ar ws (score_limits 0) score_levels 0 m r.0 in
@@ -70,7 +70,7 @@ score_is ar ws m small e =
       words = q;
     }
 
-pub score_of_lem : (ar : List ℕ) (t : Term) → IsScore ar t → score_of ar (flatten t) ≡ score.Whole (met_with 0 t)
+pub score_of_lem : (ar : List ℕ) (t : Term) → IsScore ar t → score_of ar (flatten t) ≡ Ok (met_with 0 t)
 score_of_lem ar t s =
     let d = s.flat in
     let n = s.small in

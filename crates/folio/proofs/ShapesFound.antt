@@ -6,6 +6,10 @@
 --   others pushes shapes_past     shapes in front of words that are any: what they are met with, and their starts
 --   met_in shapes_found           and all of them
 --   all_once                      shapes' words determine the shapes
+use Rattle.kinds.specs.declared.Refusal.{Refusal}
+use Rattle.term.specs.declared.Fault.{Fault}
+use Rattle.kinds.specs.Reasons.{refused_at}
+use Rattle.std.specs.Prelude.{Err, Ok, Result}
 use mathlib.Core.Path.{◌≡◌, refl, ap, ap₂, sym, ◌∙◌}
 use mathlib.Core.List.{List, [], ◌∷◌, ◌++◌, map, append-nil, append_assoc}
 use mathlib.Core.Bool.{Bool, true, false, cond}
@@ -24,16 +28,12 @@ use Rattle.kinds.proofs.Bools.{false_true}
 use Rattle.term.specs.Terms.{Term, blank, node, span, depth, flatten, Fits}
 use Rattle.term.specs.Reading.{reading}
 use Rattle.term.specs.declared.Met.{Met}
-use Rattle.term.specs.declared.Reading.{Reading}
-use Rattle.term.specs.declared.Reading.TheVariants as read
 use Rattle.term.proofs.LawsReading.{whole_in}
 use Rattle.term.proofs.WholeTerm.{TermAt, whole_term}
 use Rattle.term.proofs.TermWhole.{first, met_with, read_back}
 use Rattle.term.proofs.OneTerm.{once}
 use Rattle.term.proofs.Sizes.{length_flatten, span_pos}
 use Rattle.contents.specs.declared.ShapesMet.{ShapesMet}
-use Rattle.contents.specs.declared.Shapes.{Shapes}
-use Rattle.contents.specs.declared.Shapes.TheVariants as shapes
 use Rattle.contents.specs.Tables.{shape_limits, shapes_met, another, ShapesRead, shapes_read, push, one_shape, shapes_from, shapes_of}
 use Rattle.kinds.specs.Limits.{blank_word, shape_levels}
 use Rattle.folio.specs.Folio.{starts_at, Shaped}
@@ -64,14 +64,14 @@ solid ar ws d at m r h g = go r.tree r.fits r.words
         absurd (omega arith)
     go (node g ts) f q = refl
 
-pub shapes_at_lem : (ar ws : List ℕ) (c : ℕ) (n : ShapesMet) (at : ℕ) (k : ShapesMet) → (shapes_from ar blank_word ws c n at).answer ≡ shapes.Whole k
+pub shapes_at_lem : (ar ws : List ℕ) (c : ℕ) (n : ShapesMet) (at : ℕ) (k : ShapesMet) → (shapes_from ar blank_word ws c n at).answer ≡ Ok k
     → ShapesAt ar ws (shapes_from ar blank_word ws c n at).starts at
 unfolding shapes_from
 shapes_at_lem ar ws zero n at k e = go (ltb at (length ws)) refl e
   where
     go : (b : Bool) → ltb at (length ws) ≡ b
-        → (cond b (shapes_read (shapes.Refused reason.Shapes at) []) (shapes_read (shapes.Whole n) [])).answer ≡ shapes.Whole k
-        → ShapesAt ar ws (cond b (shapes_read (shapes.Refused reason.Shapes at) []) (shapes_read (shapes.Whole n) [])).starts at
+        → (cond b (shapes_read (Err (refused_at reason.Shapes at)) []) (shapes_read (Ok n) [])).answer ≡ Ok k
+        → ShapesAt ar ws (cond b (shapes_read (Err (refused_at reason.Shapes at)) []) (shapes_read (Ok n) [])).starts at
     go true eb e = never_found e
     go false eb e = no_shapes ar ws at eb
 shapes_at_lem ar ws (suc c) n at k e =
@@ -91,15 +91,15 @@ shapes_at_lem ar ws (suc c) n at k e =
         both t (here q) = rw q s
         both t (there i) = b.each t i
 
-    go : (b : Bool) → ltb at (length ws) ≡ b → (r : Reading) → reading ar ws (shape_limits blank_word at) shape_levels at ≡ r → (lone : Bool)
+    go : (b : Bool) → ltb at (length ws) ≡ b → (r : Result Met (Fault × ℕ)) → reading ar ws (shape_limits blank_word at) shape_levels at ≡ r → (lone : Bool)
         → leb blank_word (get_or ws at 0) ≡ lone
-        → (cond b (one_shape r at lone (shapes_on ar blank_word ws c n)) (shapes_read (shapes.Whole n) [])).answer ≡ shapes.Whole k
-        → ((m : Met) → (shapes_on ar blank_word ws c n m).answer ≡ shapes.Whole k → ShapesAt ar ws (shapes_on ar blank_word ws c n m).starts m.end)
-        → ShapesAt ar ws (cond b (one_shape r at lone (shapes_on ar blank_word ws c n)) (shapes_read (shapes.Whole n) [])).starts at
+        → (cond b (one_shape r at lone (shapes_on ar blank_word ws c n)) (shapes_read (Ok n) [])).answer ≡ Ok k
+        → ((m : Met) → (shapes_on ar blank_word ws c n m).answer ≡ Ok k → ShapesAt ar ws (shapes_on ar blank_word ws c n m).starts m.end)
+        → ShapesAt ar ws (cond b (one_shape r at lone (shapes_on ar blank_word ws c n)) (shapes_read (Ok n) [])).starts at
     go false eb r er lone el e ih = no_shapes ar ws at eb
-    go true eb (read.Refused f p) er lone el e ih = never_found e
-    go true eb (read.Whole m) er true el e ih = never_found e
-    go true eb (read.Whole m) er false el e ih =
+    go true eb (Err (f, p)) er lone el e ih = never_found e
+    go true eb (Ok m) er true el e ih = never_found e
+    go true eb (Ok m) er false el e ih =
         let a = whole_term ar ws (shape_limits blank_word at) shape_levels at m er in
         let w = whole_in ar ws (shape_limits blank_word at) shape_levels at m er in
         let s : IsShape ar a.tree = record {
@@ -111,7 +111,7 @@ shapes_at_lem ar ws (suc c) n at k e =
         } in
         join m a s (shapes_on ar blank_word ws c n m).starts (ih m e)
 
-pub found_shapes : (ar ws : List ℕ) (k : ShapesMet) → (shapes_of ar blank_word ws).answer ≡ shapes.Whole k → Shaped ar ws (shapes_of ar blank_word ws).starts
+pub found_shapes : (ar ws : List ℕ) (k : ShapesMet) → (shapes_of ar blank_word ws).answer ≡ Ok k → Shaped ar ws (shapes_of ar blank_word ws).starts
 unfolding shapes_of
 found_shapes ar ws k e = go (ltb 0 (length ws)) refl e
   where
@@ -120,8 +120,8 @@ found_shapes ar ws k e = go (ltb 0 (length ws)) refl e
     some_of (t ∷ ts) h q = omega arith
 
     go : (b : Bool) → ltb 0 (length ws) ≡ b
-        → (cond b (shapes_from ar blank_word ws 16 (shapes_met 0 0) 0) (shapes_read (shapes.Refused reason.Shapes 0) [])).answer ≡ shapes.Whole k
-        → Shaped ar ws (cond b (shapes_from ar blank_word ws 16 (shapes_met 0 0) 0) (shapes_read (shapes.Refused reason.Shapes 0) [])).starts
+        → (cond b (shapes_from ar blank_word ws 16 (shapes_met 0 0) 0) (shapes_read (Err (refused_at reason.Shapes 0)) [])).answer ≡ Ok k
+        → Shaped ar ws (cond b (shapes_from ar blank_word ws 16 (shapes_met 0 0) 0) (shapes_read (Err (refused_at reason.Shapes 0)) [])).starts
     go true eb e =
         let f = shapes_at_lem ar ws 16 (shapes_met 0 0) 0 k e in
         let c = found_from_lem ar blank_word ws 16 (shapes_met 0 0) 0 k e in
@@ -157,7 +157,7 @@ pub pushes_answer : (st : List ℕ) (r : ShapesRead) → (pushes st r).answer �
 pushes_answer [] r = refl
 pushes_answer (at ∷ st) r = pushes_answer st r
 
-pushes_end : (st : List ℕ) (a : Shapes) → pushes st (shapes_read a []) ≡ shapes_read a st
+pushes_end : (st : List ℕ) (a : Result ShapesMet Refusal) → pushes st (shapes_read a []) ≡ shapes_read a st
 pushes_end [] a = refl
 pushes_end (at ∷ st) a = ap (push at) (pushes_end st a)
 
@@ -201,7 +201,7 @@ met_others ts =
     λ i. shapes_met (zero-add (length ts) i) (z i)
 
 pub shapes_found : (ar : List ℕ) (ts : List Term) → AreShapes ar ts → 1 ≤ length ts → length ts ≤ 16
-    → shapes_of ar blank_word (gather flatten ts) ≡ shapes_read (shapes.Whole (met_in ts)) (starts_at 0 ts)
+    → shapes_of ar blank_word (gather flatten ts) ≡ shapes_read (Ok (met_in ts)) (starts_at 0 ts)
 shapes_found ar ts s some few =
     let ws = gather flatten ts in
     let k = others (shapes_met 0 0) ts in
@@ -210,8 +210,8 @@ shapes_found ar ts s some few =
     ∙ ap (λ n. shapes_from ar blank_word ws n (shapes_met 0 0) 0) sixteen
     ∙ shapes_past ar ws ts (16 - length ts) (shapes_met 0 0) 0 [] s (sym (append-nil ws))
     ∙ ap (pushes (starts_at 0 ts)) (shapes_done ar blank_word ws k.number k.depth (0 + length ws) (16 - length ts) (omega arith))
-    ∙ pushes_end (starts_at 0 ts) (shapes.Whole k)
-    ∙ ap (λ (m : ShapesMet). shapes_read (shapes.Whole m) (starts_at 0 ts)) (met_others ts)
+    ∙ pushes_end (starts_at 0 ts) (Ok k)
+    ∙ ap (λ (m : ShapesMet). shapes_read (Ok m) (starts_at 0 ts)) (met_others ts)
 
 -- ---- one list of shapes
 no_words : (t : Term) (r : List ℕ) → [] ≡ flatten t ++ r → ⊥

@@ -2,6 +2,8 @@
 --   piece_term                   of any words
 --   Piece piece_or_none          and the way back
 --   subtree_shape subtree_score  of the table asked for
+use Rattle.term.specs.declared.Fault.{Fault}
+use Rattle.std.specs.Prelude.{Err, Ok, Result}
 use mathlib.Core.Path.{◌≡◌, refl, ap, ◌∙◌}
 use mathlib.Core.List.{List, [], ◌++◌}
 use mathlib.Core.Logic.{◌⊎◌, inl, inr}
@@ -14,8 +16,6 @@ use Rattle.term.specs.Terms.{Term, span, depth, flatten, Fits}
 use Rattle.term.specs.Reading.{reading}
 use Rattle.term.specs.declared.Limits.{Limits}
 use Rattle.term.specs.declared.Met.{Met}
-use Rattle.term.specs.declared.Reading.{Reading}
-use Rattle.term.specs.declared.Reading.TheVariants as read
 use Rattle.term.proofs.LawsReading.{whole_in}
 use Rattle.term.proofs.WholeTerm.{TermAt, whole_term}
 use Rattle.term.proofs.TermWhole.{read_back}
@@ -48,9 +48,9 @@ module _ (ar ws : List ℕ) (l : Limits) (levels at : ℕ) where
   pub piece_or_none : Piece ⊎ (piece_at ar ws l levels at ≡ [])
   piece_or_none = go (reading ar ws l levels at) refl
     where
-      go : (r : Reading) → reading ar ws l levels at ≡ r → Piece ⊎ (piece_at ar ws l levels at ≡ [])
-      go (read.Refused f p) e = inr (piece_none ar ws l levels at e)
-      go (read.Whole m) e =
+      go : (r : Result Met (Fault × ℕ)) → reading ar ws l levels at ≡ r → Piece ⊎ (piece_at ar ws l levels at ≡ [])
+      go (Err (f, p)) e = inr (piece_none ar ws l levels at e)
+      go (Ok m) e =
           let t = whole_term ar ws l levels at m e in
           let few = (whole_in ar ws l levels at m e).few in
           inl (record {

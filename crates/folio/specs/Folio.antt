@@ -6,7 +6,7 @@
 --   counts_in    how many symbols, shapes, shape words and nodes a folio has, its score's depth and the greatest of its shapes' depths
 --   answered     what opening answers and writes for a folio
 --   shape_terms  the shapes that shape words hold; score_term the score that score words hold, a blank where they hold none
-use Rattle.std.specs.Prelude.{◌≡◌, List, [], ◌∷◌, map, ℕ, ◌+◌, ◌≤◌, length}
+use Rattle.std.specs.Prelude.{◌≡◌, List, [], ◌∷◌, map, ℕ, ◌+◌, ◌≤◌, length, Ok}
 use Rattle.std.proofs.Math.Option.{none, some}
 use Rattle.std.proofs.lemmas.List.Edits.{sets}
 use Rattle.kinds.specs.Limits.{most_shapes, blank_word, no_blank, shape_levels, score_levels}
@@ -15,7 +15,6 @@ use Rattle.term.specs.Terms.{Term, blank, span, depth, flatten, sizes, Read, par
 use Rattle.term.specs.Admitted.{AreShapes, Limits, IsScore}
 use Rattle.folio.specs.Opening.{Lent, OpenOutcome, lent, out}
 use Rattle.folio.specs.declared.Counts.{Counts}
-use Rattle.folio.specs.declared.Opened.TheVariants as opening
 use Rattle.sections.specs.Sections.{symbols_at, shapes_at, score_at}
 use Rattle.sections.specs.declared.Places.{Places}
 
@@ -81,5 +80,5 @@ counts_in ar ss t = record {
 -- what opening answers and writes for a folio
 abbrev pub answered : List ℕ → List Term → Term → Lent → OpenOutcome
 answered ar ss t l =
-    out (opening.Folio (counts_in ar ss t))
+    out (Ok (counts_in ar ss t))
     (lent (sets l.words 0 (gather flatten ss)) (sets l.starts 0 (starts_at 0 ss)) (sets l.score 0 (flatten t)) (sets l.spans 0 (sizes t)))

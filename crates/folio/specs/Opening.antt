@@ -8,27 +8,21 @@
 --   held          7 to 18: the shapes' first word is at byte `at`, the score's behind their last
 --   opened        1 to 18
 --   opened_says   the answer in document 01's numbers
-use Rattle.std.specs.Prelude.{ℕ, ◌+◌, ◌*◌, ◌≤◌, List, [], ◌∷◌, leb, length}
+use Rattle.kinds.specs.declared.Refusal.{Refusal}
+use Rattle.sections.specs.declared.Places.{Places}
+use Rattle.std.specs.Prelude.{ℕ, ◌+◌, ◌*◌, ◌≤◌, List, [], ◌∷◌, leb, length, Err, Ok, Result}
 use Rattle.std.proofs.lemmas.List.Edits.{sets}
 use Rattle.kinds.specs.Lists.{unless}
-use Rattle.kinds.specs.Reasons.{Says, gives, refuses}
+use Rattle.kinds.specs.Reasons.{Says, gives, refuses, refused_at}
 use Rattle.kinds.specs.declared.Reason.{Reason}
 use Rattle.kinds.specs.declared.Reason.TheVariants as reason
 use Rattle.term.specs.Spans.{spans_of}
 use Rattle.sections.specs.Sections.{sections_of, symbols_at, shapes_at, score_at}
-use Rattle.sections.specs.declared.Sections.{Sections}
-use Rattle.sections.specs.declared.Sections.TheVariants as sections
 use Rattle.term.specs.declared.Met.{Met}
 use Rattle.contents.specs.Tables.{shapes_of, score_of}
 use Rattle.kinds.specs.Limits.{blank_word}
 use Rattle.contents.specs.declared.ShapesMet.{ShapesMet}
-use Rattle.contents.specs.declared.Shapes.{Shapes}
-use Rattle.contents.specs.declared.Shapes.TheVariants as shapes
-use Rattle.contents.specs.declared.Score.{Score}
-use Rattle.contents.specs.declared.Score.TheVariants as score
 use Rattle.folio.specs.declared.Counts.{Counts}
-use Rattle.folio.specs.declared.Opened.{Opened}
-use Rattle.folio.specs.declared.Opened.TheVariants.{Folio, Refused}
 
 pub record Lent : Type 0 where
   pub words : List ℕ
@@ -37,7 +31,7 @@ pub record Lent : Type 0 where
   pub spans : List ℕ
 
 pub record OpenOutcome : Type 0 where
-  pub answer : Opened
+  pub answer : Result Counts Refusal
   pub tables : Lent
 
 -- "shorter than the shape words, shapes, n or n it must hold": not so
@@ -50,11 +44,11 @@ pub record Room (l : Lent) (w s n : ℕ) : Type 0 where
 abbrev pub lent : List ℕ → List ℕ → List ℕ → List ℕ → Lent
 lent w st sc sp = record { words = w; starts = st; score = sc; spans = sp }
 
-abbrev pub out : Opened → Lent → OpenOutcome
+abbrev pub out : Result Counts Refusal → Lent → OpenOutcome
 out a l = record { answer = a; tables = l }
 
 abbrev pub refuse_opening : Reason → ℕ → Lent → OpenOutcome
-refuse_opening r p l = out (Refused r p) l
+refuse_opening r p l = out (Err (refused_at r p)) l
 
 abbrev pub counts_of : List ℕ → List ℕ → ShapesMet → List ℕ → Met → Counts
 counts_of ar ws k sc m =
@@ -66,16 +60,16 @@ stored ar ws st sc counts l =
     (unless (leb (length st) (length l.starts)) (refuse_opening reason.Tables 0 l)
     (unless (leb (length sc) (length l.score)) (refuse_opening reason.Tables 0 l)
     (unless (leb (length sc) (length l.spans)) (refuse_opening reason.Tables 0 l)
-    (out (Folio counts)
+    (out (Ok counts)
     (lent (sets l.words 0 ws) (sets l.starts 0 st) (sets l.score 0 sc) (sets l.spans 0 (spans_of ar sc)))))))
 
-abbrev pub on_score : Score → ℕ → Lent → (Met → OpenOutcome) → OpenOutcome
-on_score (score.Refused r i) at l on = refuse_opening r (at + 2 * i) l
-on_score (score.Whole m) at l on = on m
+abbrev pub on_score : Result Met Refusal → ℕ → Lent → (Met → OpenOutcome) → OpenOutcome
+on_score (Err why) at l on = refuse_opening why.0 (at + 2 * why.1) l
+on_score (Ok m) at l on = on m
 
-abbrev pub on_shapes : Shapes → ℕ → Lent → (ShapesMet → OpenOutcome) → OpenOutcome
-on_shapes (shapes.Refused r i) at l on = refuse_opening r (at + 2 * i) l
-on_shapes (shapes.Whole k) at l on = on k
+abbrev pub on_shapes : Result ShapesMet Refusal → ℕ → Lent → (ShapesMet → OpenOutcome) → OpenOutcome
+on_shapes (Err why) at l on = refuse_opening why.0 (at + 2 * why.1) l
+on_shapes (Ok k) at l on = on k
 
 unfoldable pub held : List ℕ → List ℕ → List ℕ → ℕ → Lent → OpenOutcome
 held ar ws sc at l =
@@ -83,14 +77,14 @@ held ar ws sc at l =
     on_score (score_of ar sc) (at + 2 * length ws) l (λ m.
     stored ar ws (shapes_of ar blank_word ws).starts sc (counts_of ar ws k sc m) l))
 
-abbrev pub on_sections : Sections → List ℕ → Lent → OpenOutcome
-on_sections (sections.Refused r p) file l = refuse_opening r p l
-on_sections (sections.At p) file l =
+abbrev pub on_sections : Result Places Refusal → List ℕ → Lent → OpenOutcome
+on_sections (Err why) file l = refuse_opening why.0 why.1 l
+on_sections (Ok p) file l =
     held (symbols_at file p) (shapes_at file p) (score_at file p) p.shapes l
 
 unfoldable pub opened : List ℕ → Lent → OpenOutcome
 opened file l = on_sections (sections_of file) file l
 
-abbrev pub opened_says : Opened → Says
-opened_says (Folio c) = gives (c.symbols ∷ c.shapes ∷ c.words ∷ c.nodes ∷ c.depth ∷ c.deepest ∷ [])
-opened_says (Refused r p) = refuses r p
+abbrev pub opened_says : Result Counts Refusal → Says
+opened_says (Ok c) = gives (c.symbols ∷ c.shapes ∷ c.words ∷ c.nodes ∷ c.depth ∷ c.deepest ∷ [])
+opened_says (Err why) = refuses why.0 why.1

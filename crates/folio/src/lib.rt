@@ -18,9 +18,3 @@ pub struct Counts {
     pub depth: usize,
     pub deepest: usize,
 }
-
-#[derive(Clone, Copy)]
-pub enum Opened {
-    Folio(Counts),
-    Refused(Reason, usize),
-}

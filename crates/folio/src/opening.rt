@@ -3,12 +3,11 @@ ghost use Rattle.folio.specs.Holding.{Sectioned};
 ghost use Rattle.folio.specs.Opening.{lent, out, counts_of, stored, held, opened};
 
 use crate::storing::{put, put_spans};
-use crate::{Counts, Opened, SECTION_WORDS};
+use crate::{Counts, SECTION_WORDS};
+use contents::ShapesMet;
 use contents::reading::{read_score, read_shapes};
-use contents::{Score, Shapes, ShapesMet};
-use kinds::Reason;
 use kinds::limits::BLANK;
-use sections::Sections;
+use kinds::{Reason, Refusal};
 use sections::finding::{fill, find_sections};
 use term::Met;
 
@@ -19,14 +18,14 @@ pub fn open(
     starts: &mut [u16],
     score: &mut [u16],
     spans: &mut [u16],
-) -> Opened
+) -> Result<Counts, Refusal>
     ensures { out result (lent words.new starts.new score.new spans.new) ≡ opened file.now (lent words.old starts.old score.old spans.old) }
 {
     let p = match find_sections(file) {
-        Sections::Refused(reason, place) => {
-            return Opened::Refused(reason, place);
+        Err(Refusal(reason, place)) => {
+            return Err(Refusal(reason, place));
         }
-        Sections::At(p) => p,
+        Ok(p) => p,
     };
     let s = p.shapes;
     let t = p.score;
@@ -48,7 +47,7 @@ fn hold(
     starts: &mut [u16],
     score: &mut [u16],
     spans: &mut [u16],
-) -> Opened
+) -> Result<Counts, Refusal>
     requires { Sectioned both.now m at }
     ensures { out result (lent words.new starts.new score.new spans.new) ≡ held symbols.now (take m both.now) (drop m both.now) at (lent words.old starts.old score.old spans.old) }
 {
@@ -57,16 +56,16 @@ fn hold(
     let sc = &both[m..k];
     let mut firsts = [0u16; 16];
     let found = match read_shapes(symbols, BLANK, ws, &mut firsts) {
-        Shapes::Refused(reason, i) => {
-            return Opened::Refused(reason, at + 2 * i);
+        Err(Refusal(reason, i)) => {
+            return Err(Refusal(reason, at + 2 * i));
         }
-        Shapes::Whole(met) => met,
+        Ok(met) => met,
     };
     let tree = match read_score(symbols, sc) {
-        Score::Refused(reason, i) => {
-            return Opened::Refused(reason, at + 2 * m + 2 * i);
+        Err(Refusal(reason, i)) => {
+            return Err(Refusal(reason, at + 2 * m + 2 * i));
         }
-        Score::Whole(met) => met,
+        Ok(met) => met,
     };
     let n = found.number;
     let st = &firsts[0..n];
@@ -89,6 +88,7 @@ fn counts_of(symbols: &[u8], ws: &[u16], found: ShapesMet, sc: &[u16], tree: Met
 }
 
 // 18, and then the writing of the four tables.
+#[tactic(auto, unfolding(crate::specs::Opening::stored))]
 fn store(
     symbols: &[u8],
     ws: &[u16],
@@ -99,25 +99,20 @@ fn store(
     starts: &mut [u16],
     score: &mut [u16],
     spans: &mut [u16],
-) -> Opened
+) -> Result<Counts, Refusal>
     requires { length sc.now ≤ 65535 }
     ensures { out result (lent words.new starts.new score.new spans.new) ≡ stored symbols.now ws.now st.now sc.now counts (lent words.old starts.old score.old spans.old) }
 {
-    if words.len() < ws.len() {
-        return Opened::Refused(Reason::Tables, 0);
-    }
-    if starts.len() < st.len() {
-        return Opened::Refused(Reason::Tables, 0);
-    }
-    if score.len() < sc.len() {
-        return Opened::Refused(Reason::Tables, 0);
-    }
-    if spans.len() < sc.len() {
-        return Opened::Refused(Reason::Tables, 0);
+    if words.len() < ws.len()
+        || starts.len() < st.len()
+        || score.len() < sc.len()
+        || spans.len() < sc.len()
+    {
+        return Err(Refusal(Reason::Tables, 0));
     }
     put(words, ws);
     put(starts, st);
     put(score, sc);
     put_spans(symbols, sc, spans);
-    Opened::Folio(counts)
+    Ok(counts)
 }

@@ -19,9 +19,7 @@ pub fn put_spans(symbols: &[u8], words: &[u16], spans: &mut [u16])
     ensures { spans.new ≡ sets spans.old 0 (spans_of symbols.now words.now) }
 {
     let n = words.len();
-    let mut i = n;
-    while 0 < i {
-        i -= 1;
+    for i in (0..n).rev() {
         let k = count(symbols, words[i]);
         let e = skip(&spans[0..n], i + 1, k);
         spans[i] = (e - i) as u16;

@@ -1,9 +1,10 @@
 -- Following a position from a node by spans, way by way.
---   child_zero child_out child_in                            a child's number, and its parent
---   sibling_out sibling_empty sibling_past sibling_here sibling_next   a child, over its earlier siblings
+--   child_out child_in                                       a child, and its parent
+--   siblings, siblings_out siblings_empty siblings_past siblings_here siblings_next   a child, over its earlier siblings
 --   follow_append descend_root descend_child descend_none    a code, by its higher digits and its last
---   target_bad target_none target_out target_far target_at target_in   the node that a code leads to
+--   target_in                                                a node that a code leads to is below the bounds
 --   reached_at reached_nowhere                               the answer of following, taken apart
+use Rattle.std.specs.Prelude.{None, Some}
 use mathlib.Core.Path.{◌≡◌, refl, ap, ◌∙◌}
 use mathlib.Core.Bool.{false, true}
 use mathlib.Core.List.{List, [], ◌∷◌, ◌++◌}
@@ -20,55 +21,54 @@ use Rattle.kinds.proofs.Bools.{and_l, and_r, ltb_is}
 use Rattle.kinds.proofs.Options.{on_bind, on_need}
 use Rattle.kinds.proofs.Codes.{decode_nil, decode_more}
 use Rattle.following.specs.Following.{inside, sibling, child_at, follow, node_good, target, reached}
-use Rattle.following.specs.declared.Reached.TheVariants as reach
 
 -- ---- a child
 module _ (spans : List ℕ) where
-  pub child_zero : (i at : ℕ) → i ≡ 0 → child_at spans i at ≡ none
+  pub child_out : (i at : ℕ) → length spans ≤ at → child_at spans i at ≡ none
   unfolding child_at
-  child_zero i at e = rw e
-
-  pub child_out : (i at : ℕ) → (i ≡ 0 → ⊥) → length spans ≤ at → child_at spans i at ≡ none
-  unfolding child_at
-  child_out zero at n h = absurd (n refl)
-  child_out (suc i) at n h = rw (le-ltb _ _ h)
-
-  pub child_in : (i at : ℕ) → (i ≡ 0 → ⊥) → at < length spans → child_at spans i at ≡ sibling spans (at + get_or spans at 0) (i - 1) (at + 1)
-  unfolding child_at
-  child_in zero at n h = absurd (n refl)
-  child_in (suc i) at n h =
-      let a : suc at ≡ at + 1 = omega arith in
-      let b : suc i - 1 ≡ i = omega arith in
-      rw (lt-ltb _ _ h, a, b)
+  child_out zero at h = refl
+  child_out (suc i) at h = rw (le-ltb _ _ h)
 
   module _ (end : ℕ) where
-    outside : (i at : ℕ) → inside spans end at ≡ false → sibling spans end i at ≡ none
+    -- child i, counted from 1; none where none is asked for
+    abbrev pub siblings : ℕ → ℕ → Option ℕ
+    siblings zero at = none
+    siblings (suc i) at = sibling spans end i at
+
+    outside : (i at : ℕ) → inside spans end at ≡ false → siblings i at ≡ none
     unfolding sibling
-    outside zero at e = rw e
-    outside (suc i) at e = rw e
+    outside zero at e = refl
+    outside (suc zero) at e = rw e
+    outside (suc (suc i)) at e = rw e
 
-    pub sibling_out : (i at : ℕ) → length spans ≤ at → sibling spans end i at ≡ none
-    sibling_out i at h = outside i at (rw (le-ltb _ _ h))
+    pub siblings_out : (i at : ℕ) → length spans ≤ at → siblings i at ≡ none
+    siblings_out i at h = outside i at (rw (le-ltb _ _ h))
 
-    pub sibling_empty : (i at : ℕ) → at < length spans → get_or spans at 0 ≡ 0 → sibling spans end i at ≡ none
-    sibling_empty i at h e = outside i at (let z : ltb 0 (get_or spans at 0) ≡ false = rw e in rw (lt-ltb _ _ h, z))
+    pub siblings_empty : (i at : ℕ) → at < length spans → get_or spans at 0 ≡ 0 → siblings i at ≡ none
+    siblings_empty i at h e = outside i at (let z : ltb 0 (get_or spans at 0) ≡ false = rw e in rw (lt-ltb _ _ h, z))
 
-    pub sibling_past : (i at : ℕ) → at < length spans → (get_or spans at 0 ≡ 0 → ⊥) → end < at + get_or spans at 0 → sibling spans end i at ≡ none
-    sibling_past i at h e l = outside i at (let p : 0 < get_or spans at 0 = omega arith in rw (lt-ltb _ _ h, lt-ltb _ _ p, lt-leb _ _ l))
+    pub siblings_past : (i at : ℕ) → at < length spans → (get_or spans at 0 ≡ 0 → ⊥) → end < at + get_or spans at 0 → siblings i at ≡ none
+    siblings_past i at h e l = outside i at (let p : 0 < get_or spans at 0 = omega arith in rw (lt-ltb _ _ h, lt-ltb _ _ p, lt-leb _ _ l))
 
-    pub within : (at : ℕ) → at < length spans → (get_or spans at 0 ≡ 0 → ⊥) → at + get_or spans at 0 ≤ end → inside spans end at ≡ true
+    within : (at : ℕ) → at < length spans → (get_or spans at 0 ≡ 0 → ⊥) → at + get_or spans at 0 ≤ end → inside spans end at ≡ true
     within at h e l = let p : 0 < get_or spans at 0 = omega arith in rw (lt-ltb _ _ h, lt-ltb _ _ p, le-leb _ _ l)
 
-    pub sibling_here : (i at : ℕ) → at < length spans → (get_or spans at 0 ≡ 0 → ⊥) → at + get_or spans at 0 ≤ end → i ≡ 0
-        → sibling spans end i at ≡ some at
+    pub siblings_here : (i at : ℕ) → at < length spans → (get_or spans at 0 ≡ 0 → ⊥) → at + get_or spans at 0 ≤ end → i ≡ 1
+        → siblings i at ≡ some at
     unfolding sibling
-    sibling_here i at h e l z = rw (z, within at h e l)
+    siblings_here i at h e l z = rw (z, within at h e l)
 
-    pub sibling_next : (i at : ℕ) → at < length spans → (get_or spans at 0 ≡ 0 → ⊥) → at + get_or spans at 0 ≤ end → (i ≡ 0 → ⊥)
-        → sibling spans end i at ≡ sibling spans end (i - 1) (at + get_or spans at 0)
+    pub siblings_next : (i at : ℕ) → at < length spans → (get_or spans at 0 ≡ 0 → ⊥) → at + get_or spans at 0 ≤ end → 1 < i
+        → siblings i at ≡ siblings (i - 1) (at + get_or spans at 0)
     unfolding sibling
-    sibling_next zero at h e l n = absurd (n refl)
-    sibling_next (suc i) at h e l n = let b : suc i - 1 ≡ i = omega arith in rw (within at h e l, b)
+    siblings_next zero at h e l n = absurd (omega arith)
+    siblings_next (suc zero) at h e l n = absurd (omega arith)
+    siblings_next (suc (suc i)) at h e l n = let b : suc (suc i) - 1 ≡ suc i = omega arith in rw (within at h e l, b)
+
+  pub child_in : (i at : ℕ) → at < length spans → child_at spans i at ≡ siblings (at + get_or spans at 0) i (at + 1)
+  unfolding child_at
+  child_in zero at h = refl
+  child_in (suc i) at h = let a : suc at ≡ at + 1 = omega arith in rw (lt-ltb _ _ h, a)
 
 -- ---- a position
 pub follow_append : (spans : List ℕ) (p q : Pos) (at : ℕ) → follow spans (p ++ q) at ≡ bind (follow spans p at) (λ x. follow spans q x)
@@ -109,29 +109,6 @@ module _ (spans : List ℕ) (at c : ℕ) where
   descend_none n h e = descend n h ∙ rw e
 
 -- ---- a target
-module _ (n : ℕ) (spans : List ℕ) (at c : ℕ) where
-  pub target_bad : code_good c ≡ false → target n spans at c ≡ none
-  unfolding target
-  target_bad e = rw e
-
-  module _ (good : code_good c ≡ true) where
-    pub target_none : follow spans (decode c) at ≡ none → target n spans at c ≡ none
-    unfolding target
-    target_none e = rw (good, e)
-
-    module _ {x : ℕ} (e : follow spans (decode c) at ≡ some x) where
-      pub target_out : n ≤ x → target n spans at c ≡ none
-      unfolding target
-      target_out h = rw (good, e, le-ltb _ _ h)
-
-      pub target_far : x < n → 65536 ≤ x → target n spans at c ≡ none
-      unfolding target
-      target_far h g = rw (good, e, lt-ltb _ _ h, le-ltb _ _ g)
-
-      pub target_at : x < n → x < 65536 → target n spans at c ≡ some x
-      unfolding target
-      target_at h g = rw (good, e, lt-ltb _ _ h, lt-ltb _ _ g)
-
 pub target_in : (n : ℕ) (spans : List ℕ) (at c y : ℕ) → target n spans at c ≡ some y → (y < n) × (y < 65536)
 unfolding target
 target_in n spans at c y e =
@@ -143,10 +120,10 @@ target_in n spans at c y e =
     let b : z < 65536 = ltb_is _ _ (and_r (ltb z n) t₂) in
     omega arith
 
-pub reached_at : (o : Option ℕ) (x : Node) → reached o ≡ reach.At x → o ≡ some x.0
+pub reached_at : (o : Option ℕ) (x : Node) → reached o ≡ Some x → o ≡ some x.0
 reached_at none x e = let z : ◌≡◌ {A = ℕ} 0 1 = cc in absurd (omega arith)
 reached_at (some y) x e = let z : ◌≡◌ {A = Node} (record { 0 = y }) x = cc in ap (λ n. some n.0) z
 
-pub reached_nowhere : (o : Option ℕ) → reached o ≡ reach.Nowhere → o ≡ none
+pub reached_nowhere : (o : Option ℕ) → reached o ≡ None → o ≡ none
 reached_nowhere none e = refl
 reached_nowhere (some y) e = let z : ◌≡◌ {A = ℕ} 0 1 = cc in absurd (omega arith)

@@ -7,17 +7,14 @@
 --   target     the node that a code leads to from a node
 --   reached    as the kind that a call answers
 --   node_of    the node that a part of it answers, if there is one
-use Rattle.std.specs.Prelude.{ℕ, zero, suc, ◌+◌, List, [], ◌∷◌, Bool, ◌&&◌, ltb, leb, length, get_or}
+use Rattle.kinds.specs.declared.Node.{Node}
+use Rattle.std.specs.Prelude.{ℕ, zero, suc, ◌+◌, List, [], ◌∷◌, Bool, ◌&&◌, ltb, leb, length, get_or, None, Some, Option as Optional}
 use Rattle.std.proofs.Math.Option.{Option, none, some}
 use Rattle.kinds.specs.Limits.{numbered_nodes}
 use Rattle.kinds.specs.Lists.{bind, need}
 use Rattle.kinds.specs.Positions.{Pos, decode, code_good}
 use Rattle.kinds.specs.Reasons.{Says, gives, refuses}
 use Rattle.kinds.specs.declared.Reason.TheVariants.{OutOfRange}
-use Rattle.following.specs.declared.Reached.{Reached}
-use Rattle.following.specs.declared.Reached.TheVariants.{At, Nowhere}
-use Rattle.following.specs.declared.Index.{Index}
-use Rattle.following.specs.declared.Index.TheVariants as index
 
 abbrev pub inside : List ℕ → ℕ → ℕ → Bool
 inside spans end at = ltb at (length spans) && (ltb 0 (get_or spans at 0) && leb (at + get_or spans at 0) end)
@@ -42,15 +39,15 @@ unfoldable pub target : ℕ → List ℕ → ℕ → ℕ → Option ℕ
 target n spans at c = need (code_good c) (bind (follow spans (decode c) at) (λ x. need (node_good n x) (some x)))
 
 -- as the kind that a call answers
-abbrev pub reached : Option ℕ → Reached
-reached none = Nowhere
-reached (some x) = At (record { 0 = x })
+abbrev pub reached : Option ℕ → Optional Node
+reached none = None
+reached (some x) = Some (record { 0 = x })
 
 -- the answer in document 01's numbers
-abbrev pub reached_says : Reached → Says
-reached_says (At x) = gives (x.0 ∷ [])
-reached_says Nowhere = refuses OutOfRange 0
+abbrev pub reached_says : Optional Node → Says
+reached_says (Some x) = gives (x.0 ∷ [])
+reached_says None = refuses OutOfRange 0
 
-abbrev pub node_of : Index → Option ℕ
-node_of (index.At x) = some x
-node_of index.Nowhere = none
+abbrev pub node_of : Optional ℕ → Option ℕ
+node_of (Some x) = some x
+node_of None = none

@@ -3,73 +3,62 @@ ghost use Rattle.kinds.specs.Positions.{decode};
 ghost use Rattle.following.specs.Following.{child_at, follow, target, reached};
 ghost use Rattle.following.specs.Following.{node_of};
 
-use crate::{Index, Reached};
 use kinds::limits::NUMBERED_NODES;
 use kinds::{Node, Position};
 
 // The node that a position leads to from a node, in a score of so many nodes.
-pub fn follow(spans: &[u16], nodes: usize, from: Node, by: Position) -> Reached
+#[tactic(auto, unfolding(crate::specs::Following::target))]
+pub fn follow(spans: &[u16], nodes: usize, from: Node, by: Position) -> Option<Node>
     ensures { result ≡ reached (target nodes spans.now from.0 by.0) }
 {
-    let good = by.is_good();
-    if !good {
-        return Reached::Nowhere;
+    if !by.is_good() {
+        return None;
     }
     match descend(spans, from.0 as usize, by.0) {
-        Index::Nowhere => Reached::Nowhere,
-        Index::At(x) => {
-            if nodes <= x {
-                return Reached::Nowhere;
+        None => None,
+        Some(x) => {
+            if nodes <= x || NUMBERED_NODES <= x {
+                return None;
             }
-            if NUMBERED_NODES <= x {
-                return Reached::Nowhere;
-            }
-            Reached::At(Node(x as u16))
+            Some(Node(x as u16))
         }
     }
 }
 
 // By the code's higher digits, and from there to a child by its last.
-fn descend(spans: &[u16], at: usize, code: u16) -> Index
+fn descend(spans: &[u16], at: usize, code: u16) -> Option<usize>
     ensures { node_of result ≡ follow spans.now (decode code) at }
 {
     if code == 0 {
-        return Index::At(at);
+        return Some(at);
     }
     match descend(spans, at, code / 5) {
-        Index::At(x) => child(spans, x, code % 5),
-        Index::Nowhere => Index::Nowhere,
+        Some(x) => child(spans, x, code % 5),
+        None => None,
     }
 }
 
 // Child i, from 1, of a node: over its earlier siblings' spans.
-fn child(spans: &[u16], at: usize, i: u16) -> Index
+fn child(spans: &[u16], at: usize, i: u16) -> Option<usize>
     ensures { node_of result ≡ child_at spans.now i at }
 {
-    if i == 0 {
-        return Index::Nowhere;
-    }
     if spans.len() <= at {
-        return Index::Nowhere;
+        return None;
     }
     let end = at + spans[at] as usize;
     let mut here = at + 1;
-    let mut left = i - 1;
-    loop {
+    for left in (0..i).rev() {
         if spans.len() <= here {
-            return Index::Nowhere;
+            return None;
         }
         let size = spans[here] as usize;
-        if size == 0 {
-            return Index::Nowhere;
-        }
-        if end < here + size {
-            return Index::Nowhere;
+        if size == 0 || end < here + size {
+            return None;
         }
         if left == 0 {
-            return Index::At(here);
+            return Some(here);
         }
         here += size;
-        left -= 1;
     }
+    None
 }

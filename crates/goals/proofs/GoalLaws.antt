@@ -1,61 +1,63 @@
 -- The word definitions along a loop's turn.
-use native.Mathlib.Nat.{mul-le-mul, sub-zero, zero-add, add-zero, add_assoc}
+use Rattle.std.specs.Prelude.{None, Some}
+use native.Mathlib.Nat.{zero-add, add-zero, add_assoc}
 use Prim.Native.Nat.{ℕ, zero, suc, ◌+◌, ◌-◌, ◌*◌, ◌/◌, ◌%◌, ◌<◌, ◌≤◌}
 use mathlib.Core.Path.{◌≡◌, refl, ap, ap₂, sym, ◌∙◌}
 use mathlib.Core.List.{List, [], ◌∷◌, ◌++◌, append_assoc}
 use mathlib.Core.Bool.{Bool, true, false, cond, ◌||◌}
 use native.Mathlib.Omega.{arith}
 use native.Mathlib.Numerals.{add-one}
-use borrow.Author.Tests.{eq-eqb, ne_eqb, lt-ltb, le-ltb}
+use borrow.Author.Tests.{eq-eqb, ne_eqb}
 use lib.Dec.{eqb, ltb}
 use lib.ListN.{length, get_or, take, drop, set, drop_of_length-le}
+use Rattle.std.proofs.Common.{fold}
 use lib.Seq.{sets, sets-eq, take-append_seam}
 use Rattle.kinds.proofs.ListLaws.{from}
 use Rattle.goals.specs.GoalWords.{GoalWords, owed_from, owed_codes, node_from, code_at, first_code, pad, goal_at, goals_from, Low, Stored, root_codes}
 use Rattle.goals.specs.WordStages.{has_code, sharing}
 use Rattle.goals.specs.Sharing.{first_shared, pick, is_at}
-use Rattle.goals.specs.declared.Shared.TheVariants.{At, Nothing}
 
 pub sub_one : (k : ℕ) → suc k - 1 ≡ k
 sub_one k = omega arith
 
-module _ (tab : List ℕ) (s a : ℕ) where
-  pub owed_on : (k r m : ℕ) → 0 < k → m % 2 ≡ 1 → owed_from tab s a k r m ≡ code_at tab s a r ∷ owed_from tab s a (k - 1) (r + 1) (m / 2)
-  unfolding owed_from
-  owed_on zero r m h e = absurd (omega arith)
-  owed_on (suc k) r m h e = rw (eq-eqb _ _ e, sub_one k, add-one r)
+-- what is left of n at i
+pub left_one : (n i : ℕ) → i < n → n - i ≡ suc (n - (i + 1))
+left_one n i h = omega arith
 
-  pub owed_off : (k r m : ℕ) → 0 < k → (m % 2 ≡ 1 → ⊥) → owed_from tab s a k r m ≡ owed_from tab s a (k - 1) (r + 1) (m / 2)
-  unfolding owed_from
-  owed_off zero r m h e = absurd (omega arith)
-  owed_off (suc k) r m h e = rw (ne_eqb _ _ e, sub_one k, add-one r)
+pub left_none : (n i : ℕ) → n ≤ i → n - i ≡ 0
+left_none n i h = omega arith
 
-  pub owed_end : (k r m : ℕ) → k ≤ 0 → owed_from tab s a k r m ≡ []
+-- node r of n, with the mask from there
+module _ (tab : List ℕ) (s a n r m : ℕ) where
+  pub owed_on : r < n → m % 2 ≡ 1 → owed_from tab s a (n - r) r m ≡ code_at tab s a r ∷ owed_from tab s a (n - (r + 1)) (r + 1) (m / 2)
   unfolding owed_from
-  owed_end zero r m h = refl
-  owed_end (suc k) r m h = absurd (omega arith)
+  owed_on h e = rw (left_one n r h, eq-eqb _ _ e, add-one r)
+
+  pub owed_off : r < n → (m % 2 ≡ 1 → ⊥) → owed_from tab s a (n - r) r m ≡ owed_from tab s a (n - (r + 1)) (r + 1) (m / 2)
+  unfolding owed_from
+  owed_off h e = rw (left_one n r h, ne_eqb _ _ e, add-one r)
+
+  pub owed_end : n ≤ r → owed_from tab s a (n - r) r m ≡ []
+  unfolding owed_from
+  owed_end h = rw (left_none n r h)
 
   module _ (c : ℕ) where
-    pub node_here : (k r m : ℕ) → 0 < k → m % 2 ≡ 1 → code_at tab s a r ≡ c → node_from tab s a c k r m ≡ r
+    pub node_here : r < n → m % 2 ≡ 1 → code_at tab s a r ≡ c → node_from tab s a c (n - r) r m ≡ r
     unfolding node_from
-    node_here zero r m h e g = absurd (omega arith)
-    node_here (suc k) r m h e g = rw (eq-eqb _ _ e, eq-eqb _ _ g)
+    node_here h e g = rw (left_one n r h, eq-eqb _ _ e, eq-eqb _ _ g)
 
-    pub node_other : (k r m : ℕ) → 0 < k → m % 2 ≡ 1 → (code_at tab s a r ≡ c → ⊥)
-        → node_from tab s a c k r m ≡ node_from tab s a c (k - 1) (r + 1) (m / 2)
+    pub node_other : r < n → m % 2 ≡ 1 → (code_at tab s a r ≡ c → ⊥)
+        → node_from tab s a c (n - r) r m ≡ node_from tab s a c (n - (r + 1)) (r + 1) (m / 2)
     unfolding node_from
-    node_other zero r m h e g = absurd (omega arith)
-    node_other (suc k) r m h e g = rw (eq-eqb _ _ e, ne_eqb _ _ g, sub_one k, add-one r)
+    node_other h e g = rw (left_one n r h, eq-eqb _ _ e, ne_eqb _ _ g, add-one r)
 
-    pub node_off : (k r m : ℕ) → 0 < k → (m % 2 ≡ 1 → ⊥) → node_from tab s a c k r m ≡ node_from tab s a c (k - 1) (r + 1) (m / 2)
+    pub node_off : r < n → (m % 2 ≡ 1 → ⊥) → node_from tab s a c (n - r) r m ≡ node_from tab s a c (n - (r + 1)) (r + 1) (m / 2)
     unfolding node_from
-    node_off zero r m h e = absurd (omega arith)
-    node_off (suc k) r m h e = rw (ne_eqb _ _ e, sub_one k, add-one r)
+    node_off h e = rw (left_one n r h, ne_eqb _ _ e, add-one r)
 
-    pub node_end : (k r m : ℕ) → k ≤ 0 → node_from tab s a c k r m ≡ 16
+    pub node_end : n ≤ r → node_from tab s a c (n - r) r m ≡ 16
     unfolding node_from
-    node_end zero r m h = refl
-    node_end (suc k) r m h = absurd (omega arith)
+    node_end h = rw (left_none n r h)
 
 -- one store of a run
 pub run_on : (l : List ℕ) (i v : ℕ) (vs : List ℕ) → sets l i (v ∷ vs) ≡ sets (set l i v) (i + 1) vs
@@ -76,46 +78,23 @@ module _ (a b : List ℕ) (i : ℕ) where
   unfolding first_shared
   first_next h e = ap (λ (l : List ℕ). first_shared l b) (from a i h) ∙ rw e
 
-  pub first_here : i < length a → has_code (get_or a i 0) b ≡ true → first_shared (drop i a) b ≡ At (get_or a i 0)
+  pub first_here : i < length a → has_code (get_or a i 0) b ≡ true → first_shared (drop i a) b ≡ Some (get_or a i 0)
   unfolding first_shared
   first_here h e = ap (λ (l : List ℕ). first_shared l b) (from a i h) ∙ rw e
 
-  pub first_end : length a ≤ i → first_shared (drop i a) b ≡ Nothing
+  pub first_end : length a ≤ i → first_shared (drop i a) b ≡ None
   unfolding first_shared
   first_end h = ap (λ (l : List ℕ). first_shared l b) (drop_of_length-le a h)
 
-module _ (cs : List ℕ) (i best : ℕ) where
-  pub best_next : i < length cs → pad (get_or cs i 0) < pad best → first_code best (drop i cs) ≡ first_code (get_or cs i 0) (drop (i + 1) cs)
-  unfolding first_code
-  best_next h l =
-      ap (first_code best) (from cs i h) ∙ ap (λ (t : Bool). first_code (cond t (get_or cs i 0) best) (drop (i + 1) cs)) (lt-ltb _ _ l)
-
-  pub best_keep : i < length cs → pad best ≤ pad (get_or cs i 0) → first_code best (drop i cs) ≡ first_code best (drop (i + 1) cs)
-  unfolding first_code
-  best_keep h l =
-      ap (first_code best) (from cs i h) ∙ ap (λ (t : Bool). first_code (cond t (get_or cs i 0) best) (drop (i + 1) cs)) (le-ltb _ _ l)
-
-  pub best_end : length cs ≤ i → first_code best (drop i cs) ≡ best
-  unfolding first_code
-  best_end h = ap (first_code best) (drop_of_length-le cs h)
-
--- a product of two words fits 32 bits, with a word to add
-pub word_mul : (a x : ℕ) → a < 65536 → x < 65536 → a * x ≤ 4294836225
-word_mul a x h g = mul-le-mul {n₁ = a} {m₁ = x} {n₂ = 65535} {m₂ = 65535} (omega arith) (omega arith)
-
-pub owed_short : (tab : List ℕ) (s a k r m : ℕ) → length (owed_from tab s a k r m) ≤ k
-unfolding owed_from
-owed_short tab s a zero r m = omega arith
-owed_short tab s a (suc k) r m = go (eqb (m % 2) 1) (owed_from tab s a k (suc r) (m / 2)) (owed_short tab s a k (suc r) (m / 2))
-  where
-    go : (t : Bool) (xs : List ℕ) → length xs ≤ k → length (cond t (code_at tab s a r ∷ xs) xs) ≤ suc k
-    go true xs h = omega arith
-    go false xs h = omega arith
+pub first_fold : (best : ℕ) (cs : List ℕ) → first_code best cs ≡ fold (λ b c. cond (ltb (pad c) (pad b)) c b) best cs
+unfolding first_code
+first_fold best [] = refl
+first_fold best (c ∷ cs) = first_fold (cond (ltb (pad c) (pad best)) c best) cs
 
 -- what was written from 0 on is the front
-pub front : (l vs : List ℕ) (n : ℕ) → length vs ≤ length l → n ≡ length vs → take (n - 0) (drop 0 (sets l 0 vs)) ≡ vs
-front l vs n h e =
-    rw (sub-zero, e, sets-eq vs l 0 (omega arith))
+pub front : (l vs w : List ℕ) (n : ℕ) → length vs ≤ length l → n ≡ length vs → w ≡ sets l 0 vs → take n w ≡ vs
+front l vs w n h e z =
+    rw (e, z, sets-eq vs l 0 (omega arith))
     (ap (take (length vs)) (append_assoc [] vs _) ∙ take-append_seam vs (drop (0 + length vs) l))
 
 -- goals along the words
@@ -128,6 +107,12 @@ pub goals_end : (ws : List ℕ) (at k : ℕ) → k ≤ 0 → goals_from ws at k 
 unfolding goals_from
 goals_end ws at zero h = refl
 goals_end ws at (suc k) h = absurd (omega arith)
+
+pub goals_on : (ws : List ℕ) (at n j : ℕ) → j < n
+    → goals_from ws (at + 3 * j) (n - j) ≡ goal_at ws (at + 3 * j) ∷ goals_from ws (at + 3 * (j + 1)) (n - (j + 1))
+unfolding goals_from
+goals_on ws at n j h =
+    let e : at + 3 * j + 3 ≡ at + 3 * (j + 1) = omega arith in rw (left_one n j h, e)
 
 pub low_next : (ws : List ℕ) (at k : ℕ) → 0 < k → Low (goals_from ws at k) → (get_or ws at 0 < 16) × Low (goals_from ws (at + 3) (k - 1))
 low_next ws at k h l = rw (goals_next ws at k h) at l
@@ -176,23 +161,25 @@ unfolding first_code
 first_append b [] ys = refl
 first_append b (x ∷ xs) ys = first_append (cond (ltb (pad x) (pad b)) x b) xs ys
 
-module _ (tab ws : List ℕ) (at k best : ℕ) where
-  pub label_on : 0 < k → get_or ws (at + 1) 0 ≡ 0
-      → first_code best (root_codes tab (goals_from ws at k)) ≡ first_code (first_code best (owed_codes tab (get_or ws at 0) 0 (get_or ws (at + 2) 0)))
-      (root_codes tab (goals_from ws (at + 3) (k - 1)))
+-- goal j of n
+module _ (tab ws : List ℕ) (at n j best : ℕ) where
+  pub label_on : j < n → get_or ws (at + 3 * j + 1) 0 ≡ 0
+      → first_code best (root_codes tab (goals_from ws (at + 3 * j) (n - j)))
+      ≡ first_code (first_code best (owed_codes tab (get_or ws (at + 3 * j) 0) 0 (get_or ws (at + 3 * j + 2) 0)))
+      (root_codes tab (goals_from ws (at + 3 * (j + 1)) (n - (j + 1))))
   unfolding root_codes
   label_on h e =
-      ap (λ gs. first_code best (root_codes tab gs)) (goals_next ws at k h)
-      ∙ rw (e) (first_append best (owed_codes tab (get_or ws at 0) 0 (get_or ws (at + 2) 0)) (root_codes tab (goals_from ws (at + 3) (k - 1))))
+      ap (λ gs. first_code best (root_codes tab gs)) (goals_on ws at n j h) ∙ rw e (first_append best _ _)
 
-  pub label_off : 0 < k → (get_or ws (at + 1) 0 ≡ 0 → ⊥)
-      → first_code best (root_codes tab (goals_from ws at k)) ≡ first_code best (root_codes tab (goals_from ws (at + 3) (k - 1)))
+  pub label_off : j < n → (get_or ws (at + 3 * j + 1) 0 ≡ 0 → ⊥)
+      → first_code best (root_codes tab (goals_from ws (at + 3 * j) (n - j)))
+      ≡ first_code best (root_codes tab (goals_from ws (at + 3 * (j + 1)) (n - (j + 1))))
   unfolding root_codes
-  label_off h e = ap (λ gs. first_code best (root_codes tab gs)) (goals_next ws at k h) ∙ rw (ne_eqb _ _ e)
+  label_off h e = ap (λ gs. first_code best (root_codes tab gs)) (goals_on ws at n j h) ∙ rw (ne_eqb _ _ e)
 
-  pub label_end : k ≤ 0 → first_code best (root_codes tab (goals_from ws at k)) ≡ best
-  unfolding root_codes first_code
-  label_end h = ap (λ gs. first_code best (root_codes tab gs)) (goals_end ws at k h)
+  pub label_end : n ≤ j → first_code best (root_codes tab (goals_from ws (at + 3 * j) (n - j))) ≡ best
+  unfolding root_codes first_code goals_from
+  label_end h = rw (left_none n j h)
 
 pub node_low : (tab : List ℕ) (s a c k r m : ℕ) → r + k ≤ 16 → node_from tab s a c k r m ≤ 16
 unfolding node_from
@@ -212,6 +199,6 @@ unfolding first_shared sharing
 shared_is [] ys = refl
 shared_is (x ∷ xs) ys = go (has_code x ys) (shared_is xs ys)
   where
-    go : (b : Bool) → is_at (first_shared xs ys) ≡ sharing xs ys → is_at (pick b (At x) (first_shared xs ys)) ≡ (b || sharing xs ys)
+    go : (b : Bool) → is_at (first_shared xs ys) ≡ sharing xs ys → is_at (pick b (Some x) (first_shared xs ys)) ≡ (b || sharing xs ys)
     go true e = refl
     go false e = e

@@ -34,10 +34,3 @@ pub struct Goal {
     pub at: Position,
     pub mask: u16,
 }
-
-// The first obligation position that two goals share.
-#[derive(Clone, Copy)]
-pub enum Shared {
-    At(u32),
-    Nothing,
-}

@@ -1,33 +1,25 @@
-ghost use Rattle.std.specs.Prelude.{◌≡◌, ◌+◌, ◌*◌, ◌<◌, length};
+ghost use Rattle.std.specs.Prelude.{◌≡◌, ◌+◌, ◌*◌, ◌<◌, ◌≤◌, length};
 ghost use Rattle.std.proofs.lemmas.List.Edits.{sets};
 ghost use Rattle.goals.specs.GoalWords.{Tabled, NodeIn, Owable, BothIn, code_at, owed_by, node_at, mask_after, pad, first_code, goals_from, Stored, label_code};
 ghost use Rattle.goals.specs.GoalKinds.{as_words};
 ghost use Rattle.goals.specs.Sharing.{first_shared};
 
 use crate::words::goal_at;
-use crate::{Goal, NO_CODE, POWERS_AT, SIZES_AT, Shared};
+use crate::{Goal, NO_CODE, POWERS_AT, SIZES_AT};
 use kinds::Position;
 
 // A code of at most six digits, padded with zeros to six.
 pub fn padded(c: u32) -> u32
     ensures { result ≡ pad c }
 {
-    if c < 5 {
-        return c * 3125;
+    match c {
+        0..5 => c * 3125,
+        5..25 => c * 625,
+        25..125 => c * 125,
+        125..625 => c * 25,
+        625..3125 => c * 5,
+        _ => c,
     }
-    if c < 25 {
-        return c * 625;
-    }
-    if c < 125 {
-        return c * 125;
-    }
-    if c < 625 {
-        return c * 25;
-    }
-    if c < 3125 {
-        return c * 5;
-    }
-    c
 }
 
 // The code of node r of a goal's shape.
@@ -44,19 +36,17 @@ pub fn owed(tab: &[u16], g: Goal, out: &mut [u32]) -> usize
     requires { Owable tab.now g.shape.0 out.old }
     ensures count { result ≡ length (owed_by tab.now (as_words g)) }
     ensures wrote { out.new ≡ sets out.old 0 (owed_by tab.now (as_words g)) }
+    ensures few { result ≤ 16 }
 {
-    let mut left = tab[SIZES_AT + 16 * g.shape.0 as usize] as usize;
+    let size = tab[SIZES_AT + 16 * g.shape.0 as usize] as usize;
     let mut mask = g.mask;
-    let mut r = 0;
     let mut k = 0;
-    while 0 < left {
+    for r in 0..size {
         if mask % 2 == 1 {
             out[k] = code_at(tab, g, r);
             k += 1;
         }
         mask /= 2;
-        r += 1;
-        left -= 1;
     }
     k
 }
@@ -66,18 +56,13 @@ pub fn node_at(tab: &[u16], g: Goal, here: Position) -> usize
     requires { Tabled tab.now × (g.shape.0 < 16) }
     ensures { result ≡ node_at tab.now g.shape.0 g.at.0 g.mask here.0 }
 {
-    let mut left = tab[SIZES_AT + 16 * g.shape.0 as usize] as usize;
+    let size = tab[SIZES_AT + 16 * g.shape.0 as usize] as usize;
     let mut mask = g.mask;
-    let mut r = 0;
-    while 0 < left {
-        if mask % 2 == 1 {
-            if code_at(tab, g, r) == here.0 as u32 {
-                return r;
-            }
+    for r in 0..size {
+        if mask % 2 == 1 && code_at(tab, g, r) == here.0 as u32 {
+            return r;
         }
         mask /= 2;
-        r += 1;
-        left -= 1;
     }
     16
 }
@@ -91,28 +76,23 @@ pub fn mask_after(m: u16, r: usize, kids: u16) -> u16
 }
 
 // The first of the codes in `a` that stands in `b`.
-pub fn common(a: &[u32], b: &[u32]) -> Shared
+pub fn common(a: &[u32], b: &[u32]) -> Option<u32>
     ensures { result ≡ first_shared a.now b.now }
 {
-    let mut i = 0;
-    'outer: loop {
-        if a.len() <= i {
-            break Shared::Nothing;
-        }
-        let x = a[i];
-        let mut j = 0;
-        while j < b.len() {
-            if b[j] == x {
-                break 'outer Shared::At(x);
+    let mut shared = None;
+    'outer: for x in a {
+        for y in b {
+            if y == x {
+                shared = Some(*x);
+                break 'outer;
             }
-            j += 1;
         }
-        i += 1;
     }
+    shared
 }
 
 // The first obligation position of one goal that is the other's too.
-pub fn share(tab: &[u16], g: Goal, h: Goal) -> Shared
+pub fn share(tab: &[u16], g: Goal, h: Goal) -> Option<u32>
     requires { BothIn tab.now g.shape.0 h.shape.0 }
     ensures { result ≡ first_shared (owed_by tab.now (as_words g)) (owed_by tab.now (as_words h)) }
 {
@@ -120,22 +100,17 @@ pub fn share(tab: &[u16], g: Goal, h: Goal) -> Shared
     let mut ys = [0u32; 16];
     let j = owed(tab, g, &mut xs);
     let k = owed(tab, h, &mut ys);
-    common(&xs[0..j], &ys[0..k])
+    common(&xs[..j], &ys[..k])
 }
 
 // The first in document order of `best` and the codes.
 pub fn first_of(cs: &[u32], best: u32) -> u32
     ensures { result ≡ first_code best cs.now }
 {
-    let mut found = best;
-    let mut i = 0;
-    while i < cs.len() {
-        if padded(cs[i]) < padded(found) {
-            found = cs[i];
-        }
-        i += 1;
-    }
-    found
+    cs.iter().copied().fold(
+        best,
+        |found, c| if padded(c) < padded(found) { c } else { found },
+    )
 }
 
 // The first in document order of `best` and a goal's obligations.
@@ -145,7 +120,7 @@ pub fn first_owed(tab: &[u16], g: Goal, best: u32) -> u32
 {
     let mut xs = [0u32; 16];
     let k = owed(tab, g, &mut xs);
-    first_of(&xs[0..k], best)
+    first_of(&xs[..k], best)
 }
 
 // The code of a state's label; NO_CODE where no goal announces at the root.
@@ -154,15 +129,11 @@ pub fn label(tab: &[u16], ws: &[u16], at: usize, n: usize) -> u32
     ensures { result ≡ label_code tab.now (goals_from ws.now at n) }
 {
     let mut best: u32 = NO_CODE;
-    let mut here = at;
-    let mut left = n;
-    while 0 < left {
-        let g = goal_at(ws, here);
+    for j in 0..n {
+        let g = goal_at(ws, at + 3 * j);
         if g.at.0 == Position::ROOT.0 {
             best = first_owed(tab, g, best);
         }
-        here += 3;
-        left -= 1;
     }
     best
 }

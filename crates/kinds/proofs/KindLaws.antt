@@ -1,53 +1,49 @@
 -- The position kind, case by case.
 --   child_bad child_none child_many child_far child_at_lem  a position followed by a child number, by codes
---   no_zero good_far good_near, zero_next zero_stop zero_end  is a code in use: no 0 among its digits, from the last one on
+--   no_zero, zero_next zero_stop zero_end  is a code in use: no 0 among its digits, from the last one on
 --   digits_next digits_end                        how many digits, from the last one on
 --   padded_start padded_next padded_end padded_room   a code, with zeros put after it one by one
---   pads_less pads_more pads_same           document order by padded codes
+--   pairs_before                                  document order by padded codes and lengths
 use mathlib.Core.Path.{◌≡◌, refl, ap, sym, ◌∙◌}
-use mathlib.Core.Bool.{Bool, true, false, ◌&&◌, ◌||◌}
+use mathlib.Core.Bool.{Bool, true, false, cond, ◌&&◌, ◌||◌}
 use mathlib.Core.List.{[], ◌∷◌}
 use Prim.Native.Nat.{ℕ, suc, ◌+◌, ◌-◌, ◌*◌, ◌/◌, ◌%◌, ◌^◌, ◌≤◌, ◌<◌}
 use native.Mathlib.Omega.{arith}
 use native.Mathlib.Nat.{mul_assoc, mul-one, pow-succ', mul-le-mul_left}
-use borrow.Author.Tests.{eq-eqb, ne_eqb, lt-ltb, le-ltb, le-leb, lt-leb}
+use borrow.Author.Tests.{lt-ltb, le-ltb, le-leb, lt-leb}
 use lib.Dec.{eqb, ltb}
+use Rattle.std.specs.Prelude.{Some, None}
+use Rattle.std.specs.Ordering.{is_some_and, is_lt, partial_ordering_then, nat_cmp}
+use Rattle.std.specs.declared.cmp.Ordering.TheVariants.{Less, Equal, Greater}
 use lib.ListN.{length, length-append}
 use Rattle.kinds.specs.Lists.{all}
 use Rattle.kinds.specs.Positions.{before, decode, pad_to, largest, code_good}
 use Rattle.kinds.specs.Kinds.{position, child_of}
 use Rattle.kinds.specs.declared.Position.{Position}
-use Rattle.kinds.specs.declared.Child.TheVariants.{At, Beyond}
 use Rattle.kinds.proofs.Bools.{and_true, and_false}
 use Rattle.kinds.proofs.ListLaws.{all_append}
 use Rattle.kinds.proofs.Codes.{five_pos, decode_nil, decode_more, decode_short, decode_digits, code_decode, pad_code, pad_lt, before_pad}
 
 module _ (p : Position) (i : ℕ) where
-  pub child_bad : code_good p.0 ≡ false → child_of p i ≡ Beyond
+  pub child_bad : code_good p.0 ≡ false → child_of p i ≡ None
   child_bad e = rw e
 
   module _ (good : code_good p.0 ≡ true) where
-    pub child_none : i < 1 → child_of p i ≡ Beyond
+    pub child_none : i < 1 → child_of p i ≡ None
     child_none h = rw (good, lt-leb 1 i h)
 
-    pub child_many : 4 < i → child_of p i ≡ Beyond
+    pub child_many : 4 < i → child_of p i ≡ None
     child_many h = rw (good, le-leb 1 i (omega arith), lt-leb i 4 h)
 
-    pub child_far : 1 ≤ i → i ≤ 4 → largest < 5 * p.0 + i → child_of p i ≡ Beyond
+    pub child_far : 1 ≤ i → i ≤ 4 → largest < 5 * p.0 + i → child_of p i ≡ None
     child_far l u h = rw (good, le-leb 1 i l, le-leb i 4 u, lt-leb (5 * p.0 + i) largest h)
 
-    pub child_at_lem : 1 ≤ i → i ≤ 4 → 5 * p.0 + i ≤ largest → child_of p i ≡ At (position (5 * p.0 + i))
+    pub child_at_lem : 1 ≤ i → i ≤ 4 → 5 * p.0 + i ≤ largest → child_of p i ≡ Some (position (5 * p.0 + i))
     child_at_lem l u h = rw (good, le-leb 1 i l, le-leb i 4 u, le-leb (5 * p.0 + i) largest h)
 
 -- ---- no 0 among the digits
 abbrev pub no_zero : ℕ → Bool
 no_zero c = all (λ d. ltb 0 d) (decode c)
-
-pub good_far : (c : ℕ) → largest < c → code_good c ≡ false
-good_far c h = rw (lt-leb c largest h)
-
-pub good_near : (c : ℕ) → c ≤ largest → code_good c ≡ no_zero c
-good_near c h = rw (le-leb c largest h)
 
 zero_last : (c : ℕ) → 0 < c → c < 78125 → no_zero c ≡ (no_zero (c / 5) && (ltb 0 (c % 5) && true))
 zero_last c h l = ap (all (λ d. ltb 0 d)) (decode_more c h l) ∙ all_append (λ d. ltb 0 d) (decode (c / 5)) (c % 5 ∷ [])
@@ -93,21 +89,25 @@ padded_room c n k e =
     omega (arith, m, l, e)
 
 -- ---- document order
+-- what `<` says of two pairs of numbers, by the tests of their parts
+pairs_less : (less same less₂ same₂ : Bool)
+    → is_some_and is_lt (partial_ordering_then (Some (cond less Less (cond same Equal Greater))) (Some (cond less₂ Less (cond same₂ Equal Greater))))
+    ≡ (less || (same && less₂))
+pairs_less true same less₂ same₂ = refl
+pairs_less false false less₂ same₂ = refl
+pairs_less false true true same₂ = refl
+pairs_less false true false true = refl
+pairs_less false true false false = refl
+
 module _ (a b : ℕ) where
   by_pads : before (decode a) (decode b) ≡
       (ltb (pad_to 7 (decode a)) (pad_to 7 (decode b)) ||
       (eqb (pad_to 7 (decode a)) (pad_to 7 (decode b)) && ltb (length (decode a)) (length (decode b))))
   by_pads = before_pad 7 (decode a) (decode b) (decode_digits 7 a) (decode_digits 7 b) (decode_short 7 a) (decode_short 7 b)
 
-  pub pads_less : pad_to 7 (decode a) < pad_to 7 (decode b) → before (decode a) (decode b) ≡ true
-  pads_less h = by_pads ∙ rw (lt-ltb (pad_to 7 (decode a)) (pad_to 7 (decode b)) h)
-
-  pub pads_more : pad_to 7 (decode b) < pad_to 7 (decode a) → before (decode a) (decode b) ≡ false
-  pads_more h = by_pads ∙ rw (
-    le-ltb (pad_to 7 (decode a)) (pad_to 7 (decode b)) (omega arith),
-    ne_eqb (pad_to 7 (decode a)) (pad_to 7 (decode b))
-        (λ e. omega arith),
-  )
-
-  pub pads_same : pad_to 7 (decode a) ≡ pad_to 7 (decode b) → before (decode a) (decode b) ≡ ltb (length (decode a)) (length (decode b))
-  pads_same h = by_pads ∙ rw (le-ltb (pad_to 7 (decode a)) (pad_to 7 (decode b)) (omega arith), eq-eqb (pad_to 7 (decode a)) (pad_to 7 (decode b)) h)
+  pub pairs_before : {p q l m : ℕ} → p ≡ pad_to 7 (decode a) → q ≡ pad_to 7 (decode b) → l ≡ length (decode a) → m ≡ length (decode b)
+      → is_some_and is_lt (partial_ordering_then (Some (nat_cmp p q)) (Some (nat_cmp l m))) ≡ before (decode a) (decode b)
+  pairs_before {p} {q} {l} {m} ep eq el em =
+      pairs_less (ltb p q) (eqb p q) (ltb l m) (eqb l m)
+      ∙ (λ i. ltb (ep i) (eq i) || (eqb (ep i) (eq i) && ltb (el i) (em i)))
+      ∙ sym by_pads

@@ -12,4 +12,5 @@ pub mod Ordered
 pub mod Codes
 pub mod BitLaws
 pub mod KindLaws
+pub mod Refusals
 pub mod ChainLaws

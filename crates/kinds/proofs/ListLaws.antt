@@ -1,7 +1,7 @@
 -- Lists.
 --   sets_append set_before sets_before sets_behind sets_at sets_over   runs of stores
 --   from from_end take_again none_left drop_take take_map drop_map take_set   parts
---   run_start run_next run_end run_back part_back run_whole   a run that is stored word by word, and read again
+--   run_start run_next run_end part_sets run_back part_back run_whole   a run that is stored, and read again
 --   onto_sets length_onto take_onto drop_onto     words in front
 --   same_yes same_not same_next same_stop same_end same_lengths same_append   lists that are compared
 --   append_same                                   what follows the same start
@@ -18,8 +18,10 @@ use native.Mathlib.Omega.{arith}
 use native.Mathlib.Nat.{add-zero, add-suc, suc-add, zero-add, sub-zero}
 use native.Mathlib.Numerals.{add-one}
 use borrow.Author.Tests.{eq-eqb, ne_eqb}
+use borrow.Rule.Slice.PartMut.{put_mid}
 use lib.ListN.{length, get_or, take, drop, set, length-append, length-drop, drop_of_length-le}
 use lib.Seq.{take-add, take_all, drop-cons, sets, sets-eq, set_comm, take-set-le, drop-set-lt, get_or-set_other, take_at, drop_at, take-append-le, drop-append-le, length-take-le, length-sets, take-append_seam, drop-append_seam}
+use Rattle.std.proofs.lemmas.Slice.{put_mid-paste}
 use Rattle.kinds.specs.Lists.{same, filter, any, all, insert, sort, gather, concat, range, onto, is_nil}
 use Rattle.kinds.proofs.Bools.{is_eqb}
 use Rattle.kinds.proofs.Members.{same_is, same_refl, in_sort}
@@ -100,6 +102,13 @@ run_next o l at i h =
 
 pub run_end : (o l : List ℕ) (at i : ℕ) → length l ≤ i → sets o (at + i) (drop i l) ≡ o
 run_end o l at i h = ap (sets o (at + i)) (from_end l i h)
+
+-- what a write to a part leaves, as such a run
+pub part_sets : (at n : ℕ) (o ws : List ℕ) → at + length ws ≤ length o → n ≡ length ws → put_mid at n o ws ≡ sets o at ws
+part_sets at n o ws h e =
+    put_mid-paste at n o ws ws (length ws) refl (sym e) refl
+    ∙ ap (λ t. take at o ++ t ++ drop (at + length ws) o) (take_all (length ws) ws (omega arith))
+    ∙ sym (sets-eq ws o at h)
 
 -- what was stored from j on, read again
 pub run_back : (l : List ℕ) (j n : ℕ) (r : List ℕ) → j + length r ≡ n → n ≤ length l → drop j (take n (sets l j r)) ≡ r

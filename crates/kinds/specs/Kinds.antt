@@ -6,15 +6,13 @@
 --   is_good       is it the code of a position in use
 --   length_of     how many numbers it has
 --   comes_before  document order
-use Rattle.std.specs.Prelude.{ℕ, ◌+◌, ◌*◌, [], ◌∷◌, Bool, leb, length}
+use Rattle.std.specs.Prelude.{ℕ, ◌+◌, ◌*◌, [], ◌∷◌, Bool, leb, length, None, Option, Some}
 use Rattle.kinds.specs.Limits.{most_children}
 use Rattle.kinds.specs.Lists.{unless}
 use Rattle.kinds.specs.Positions.{before, decode, largest, code_good}
 use Rattle.kinds.specs.Reasons.{Says, gives, refuses}
 use Rattle.kinds.specs.declared.Reason.TheVariants.{OutOfRange}
 use Rattle.kinds.specs.declared.Position.{Position}
-use Rattle.kinds.specs.declared.Child.{Child}
-use Rattle.kinds.specs.declared.Child.TheVariants.{At, Beyond}
 
 abbrev pub position : ℕ → Position
 position c = record { 0 = c }
@@ -22,17 +20,17 @@ position c = record { 0 = c }
 abbrev pub root : Position
 root = position 0
 
-abbrev pub child_of : Position → ℕ → Child
+abbrev pub child_of : Position → ℕ → Option Position
 child_of p i =
-    unless (code_good p.0) Beyond
-    (unless (leb 1 i) Beyond
-    (unless (leb i most_children) Beyond
-    (unless (leb (5 * p.0 + i) largest) Beyond
-    (At (position (5 * p.0 + i))))))
+    unless (code_good p.0) None
+    (unless (leb 1 i) None
+    (unless (leb i most_children) None
+    (unless (leb (5 * p.0 + i) largest) None
+    (Some (position (5 * p.0 + i))))))
 
-abbrev pub child_says : Child → Says
-child_says (At p) = gives (p.0 ∷ [])
-child_says Beyond = refuses OutOfRange 0
+abbrev pub child_says : Option Position → Says
+child_says (Some p) = gives (p.0 ∷ [])
+child_says None = refuses OutOfRange 0
 
 abbrev pub is_good : Position → Bool
 is_good p = code_good p.0

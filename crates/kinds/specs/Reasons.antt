@@ -1,11 +1,16 @@
 -- The refusal numbers of document 01's table and of document 02, and what an answer says in its numbers.
+--   refused_at  a reason and the place at which it is given
 --   number_of  the number of each reason
 --   Says       number 0 and the values answered (gives), or a refusal's number and its place (refusal; refuses: by its reason), and the values
 --              that a call answers with a refusal too (refusal_with)
 use Rattle.std.specs.Prelude.{ℕ, List, [], ◌∷◌}
 use Rattle.kinds.specs.declared.Reason.{Reason}
+use Rattle.kinds.specs.declared.Refusal.{Refusal}
 use Rattle.kinds.specs.declared.Reason.TheVariants.{Short, Long, EndBytes, Trailer, Symbols, Children, ShapeWord, ShapeEnds, LoneBlank, ShapeNodes, ShapeDepth, Shapes, ScoreWord, ScoreEnds, ScoreDepth, Surplus, ScoreNodes, Tables}
 use Rattle.kinds.specs.declared.Reason.TheVariants.{BadShapes, ManyGoals, ManyStates, LongPlan, ShortScratch, ShortBuffers, BadScore, NoSuchItem, OutOfRange, NoSuchMatch, NotThere, IsFinished, NoTree, PastLimits, ShortScore}
+
+pattern abbrev pub refused_at : Reason → ℕ → Refusal
+refused_at r p = record { 0 = r; 1 = p }
 
 abbrev pub number_of : Reason → ℕ
 number_of Short = 1

@@ -6,33 +6,40 @@ ghost use Rattle.kinds.specs.Kinds.{root, child_of, is_good, length_of, comes_be
 ghost use Rattle.kinds.specs.Reasons.{number_of};
 
 pub mod limits; // the numbers of document 01
-pub mod numbers; // the greater of two
 pub mod slices; // comparing and copying words
 
 // The number of a plan's state.
-#[derive(Clone, Copy)]
+#[derive(Clone, Copy, PartialEq, Eq)]
 pub struct State(pub u16);
 
 // The number of a score's node.
-#[derive(Clone, Copy)]
+#[derive(Clone, Copy, PartialEq, Eq)]
 pub struct Node(pub u16);
 
 // The number of a shape.
-#[derive(Clone, Copy)]
+#[derive(Clone, Copy, PartialEq, Eq)]
 pub struct Shape(pub u16);
 
 // The number of a symbol.
-#[derive(Clone, Copy)]
+#[derive(Clone, Copy, PartialEq, Eq)]
 pub struct Symbol(pub u16);
 
 // The code of a position.
-#[derive(Clone, Copy)]
+#[derive(Clone, Copy, PartialEq, Eq)]
 pub struct Position(pub u16);
 
+// The shapes of a folio: their words, and the index at which each begins.
 #[derive(Clone, Copy)]
-pub enum Child {
-    At(Position),
-    Beyond,
+pub struct Shapes<'a> {
+    pub words: &'a [u16],
+    pub starts: &'a [u16],
+}
+
+// Its score: the words, and the span of each node.
+#[derive(Clone, Copy)]
+pub struct Score<'a> {
+    pub words: &'a [u16],
+    pub spans: &'a [u16],
 }
 
 impl Position {
@@ -48,26 +55,26 @@ impl Position {
     }
 
     // The position followed by a child number.
-    pub fn child(self, i: u16) -> Child
+    pub fn child(self, i: u16) -> Option<Position>
         ensures { result ≡ child_of self i }
     {
         let good = self.is_good();
         if !good {
-            return Child::Beyond;
+            return None;
         }
         if i == 0 {
-            return Child::Beyond;
+            return None;
         }
         let beyond = 4 < i;
         if beyond {
-            return Child::Beyond;
+            return None;
         }
         let code = 5 * self.0 as u32 + i as u32;
         let top = Position::LARGEST.0 as u32;
         if top < code {
-            return Child::Beyond;
+            return None;
         }
-        Child::At(Position(code as u16))
+        Some(Position(code as u16))
     }
 
     // Whether it is the code of a position in use.
@@ -78,6 +85,7 @@ impl Position {
             return false;
         }
         let mut rest = self.0;
+        // A while: the code is divided, no item is visited.
         while 0 < rest {
             if rest % 5 == 0 {
                 return false;
@@ -93,6 +101,7 @@ impl Position {
     {
         let mut rest = self.0;
         let mut n = 0;
+        // A while, as in `is_good`.
         while 0 < rest {
             rest /= 5;
             n += 1;
@@ -104,15 +113,7 @@ impl Position {
     pub fn before(self, other: Position) -> bool
         ensures { result ≡ comes_before self other }
     {
-        let mine = padded(self);
-        let others = padded(other);
-        if mine < others {
-            return true;
-        }
-        if others < mine {
-            return false;
-        }
-        self.length() < other.length()
+        (padded(self), self.length()) < (padded(other), other.length())
     }
 }
 
@@ -121,16 +122,14 @@ fn padded(p: Position) -> u32
     ensures { result ≡ pad_to 7 (decode p.0) }
 {
     let mut code = p.0 as u32;
-    let mut n = p.length();
-    while n < 7 {
+    for _ in p.length()..7 {
         code *= 5;
-        n += 1;
     }
     code
 }
 
 // Why a call is refused: a case for each number of the table of refusals.
-#[derive(Clone, Copy)]
+#[derive(Clone, Copy, PartialEq, Eq)]
 pub enum Reason {
     Short,
     Long,
@@ -166,6 +165,10 @@ pub enum Reason {
     PastLimits,
     ShortScore,
 }
+
+// A reason, and the place at which it is given.
+#[derive(Clone, Copy, PartialEq, Eq)]
+pub struct Refusal(pub Reason, pub usize);
 
 // The number of a reason in that table.
 pub fn number(reason: Reason) -> u16

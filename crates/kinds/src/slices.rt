@@ -6,17 +6,7 @@ ghost use Rattle.kinds.specs.Lists.{same};
 pub fn equal(a: &[u16], b: &[u16]) -> bool
     ensures { result ≡ same a.now b.now }
 {
-    if a.len() != b.len() {
-        return false;
-    }
-    let mut i = 0;
-    while i < a.len() {
-        if a[i] != b[i] {
-            return false;
-        }
-        i += 1;
-    }
-    true
+    a == b
 }
 
 // Copies `words` into `out` from index `at` on; what stands before and after them stays.
@@ -24,9 +14,5 @@ pub fn copy(out: &mut [u16], at: usize, words: &[u16])
     requires { at + length words.now ≤ length out.old }
     ensures { out.new ≡ sets out.old at words.now }
 {
-    let mut i = 0;
-    while i < words.len() {
-        out[at + i] = words[i];
-        i += 1;
-    }
+    out[at..at + words.len()].copy_from_slice(words);
 }

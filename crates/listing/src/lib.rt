@@ -5,9 +5,6 @@ use walk::Record;
 
 pub mod taking; // the choices of a list, in order
 
-// Of a list of choices: how many were accepted, and the record after them. `Refused` is at the index that is that number.
+// Of a list of choices: how many were accepted, and the record after them. A refusal is at the index that is that number.
 #[derive(Clone, Copy)]
-pub enum Listed {
-    All(usize, Record),
-    Refused(Reason, usize, Record),
-}
+pub struct Taken(pub usize, pub Record);

@@ -1,35 +1,28 @@
 ghost use Rattle.std.specs.Prelude.{◌≡◌};
-ghost use Rattle.walk.specs.Starting.{walk_of};
-ghost use Rattle.listing.specs.Listing.{list_outcome, listed};
+ghost use Rattle.walk.specs.Lent.{SameBuffers, walk_in};
+ghost use Rattle.listing.specs.Listing.{list_outcome_in, listed};
 
-use crate::Listed;
-use walk::stepping::step;
-use walk::{Record, Walked};
+use crate::Taken;
+use kinds::{Reason, Score};
+use walk::{Record, Walk};
 
 // Takes the items chosen, in order, and stops at the first choice that is refused.
 pub fn steps(
+    walk: &mut Walk<'_>,
     plan: &[u16],
-    score: &[u16],
-    spans: &[u16],
-    waiting: &mut [u16],
-    log: &mut [u16],
-    marks: &mut [u16],
+    score: Score<'_>,
     record: Record,
     choices: &[u16],
-) -> Listed
-    ensures { list_outcome result waiting.new log.new marks.new ≡ listed plan.now score.now spans.now choices.now (walk_of waiting.old log.old marks.old «record») }
+) -> Result<Taken, (Reason, Taken)>
+    ensures same_buffers { SameBuffers walk.new walk.old }
+    ensures listed { list_outcome_in result walk.new ≡ listed plan.now score.entry.words.now score.entry.spans.now choices.now (walk_in walk.old «record») }
 {
     let mut last = record;
     for i in 0..choices.len() {
         let choice = choices[i] as usize;
-        match step(plan, score, spans, waiting, log, marks, last, choice) {
-            Walked::Refused(why) => {
-                return Listed::Refused(why, i, last);
-            }
-            Walked::On(next) => {
-                last = next;
-            }
-        }
+        last = walk
+            .step(plan, score, last, choice)
+            .map_err(|why| (why, Taken(i, last)))?;
     }
-    Listed::All(choices.len(), last)
+    Ok(Taken(choices.len(), last))
 }

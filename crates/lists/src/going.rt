@@ -1,132 +1,203 @@
-use bufferstone::limits::{FILE_BYTES, MOST_SHAPES, SCRATCH_WORDS, SHAPES_WORDS};
-use bufferstone::{Built, Counts, Opened, Record, Walked, build, open, start};
+use crate::leaving::show_waiting;
+use bufferstone::limits::{
+    FILE_BYTES, MOST_SHAPES, PLAN_WORDS, SCORE_NODES, SCRATCH_WORDS, SHAPES_WORDS, WAITING_WORDS,
+};
+use bufferstone::{Counts, Reason, Record, Score, Shapes, Taken, Walk, build, number, open, steps};
 use running::files::read_folio;
-use running::texts::{before, first, has};
-use running::words::first_words;
+use running::parts::{first, first_mut, put};
+use running::showing::{show_marks, show_words};
+use running::texts::{before, numbers_in};
+use std::io;
 
 // No item has this word: the waiting words that a walk never wrote.
 pub const UNWRITTEN: u16 = 65535;
 
-// A walk on its way: the words of its plan, the nodes of its score, its record.
-#[derive(Clone, Copy)]
+// A walk on its way: how many words its plan has and how many nodes its score, its record, and the buffers. `walks` has its
+// own: `running`, which both have, is below stepping.
+#[derive(Drop)]
 pub struct Going {
-    pub words: usize,
-    pub nodes: usize,
+    words: usize,
+    nodes: usize,
     pub record: Record,
+    plan: [u16; PLAN_WORDS],
+    score: [u16; SCORE_NODES],
+    spans: [u16; SCORE_NODES],
+    waiting: [u16; WAITING_WORDS],
+    log: [u16; SCORE_NODES],
+    marks: [u16; SCORE_NODES],
 }
 
 impl Going {
     // No words, no nodes, and nothing waits.
     pub fn none() -> Going {
-        let record = Record {
+        Going {
+            words: 0,
+            nodes: 0,
+            record: Record {
+                waiting: 0,
+                logged: 0,
+                matches: 0,
+            },
+            plan: [0; PLAN_WORDS],
+            score: [0; SCORE_NODES],
+            spans: [0; SCORE_NODES],
+            waiting: [0; WAITING_WORDS],
+            log: [0; SCORE_NODES],
+            marks: [0; SCORE_NODES],
+        }
+    }
+
+    // Over the folio that the line names; where it is not opened, nothing waits.
+    pub fn begin(&mut self, rt: &HostRuntime, line: &[u8]) {
+        let mut file = [0u8; FILE_BYTES];
+        let mut words = [0u16; SHAPES_WORDS];
+        let mut starts = [0u16; MOST_SHAPES];
+        self.end();
+        let n = read_folio(rt, before(line, b' '), &mut file);
+        match open(
+            first(&file, n),
+            &mut words,
+            &mut starts,
+            &mut self.score,
+            &mut self.spans,
+        ) {
+            Err(_) => {}
+            Ok(c) => {
+                let symbols = first(&file, c.symbols);
+                let shapes = Shapes {
+                    words: first(&words, c.words),
+                    starts: first(&starts, c.shapes),
+                };
+                self.build(symbols, shapes);
+                self.start(c, symbols);
+            }
+        }
+    }
+
+    fn end(&mut self) {
+        self.words = 0;
+        self.nodes = 0;
+        self.record = Record {
             waiting: 0,
             logged: 0,
             matches: 0,
         };
-        Going {
-            words: 0,
-            nodes: 0,
-            record,
+    }
+
+    // Where no plan is built, it has no words.
+    fn build(&mut self, symbols: &[u8], shapes: Shapes<'_>) {
+        let mut scratch = [0u16; SCRATCH_WORDS];
+        if let Ok(size) = build(symbols, shapes, &mut self.plan, &mut scratch) {
+            self.words = size.words;
         }
     }
-}
 
-// With a `+` behind the folio's name the walk goes on.
-fn begins(line: &[u8]) -> bool {
-    !has(before(line, b'|'), b'+')
-}
-
-pub fn begin(
-    rt: &HostRuntime,
-    line: &[u8],
-    plan: &mut [u16],
-    score: &mut [u16],
-    spans: &mut [u16],
-    waiting: &mut [u16],
-    log: &mut [u16],
-    marks: &mut [u16],
-    going: Going,
-) -> Going {
-    if !begins(line) {
-        return going;
+    fn start(&mut self, counts: Counts, symbols: &[u8]) {
+        self.waiting.fill(UNWRITTEN);
+        let score = Score {
+            words: first(&self.score, counts.nodes),
+            spans: first(&self.spans, counts.nodes),
+        };
+        let mut walk = Walk {
+            waiting: &mut self.waiting,
+            log: &mut self.log,
+            marks: &mut self.marks,
+        };
+        match walk.start(symbols, score) {
+            Err(_) => self.end(),
+            Ok(record) => {
+                self.nodes = counts.nodes;
+                self.record = record;
+            }
+        }
     }
-    let mut file = [0u8; FILE_BYTES];
-    let mut words = [0u16; SHAPES_WORDS];
-    let mut starts = [0u16; MOST_SHAPES];
-    let n = read_folio(rt, before(line, b' '), &mut file);
-    match open(first(&file, n), &mut words, &mut starts, score, spans) {
-        Opened::Refused(reason, place) => Going::none(),
-        Opened::Folio(c) => begin_on(
-            c, &file, &words, &starts, plan, score, spans, waiting, log, marks,
-        ),
+
+    // The field has an index and a value.
+    pub fn change_plan(&mut self, change: &[u8]) {
+        let mut numbers = [0u16; 2];
+        numbers_in(change, &mut numbers);
+        if let Some(word) = self.plan.get_mut(usize::from(numbers[0])) {
+            *word = numbers[1];
+        }
+    }
+
+    pub fn change_number(&mut self, matches: usize) {
+        self.record.matches = matches;
+    }
+
+    pub fn put_mark(&mut self, node: usize, mark: usize) {
+        let nodes = self.nodes;
+        put(first_mut(&mut self.marks, nodes), node, mark);
+    }
+
+    pub fn step(&mut self, choice: usize) -> Result<(), Reason> {
+        let nodes = self.nodes;
+        let record = self.record;
+        let score = Score {
+            words: first(&self.score, nodes),
+            spans: first(&self.spans, nodes),
+        };
+        let mut walk = Walk {
+            waiting: first_mut(&mut self.waiting, twice(nodes)),
+            log: first_mut(&mut self.log, nodes),
+            marks: first_mut(&mut self.marks, nodes),
+        };
+        self.record = walk.step(first(&self.plan, self.words), score, record, choice)?;
+        Ok(())
+    }
+
+    // How many of the choices were accepted, and why the next one was not.
+    fn steps(&mut self, choices: &[u16]) -> (usize, Option<Reason>) {
+        let nodes = self.nodes;
+        let record = self.record;
+        let score = Score {
+            words: first(&self.score, nodes),
+            spans: first(&self.spans, nodes),
+        };
+        let mut walk = Walk {
+            waiting: first_mut(&mut self.waiting, twice(nodes)),
+            log: first_mut(&mut self.log, nodes),
+            marks: first_mut(&mut self.marks, nodes),
+        };
+        let plan = first(&self.plan, self.words);
+        let (Taken(accepted, record), refusal) = match steps(
+            &mut walk, plan, score, record, choices,
+        ) {
+            Ok(taken) => (taken, None),
+            Err((reason, taken)) => (taken, Some(reason)),
+        };
+        self.record = record;
+        (accepted, refusal)
+    }
+
+    pub fn take_choices(&mut self, rt: &HostRuntime, text: &[u8]) -> io::Result<()> {
+        let mut choices = [0u16; 2 * SCORE_NODES];
+        let (accepted, refusal) = self.steps(numbers_in(text, &mut choices));
+        match refusal {
+            None => print!(rt; "{accepted} 0 | ")?,
+            Some(reason) => print!(rt; "{accepted} {} {accepted} | ", number(reason))?,
+        }
+        let Record {
+            waiting,
+            logged,
+            matches,
+        } = self.record;
+        let nodes = self.nodes;
+        show_waiting(rt, first(&self.waiting, twice(nodes)), twice(waiting))?;
+        print!(rt; " | ")?;
+        show_words(rt, first(first(&self.log, nodes), logged))?;
+        self.show_marked(rt)?;
+        print!(rt; " | {matches}")
+    }
+
+    // The marks, in a field of their own.
+    pub fn show_marked(&self, rt: &HostRuntime) -> io::Result<()> {
+        print!(rt; " | ")?;
+        show_marks(rt, "", first(&self.marks, self.nodes))
     }
 }
 
-// A folio's symbols are its first bytes.
-fn begin_on(
-    counts: Counts,
-    file: &[u8],
-    words: &[u16],
-    starts: &[u16],
-    plan: &mut [u16],
-    score: &[u16],
-    spans: &[u16],
-    waiting: &mut [u16],
-    log: &mut [u16],
-    marks: &mut [u16],
-) -> Going {
-    let symbols = first(file, counts.symbols);
-    let size = build_words(counts, symbols, words, starts, plan);
-    let nodes = first_words(score, counts.nodes);
-    let sizes = first_words(spans, counts.nodes);
-    start_walk(size, symbols, nodes, sizes, waiting, log, marks)
-}
-
-// The words of the plan, 0 for none.
-fn build_words(
-    counts: Counts,
-    symbols: &[u8],
-    words: &[u16],
-    starts: &[u16],
-    plan: &mut [u16],
-) -> usize {
-    let mut scratch = [0u16; SCRATCH_WORDS];
-    let shapes = first_words(words, counts.words);
-    match build(
-        symbols,
-        shapes,
-        first_words(starts, counts.shapes),
-        plan,
-        &mut scratch,
-    ) {
-        Built::Plan(size) => size.words,
-        Built::Refused(reason) => 0,
-        Built::Stopped(reason, state) => 0,
-    }
-}
-
-fn start_walk(
-    words: usize,
-    symbols: &[u8],
-    score: &[u16],
-    spans: &[u16],
-    waiting: &mut [u16],
-    log: &mut [u16],
-    marks: &mut [u16],
-) -> Going {
-    fill(waiting, UNWRITTEN);
-    match start(symbols, score, spans, waiting, log, marks) {
-        Walked::Refused(reason) => Going::none(),
-        Walked::On(record) => Going {
-            words,
-            nodes: score.len(),
-            record,
-        },
-    }
-}
-
-fn fill(words: &mut [u16], word: u16) {
-    for i in 0..words.len() {
-        words[i] = word;
-    }
+// An item that waits has two words.
+fn twice(n: usize) -> usize {
+    n.saturating_mul(2)
 }

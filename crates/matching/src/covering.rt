@@ -1,7 +1,7 @@
 ghost use Rattle.std.specs.Prelude.{◌≡◌, ◌++◌, ◌+◌, ◌<◌, ◌≤◌, ltb, length, take};
 ghost use Rattle.matching.specs.Falling.{on_blanks, covered};
 
-use crate::falling::size;
+use crate::laying::Laying;
 use kinds::Node;
 
 // The nodes of the subtrees that a shape's blanks cover, from left to right, at the front of `nodes`; how many they are.
@@ -11,14 +11,9 @@ pub fn cover(shape: &[u16], blank: usize, spans: &[u16], node: Node, nodes: &mut
     ensures count { result ≡ length (covered blank spans.now shape.now node.0) }
     ensures few { result ≤ length shape.now }
 {
-    let mut x = node.0 as usize;
     let mut n = 0;
-    let mut i = 0;
-    while i < shape.len() {
-        let word = shape[i];
+    for (word, x) in Laying::new(shape, blank, spans, node) {
         n = keep(blank, word, x, nodes, n);
-        x += size(blank, spans, word, x);
-        i += 1;
     }
     n
 }

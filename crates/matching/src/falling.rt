@@ -1,48 +1,31 @@
-ghost use Rattle.std.specs.Prelude.{◌≡◌};
+ghost use Rattle.std.specs.Prelude.{◌≡◌, ◌<◌};
 ghost use Rattle.matching.specs.Falling.{size, stands, falls};
 
-use kinds::Node;
+use crate::laying::Laying;
+use kinds::{Node, Score};
 
 // Whether a shape's words, laid over the score's from a node on, all stand there; words from `blank` on are blanks.
-pub fn matches_at(shape: &[u16], blank: usize, score: &[u16], spans: &[u16], node: Node) -> bool
-    ensures { result ≡ falls blank score.now spans.now shape.now node.0 }
+pub fn matches_at(shape: &[u16], blank: usize, score: Score<'_>, node: Node) -> bool
+    ensures { result ≡ falls blank score.entry.words.now score.entry.spans.now shape.now node.0 }
 {
-    let mut x = node.0 as usize;
-    let mut i = 0;
-    while i < shape.len() {
-        let word = shape[i];
-        let here = stands(blank, score, word, x);
-        if !here {
-            return false;
-        }
-        x += size(blank, spans, word, x);
-        i += 1;
-    }
-    true
+    let words = score.words;
+    Laying::new(shape, blank, score.spans, node).all(|(word, x)| stands(blank, words, word, x))
 }
 
 // Whether a shape's word stands at a node: a blank, or the score's symbol.
 fn stands(blank: usize, score: &[u16], word: u16, x: usize) -> bool
     ensures { result ≡ stands blank score.now word x }
 {
-    if blank <= word as usize {
-        return true;
-    }
-    if score.len() <= x {
-        return false;
-    }
-    score[x] == word
+    blank <= word as usize || x < score.len() && score[x] == word
 }
 
 // How many nodes a shape's word takes from a node on: a blank the subtree there, a symbol one.
 pub fn size(blank: usize, spans: &[u16], word: u16, x: usize) -> usize
-    ensures { result ≡ size blank spans.now word x }
+    ensures is { result ≡ size blank spans.now word x }
+    ensures small { result < 65536 }
 {
     if (word as usize) < blank {
         return 1;
     }
-    if spans.len() <= x {
-        return 0;
-    }
-    spans[x] as usize
+    spans.get(x).map_or(0, |span| *span as usize)
 }

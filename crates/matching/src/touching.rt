@@ -2,20 +2,15 @@ ghost use Rattle.std.specs.Prelude.{◌≡◌};
 ghost use Rattle.matching.specs.Falling.{falling, touched};
 ghost use Rattle.matching.specs.Counts.{raises, is_shared};
 
-use crate::falling::size;
+use crate::laying::Laying;
 use kinds::Node;
 
 // One more for each node on which a symbol of the shape falls.
 pub fn touch(shape: &[u16], blank: usize, spans: &[u16], node: Node, counts: &mut [u16])
     ensures { counts.new ≡ raises (touched blank spans.now shape.now node.0) counts.old }
 {
-    let mut x = node.0 as usize;
-    let mut i = 0;
-    while i < shape.len() {
-        let word = shape[i];
+    for (word, x) in Laying::new(shape, blank, spans, node) {
         raise(blank, word, x, counts);
-        x += size(blank, spans, word, x);
-        i += 1;
     }
 }
 
@@ -23,12 +18,8 @@ pub fn touch(shape: &[u16], blank: usize, spans: &[u16], node: Node, counts: &mu
 fn raise(blank: usize, word: u16, x: usize, counts: &mut [u16])
     ensures { counts.new ≡ raises (falling blank word x) counts.old }
 {
-    if (word as usize) < blank {
-        if x < counts.len() {
-            if counts[x] < 65535 {
-                counts[x] += 1;
-            }
-        }
+    if (word as usize) < blank && x < counts.len() {
+        counts[x] = counts[x].saturating_add(1);
     }
 }
 
@@ -36,29 +27,12 @@ fn raise(blank: usize, word: u16, x: usize, counts: &mut [u16])
 pub fn is_shared(shape: &[u16], blank: usize, spans: &[u16], node: Node, counts: &[u16]) -> bool
     ensures { result ≡ is_shared counts.now (touched blank spans.now shape.now node.0) }
 {
-    let mut x = node.0 as usize;
-    let mut i = 0;
-    while i < shape.len() {
-        let word = shape[i];
-        let more = is_more(blank, word, x, counts);
-        if more {
-            return true;
-        }
-        x += size(blank, spans, word, x);
-        i += 1;
-    }
-    false
+    Laying::new(shape, blank, spans, node).any(|(word, x)| is_more(blank, word, x, counts))
 }
 
 // Whether the word is a symbol, and its node is counted more than once.
 fn is_more(blank: usize, word: u16, x: usize, counts: &[u16]) -> bool
     ensures { result ≡ is_shared counts.now (falling blank word x) }
 {
-    if blank <= word as usize {
-        return false;
-    }
-    if counts.len() <= x {
-        return false;
-    }
-    1 < counts[x]
+    (word as usize) < blank && x < counts.len() && 1 < counts[x]
 }

@@ -1,25 +1,13 @@
 #![tactic(auto)]
 // Prints what the plan's readers, `subtree`, `follow` and the positions' own calls say of the sample, and of places that are not there.
 use bufferstone::{
-    Announcement, Asked, Block, Child, Label, Node, Position, Reached, Reason, State, Successor,
-    Symbol, announcement_at, announcement_of, equal, follow, label_at, label_of, lengths_at,
-    lengths_of, number, subtree, successor_at, successor_of,
+    Asked, Lengths, Node, Position, Reason, Shape, State, Symbol, announcement_at, announcement_of,
+    equal, follow, label_at, label_of, lengths_at, lengths_of, number, subtree, successor_at,
+    successor_of,
 };
-use running::showing::{show, write};
+use running::sample::{PLAN, SCORE, SHAPES, SPANS, SYMBOLS};
+use running::showing::show_spaced;
 use std::io;
-
-const PLAN: [u16; 56] = [
-    3, 3, 2, 56, 0, 1, 2, 16, 18, 24, 28, 30, 38, 42, 44, 50, 0, 0, 0, 2, 1, 0, 2, 0, 0, 1, 0, 1,
-    0, 0, 1, 1, 0, 2, 1, 1, 2, 1, 0, 1, 0, 6, 0, 0, 0, 2, 1, 2, 2, 2, 1, 0, 0, 1, 0, 11,
-];
-
-const SYMBOLS: [u8; 3] = [0, 2, 1];
-
-const SHAPES: [u16; 9] = [1, 65535, 2, 65535, 1, 1, 65535, 65535, 65535];
-
-const SCORE: [u16; 10] = [1, 1, 0, 2, 0, 2, 1, 0, 2, 0];
-
-const SPANS: [u16; 10] = [10, 4, 1, 2, 1, 5, 4, 1, 2, 1];
 
 fn main(rt: HostRuntime) -> io::Result<()> {
     for s in 0..4 {
@@ -40,75 +28,64 @@ fn main(rt: HostRuntime) -> io::Result<()> {
 // A state's label, by the words and by a view of them; then what it says on each symbol, and on one that is not there.
 fn show_state(rt: &HostRuntime, state: State) -> io::Result<()> {
     let plan = PLAN;
-    show(rt, b"state ", state.0 as usize)?;
+    print!(rt; "state {}", state.0)?;
     show_label(rt, label_of(&plan, 3, 3, state))?;
     show_label(rt, label_at(&plan, 3, 3, state))?;
     show_label(rt, label_of(&plan, 4, 3, state))?;
-    end(rt)?;
-    show_block(rt, &plan, state, Symbol(0))?;
-    show_block(rt, &plan, state, Symbol(1))?;
-    show_block(rt, &plan, state, Symbol(2))?;
-    show_block(rt, &plan, state, Symbol(3))
+    print!(rt; "\n")?;
+    for symbol in 0..4 {
+        show_block(rt, &plan, state, Symbol(symbol))?;
+    }
+    Ok(())
 }
 
-fn show_label(rt: &HostRuntime, answer: Label) -> io::Result<()> {
+fn show_label(rt: &HostRuntime, answer: Result<Position, Reason>) -> io::Result<()> {
     match answer {
-        Label::At(p) => show(rt, b" label ", p.0 as usize),
-        Label::Refused(why) => refused(rt, why),
+        Ok(p) => print!(rt; " label {}", p.0),
+        Err(why) => refused(rt, why),
     }
 }
 
 // How long a block is, and its pairs, one more of each than there are: by the words and by a view of them.
 fn show_block(rt: &HostRuntime, plan: &[u16], state: State, symbol: Symbol) -> io::Result<()> {
-    show(rt, b"  symbol ", symbol.0 as usize)?;
+    print!(rt; "  symbol {}", symbol.0)?;
     show_lengths(rt, lengths_of(plan, 3, 3, state, symbol))?;
     show_lengths(rt, lengths_at(plan, 3, 3, state, symbol))?;
-    show_pairs(rt, plan, state, symbol, 0)?;
-    show_pairs(rt, plan, state, symbol, 1)?;
-    show_pairs(rt, plan, state, symbol, 2)?;
-    end(rt)
+    for i in 0..3 {
+        show_announcement(rt, announcement_of(plan, 3, 3, state, symbol, i))?;
+        show_announcement(rt, announcement_at(plan, 3, 3, state, symbol, i))?;
+        show_successor(rt, successor_of(plan, 3, 3, state, symbol, i))?;
+        show_successor(rt, successor_at(plan, 3, 3, state, symbol, i))?;
+    }
+    print!(rt; "\n")
 }
 
-fn show_lengths(rt: &HostRuntime, answer: Block) -> io::Result<()> {
+fn show_lengths(rt: &HostRuntime, answer: Result<Lengths, Reason>) -> io::Result<()> {
     match answer {
-        Block::Of(l) => {
-            show(rt, b" announcements ", l.announcements)?;
-            show(rt, b" successors ", l.successors)
+        Ok(l) => {
+            print!(rt;
+                " announcements {} successors {}",
+                l.announcements, l.successors
+            )
         }
-        Block::Refused(why) => refused(rt, why),
+        Err(why) => refused(rt, why),
     }
 }
 
-fn show_pairs(
+fn show_announcement(
     rt: &HostRuntime,
-    plan: &[u16],
-    state: State,
-    symbol: Symbol,
-    i: usize,
+    answer: Result<(Shape, Position), Reason>,
 ) -> io::Result<()> {
-    show_announcement(rt, announcement_of(plan, 3, 3, state, symbol, i))?;
-    show_announcement(rt, announcement_at(plan, 3, 3, state, symbol, i))?;
-    show_successor(rt, successor_of(plan, 3, 3, state, symbol, i))?;
-    show_successor(rt, successor_at(plan, 3, 3, state, symbol, i))
-}
-
-fn show_announcement(rt: &HostRuntime, answer: Announcement) -> io::Result<()> {
     match answer {
-        Announcement::Of(shape, p) => {
-            show(rt, b" announces ", shape.0 as usize)?;
-            show(rt, b" at ", p.0 as usize)
-        }
-        Announcement::Refused(why) => refused(rt, why),
+        Ok((shape, p)) => print!(rt; " announces {} at {}", shape.0, p.0),
+        Err(why) => refused(rt, why),
     }
 }
 
-fn show_successor(rt: &HostRuntime, answer: Successor) -> io::Result<()> {
+fn show_successor(rt: &HostRuntime, answer: Result<(State, Position), Reason>) -> io::Result<()> {
     match answer {
-        Successor::Of(state, p) => {
-            show(rt, b" goes to ", state.0 as usize)?;
-            show(rt, b" by ", p.0 as usize)
-        }
-        Successor::Refused(why) => refused(rt, why),
+        Ok((state, p)) => print!(rt; " goes to {} by {}", state.0, p.0),
+        Err(why) => refused(rt, why),
     }
 }
 
@@ -117,82 +94,83 @@ fn show_subtrees(rt: &HostRuntime, x: u16) -> io::Result<()> {
     let symbols = SYMBOLS;
     let shapes = SHAPES;
     let score = SCORE;
-    show(rt, b"shape word ", x as usize)?;
-    show_words(
+    print!(rt; "shape word {x}:")?;
+    show_spaced(
         rt,
-        subtree(Asked::Shapes(x as usize), &symbols, &shapes, &score),
+        subtree(Asked::Shapes(usize::from(x)), &symbols, &shapes, &score),
     )?;
-    show(rt, b" node ", x as usize)?;
-    show_words(
+    print!(rt; " node {x}:")?;
+    show_spaced(
         rt,
         subtree(Asked::Score(Node(x)), &symbols, &shapes, &score),
     )?;
-    end(rt)
+    print!(rt; "\n")
 }
 
 // Whether a position is in use, how long it is, its children, and where it leads from the score's root.
 fn show_position(rt: &HostRuntime, p: Position) -> io::Result<()> {
     let spans = SPANS;
-    show(rt, b"position ", p.0 as usize)?;
-    say_bool(rt, b" good", p.is_good())?;
-    show(rt, b" length ", p.length() as usize)?;
-    show_child(rt, p.child(0))?;
-    show_child(rt, p.child(1))?;
-    show_child(rt, p.child(4))?;
-    show_child(rt, p.child(5))?;
-    match follow(&spans, 10, Node(0), p) {
-        Reached::At(x) => show(rt, b" leads to ", x.0 as usize)?,
-        Reached::Nowhere => write(rt, b" leads nowhere")?,
+    print!(rt;
+        "position {} good {} length {}",
+        p.0,
+        yes_or_no(p.is_good()),
+        p.length()
+    )?;
+    for i in [0, 1, 4, 5] {
+        show_child(rt, p.child(i))?;
     }
-    end(rt)
+    match follow(&spans, 10, Node(0), p) {
+        Some(x) => println!(rt; " leads to {}", x.0),
+        None => println!(rt; " leads nowhere"),
+    }
 }
 
-fn show_child(rt: &HostRuntime, answer: Child) -> io::Result<()> {
+fn show_child(rt: &HostRuntime, answer: Option<Position>) -> io::Result<()> {
     match answer {
-        Child::At(p) => show(rt, b" ", p.0 as usize),
-        Child::Beyond => write(rt, b" -"),
+        Some(p) => print!(rt; " {}", p.0),
+        None => print!(rt; " -"),
     }
 }
 
 // Document order: the root first, what is under a position behind it, and children from left to right.
 fn show_orders(rt: &HostRuntime) -> io::Result<()> {
-    say_bool(rt, b"root before 1", Position::ROOT.before(Position(1)))?;
-    say_bool(rt, b" 1 before 1.2", Position(1).before(Position(7)))?;
-    say_bool(rt, b" 1.2 before 2", Position(7).before(Position(2)))?;
-    say_bool(rt, b" 2 before 1.2", Position(2).before(Position(7)))?;
-    say_bool(rt, b" 2 before 2", Position(2).before(Position(2)))?;
-    end(rt)
+    print!(rt;
+        "root before 1 {}",
+        yes_or_no(Position::ROOT.before(Position(1)))
+    )?;
+    print!(rt;
+        " 1 before 1.2 {}",
+        yes_or_no(Position(1).before(Position(7)))
+    )?;
+    print!(rt;
+        " 1.2 before 2 {}",
+        yes_or_no(Position(7).before(Position(2)))
+    )?;
+    print!(rt;
+        " 2 before 1.2 {}",
+        yes_or_no(Position(2).before(Position(7)))
+    )?;
+    println!(rt;
+        " 2 before 2 {}",
+        yes_or_no(Position(2).before(Position(2)))
+    )
 }
 
 fn show_equal(rt: &HostRuntime) -> io::Result<()> {
     let one = PLAN;
     let mut other = PLAN;
-    say_bool(rt, b"equal", equal(&one, &other))?;
+    print!(rt; "equal {}", yes_or_no(equal(&one, &other)))?;
     other[55] = 12;
-    say_bool(rt, b" with another last word", equal(&one, &other))?;
-    end(rt)
-}
-
-fn show_words(rt: &HostRuntime, words: &[u16]) -> io::Result<()> {
-    write(rt, b":")?;
-    for word in words {
-        print!(rt; " {word}")?;
-    }
-    Ok(())
+    println!(rt;
+        " with another last word {}",
+        yes_or_no(equal(&one, &other))
+    )
 }
 
 fn refused(rt: &HostRuntime, why: Reason) -> io::Result<()> {
-    show(rt, b" refused ", number(why) as usize)
+    print!(rt; " refused {}", number(why))
 }
 
-fn say_bool(rt: &HostRuntime, text: &[u8], yes: bool) -> io::Result<()> {
-    write(rt, text)?;
-    if yes {
-        return write(rt, b" yes");
-    }
-    write(rt, b" no")
-}
-
-fn end(rt: &HostRuntime) -> io::Result<()> {
-    write(rt, b"\n")
+fn yes_or_no(yes: bool) -> &'static str {
+    if yes { "yes" } else { "no" }
 }

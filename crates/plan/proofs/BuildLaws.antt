@@ -1,29 +1,30 @@
 -- Building, step by step.
---   Clearing clearing_…            the first words zero
+--   filled cleared_is              the first words zero
 --   cleared_again                  what clearing leaves depends only on the words behind
 --   same_self                      a state is the same as itself
---   Ended ended_is ended_counts    what exploring to the end tells: the plan's words, their number
+--   Ended ended_is made_counts     what exploring to the end tells: the plan's words, their number
 --   made_stopped made_long made_plan   the plan that there is, or why there is none
 --   built_bad built_short built_on built_made   19; 23; and on
+use Rattle.plan.specs.declared.Size.{Size}
+use Rattle.plan.specs.declared.Unbuilt.{Unbuilt}
+use Rattle.plan.specs.declared.Unbuilt.TheVariants as unbuilt
+use Rattle.std.specs.Prelude.{Err, Ok, Result}
 use mathlib.Core.Path.{◌≡◌, refl, ap, ap₂, sym, ◌∙◌}
 use mathlib.Core.List.{List, [], ◌∷◌, ◌++◌}
 use mathlib.Core.Bool.{Bool, true, false, cond, ◌||◌}
 use mathlib.Core.Logic.{◌⊎◌, ⊎_elim}
-use Prim.Native.Nat.{ℕ, suc, ◌+◌, ◌-◌, ◌*◌, ◌<◌, ◌≤◌}
-use native.Mathlib.Omega.{arith}
-use native.Mathlib.Nat.{sub-zero, mul-le-mul}
-use native.Mathlib.Numerals.{add-one}
+use Prim.Native.Nat.{ℕ, ◌+◌, ◌*◌, ◌<◌, ◌≤◌}
+use native.Mathlib.Nat.{mul-le-mul}
 use borrow.Author.Tests.{lt-ltb, le-ltb, le-leb, lt-leb}
 use lib.Dec.{eqb, ltb, leb}
-use lib.ListN.{length, drop, set, replicate, length-set, length-replicate}
-use lib.Seq.{sets, drop-drop}
+use lib.ListN.{length, take, drop, replicate, length-replicate}
+use lib.Seq.{sets, drop-drop, length-take-le}
 use Rattle.kinds.specs.Lists.{onto, unless}
 use Rattle.kinds.specs.declared.State.{State}
 use Rattle.kinds.specs.declared.Reason.{Reason}
 use Rattle.kinds.specs.declared.Reason.TheVariants.{BadShapes, ShortScratch, LongPlan}
 use Rattle.kinds.proofs.Bools.{both, is_eqb, or_l, or_r}
 use Rattle.kinds.specs.Members.{◌∈◌, here, there}
-use Rattle.kinds.proofs.ListLaws.{onto_sets}
 use Rattle.checks.specs.Again.{shapes_good}
 use Rattle.automaton.specs.Exploring.{made, explored}
 use Rattle.automaton.specs.PlanWords.{Plan, halted, too_long, plan_of_lem, to_plan, planned}
@@ -37,37 +38,18 @@ use Rattle.states.specs.Meeting.{Held, Behind, blocks_length, all_most, AllMade,
 use Rattle.writing.specs.RowWords.{plan_in, Writable}
 use Rattle.plan.specs.Building.{BuildOutcome, out, scratch_words, cleared, size, written, plan_of, build_of, refuse_build}
 use Rattle.folio.specs.Folio.{shape_terms}
-use Rattle.plan.specs.declared.Built.{Built}
-use Rattle.plan.specs.declared.Built.TheVariants as built
-use Rattle.states.specs.declared.Explored.{Explored}
-use Rattle.states.specs.declared.Explored.TheVariants as result
 use Rattle.states.proofs.StateLaws.{states_length}
 use Rattle.writing.proofs.WriteLaws.{plan_length}
 
 -- ---- the first k words zero
-pub record Clearing (k : ℕ) (l₀ l : List ℕ) (i : ℕ) : Type 0 where
-  pub below : i ≤ k
-  pub long : length l ≡ length l₀
-  pub is : sets l₀ 0 (replicate k 0) ≡ sets l i (replicate (k - i) 0)
+filled : (k : ℕ) (xs ys : List ℕ) → k ≤ length xs → ys ≡ replicate (length (take k xs)) 0 → ys ++ drop k xs ≡ onto (replicate k 0) xs
+filled k xs ys h e =
+    ap₂ (λ l n. l ++ drop n xs) (e ∙ ap (λ n. replicate n 0) (length-take-le k xs h)) (sym (length-replicate {A = ℕ} k 0))
 
-pub clearing_begin : (k : ℕ) (l : List ℕ) → Clearing k l l 0
-clearing_begin k l = record { below = omega arith; long = refl; is = rw (sub-zero k) refl }
-
-module _ {k : ℕ} {l₀ l : List ℕ} {i : ℕ} (s : Clearing k l₀ l i) where
-  pub clearing_on : i < k → Clearing k l₀ (set l i 0) (i + 1)
-  clearing_on h =
-      let e : k - i ≡ suc (k - (i + 1)) = omega arith in
-      record { below = omega arith; long = length-set l i 0 ∙ s.long; is = s.is ∙ rw (e, add-one i) refl }
-
-  pub clearing_end : k ≤ i → k ≤ length l₀ → l ≡ onto (replicate k 0) l₀
-  clearing_end h room =
-      let e : k - i ≡ 0 = omega arith in
-      let d : length (replicate {A = ℕ} k 0) ≤ length l₀ = rw (length-replicate {A = ℕ} k 0) room in
-      sym (onto_sets (replicate k 0) l₀ d ∙ s.is ∙ rw e refl)
-
-pub clearing_done : (l₀ l : List ℕ) → l ≡ onto (replicate scratch_words 0) l₀ → l ≡ cleared l₀
+pub cleared_is : (xs ys : List ℕ) → scratch_words ≤ length xs → ys ≡ replicate (length (take scratch_words xs)) 0
+    → ys ++ drop scratch_words xs ≡ cleared xs
 unfolding cleared
-clearing_done l₀ l e = e
+cleared_is xs ys h e = filled scratch_words xs ys h e
 
 onto_again : (k : ℕ) (xs ys : List ℕ) → drop k xs ≡ drop k ys → onto (replicate k 0) xs ≡ onto (replicate k 0) ys
 onto_again k xs ys e =
@@ -113,7 +95,7 @@ module _ (ar tab : List ℕ) (n : ℕ) where
     pub is : (buffer : ℕ) → planned (words tab n) ar n buffer
         ≡ cond (ltb buffer (length (plan_in ar tab n sc m)) || ltb 65535 (length (plan_in ar tab n sc m))) too_long (plan_of_lem m (plan_in ar tab n sc m))
 
-  pub ended_is : (r : Explored) (m w : ℕ) (sc : List ℕ) → r ≡ result.Made m w → ExploredIs r ar tab n sc (explored (words tab n) ar)
+  pub ended_is : (r : Result (ℕ × ℕ) (Reason × State)) (m w : ℕ) (sc : List ℕ) → r ≡ Ok (m, w) → ExploredIs r ar tab n sc (explored (words tab n) ar)
       → Ended sc m w
   ended_is r m w sc e x = go (rw e at x)
     where
@@ -137,13 +119,13 @@ module _ (ar tab : List ℕ) (n : ℕ) where
     abbrev pub wanted : BuildOutcome
     wanted = written (planned (words tab n) ar n (length plan)) plan scratch
 
-    pub made_stopped : (r : Explored) (why : Reason) (at : State) (sc : List ℕ) → r ≡ result.Stopped why at
+    pub made_stopped : (r : Result (ℕ × ℕ) (Reason × State)) (why : Reason) (at : State) (sc : List ℕ) → r ≡ Err (why, at)
         → ExploredIs r ar tab n sc (explored (words tab n) ar) → Behind scratch sc
-        → out (built.Stopped why at) plan (cleared sc) ≡ wanted
+        → out (Err (unbuilt.Stopped why at)) plan (cleared sc) ≡ wanted
     made_stopped r why at sc e x b =
         let is : planned (words tab n) ar n (length plan) ≡ halted why at.0 =
         ap (to_plan (words tab n) (length plan) (length ar) n) (rw e at x) in
-        ap (out (built.Stopped why at) plan) (cleared_again sc scratch b) ∙ sym (ap (λ p. written p plan scratch) is)
+        ap (out (Err (unbuilt.Stopped why at)) plan) (cleared_again sc scratch b) ∙ sym (ap (λ p. written p plan scratch) is)
 
     module _ {sc : List ℕ} {m w : ℕ} (e : Ended sc m w) (b : Behind scratch sc) where
       abbrev P : List ℕ
@@ -152,24 +134,24 @@ module _ (ar tab : List ℕ) (n : ℕ) where
       abbrev total : ℕ
       total = 4 + m + m * length ar + w
 
-      pub made_long : (length plan < total) ⊎ (65535 < total) → out (built.Refused LongPlan) plan (cleared sc) ≡ wanted
+      pub made_long : (length plan < total) ⊎ (65535 < total) → out (Err (unbuilt.Refused LongPlan)) plan (cleared sc) ≡ wanted
       made_long h =
           let over : (ltb (length plan) (length P) || ltb 65535 (length P)) ≡ true =
           ⊎_elim (λ l. or_l (ltb 65535 (length P)) (lt-ltb (length plan) (length P) (rw e.total at l)))
           (λ l. or_r (ltb (length plan) (length P)) (lt-ltb 65535 (length P) (rw e.total at l))) h in
           let is : planned (words tab n) ar n (length plan) ≡ too_long =
           e.is (length plan) ∙ ap (λ t. cond t too_long (plan_of_lem m P)) over in
-          ap (out (built.Refused LongPlan) plan) (cleared_again sc scratch b) ∙ sym (ap (λ p. written p plan scratch) is)
+          ap (out (Err (unbuilt.Refused LongPlan)) plan) (cleared_again sc scratch b) ∙ sym (ap (λ p. written p plan scratch) is)
 
       pub made_plan : total ≤ length plan → total ≤ 65535 → (plan' sc' : List ℕ) → plan' ≡ sets plan 0 P → Behind sc sc'
-          → out (built.Plan (size m total)) plan' (cleared sc') ≡ wanted
+          → out (Ok (size m total)) plan' (cleared sc') ≡ wanted
       made_plan h g plan' sc' d b' =
           let within : (ltb (length plan) (length P) || ltb 65535 (length P)) ≡ false =
           ap₂ (λ x y. x || y) (le-ltb (length plan) (length P) (rw e.total at h)) (le-ltb 65535 (length P) (rw e.total at g)) in
           let is : planned (words tab n) ar n (length plan) ≡ plan_of_lem m P =
           e.is (length plan) ∙ ap (λ t. cond t too_long (plan_of_lem m P)) within in
-          ap (λ k. out (built.Plan (size m k)) plan' (cleared sc')) e.total
-          ∙ ap₂ (out (built.Plan (size m (length P)))) d (cleared_again sc' scratch (b' ∙ b))
+          ap (λ k. out (Ok (size m k)) plan' (cleared sc')) e.total
+          ∙ ap₂ (out (Ok (size m (length P)))) d (cleared_again sc' scratch (b' ∙ b))
           ∙ sym (ap (λ p. written p plan scratch) is)
 
       pub plan_writable : Ready ar tab n → total ≤ length plan → total ≤ 65535 → Writable ar tab n sc m total plan
@@ -181,9 +163,13 @@ module _ (ar tab : List ℕ) (n : ℕ) where
     pub starts : m * length ar ≤ 4096
     pub blocks : w ≤ all_most
 
-  pub ended_counts : {sc : List ℕ} {m w : ℕ} → Ended sc m w → length ar ≤ 32 → Counts m w
+  ended_counts : {sc : List ℕ} {m w : ℕ} → Ended sc m w → length ar ≤ 32 → Counts m w
   ended_counts {sc} {m} {w} e few =
       record { states = e.held.kept.few; starts = few_starts m (length ar) e.held.kept.few few; blocks = e.room }
+
+  pub made_counts : (r : Result (ℕ × ℕ) (Reason × State)) (m w : ℕ) (sc : List ℕ) → r ≡ Ok (m, w) → ExploredIs r ar tab n sc (explored (words tab n) ar)
+      → length ar ≤ 32 → Counts m w
+  made_counts r m w sc e x few = ended_counts (ended_is r m w sc e x) few
 
 -- ---- the whole
 passed : (a b : Bool) (x y z : BuildOutcome) → a ≡ true → b ≡ true → unless a x (unless b y z) ≡ z
@@ -208,6 +194,6 @@ module _ (ar ws st plan scratch : List ℕ) where
       ∙ ap (λ q. written q plan scratch) (sym d)
 
   pub built_made : shapes_good ar ws st ≡ true → scratch_words ≤ length scratch → (p : Plan) → p ≡ plan_of ar (shape_terms ar ws) (length plan)
-      → (a : Built) (plan' sc sc' : List ℕ)
+      → (a : Result Size Unbuilt) (plan' sc sc' : List ℕ)
       → out a plan' (cleared sc) ≡ written p plan scratch → sc' ≡ cleared sc → out a plan' sc' ≡ build_of ar ws st plan scratch
   built_made e h p d a plan' sc sc' w clear = ap (out a plan') clear ∙ w ∙ sym (built_on e h p d)

@@ -11,9 +11,9 @@ pub struct Size {
     pub words: usize,
 }
 
+// Why there is no plan: a refusal, or one that is given where a state is derived.
 #[derive(Clone, Copy)]
-pub enum Built {
-    Plan(Size),
+pub enum Unbuilt {
     Refused(Reason),
     Stopped(Reason, State),
 }

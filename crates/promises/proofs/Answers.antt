@@ -3,6 +3,8 @@
 --   same_planned         whatever the buffer has, they are the same
 --   BuiltAs built_as     an accepted build: the plan that there is stands at the buffer's start
 --   started_as           an accepted start: there is room, the walk begins, and the score is good
+use Rattle.plan.specs.declared.Unbuilt.TheVariants as unbuilt
+use Rattle.std.specs.Prelude.{Err, Ok}
 use mathlib.Core.Path.{◌≡◌, refl, ap, sym, ◌∙◌}
 use mathlib.Core.Bool.{Bool, true, false, cond, ◌||◌}
 use mathlib.Core.Logic.{◌⊎◌, inl, inr}
@@ -25,12 +27,10 @@ use Rattle.automaton.specs.Exploring.{Construction, Block, Made, refused, made, 
 use Rattle.automaton.specs.PlanWords.{Plan, halted, too_long, plan_of_lem, plan_words, to_plan, planned}
 use Rattle.plan.specs.Building.{BuildOutcome, size, plan_of, written, build_of}
 use Rattle.plan.specs.declared.Size.{Size}
-use Rattle.plan.specs.declared.Built.TheVariants as building
 use Rattle.plan.proofs.BuildLaws.{built_bad, built_short, built_on}
 use Rattle.walk.specs.Starting.{Walk, begun, room_for, started}
 use Rattle.walk.specs.Starting.{WalkOutcome}
 use Rattle.walk.specs.declared.Record.{Record}
-use Rattle.walk.specs.declared.Walked.TheVariants as walking
 use Rattle.walking.proofs.PlanRead.{on_planned}
 
 -- ---- the plan
@@ -67,11 +67,11 @@ module _ (ar ws st plan scratch : List ℕ) (s : Size) where
     pub is : plan_of ar (shape_terms ar ws) (length plan) ≡ plan_of_lem s.states words
     pub back : take s.words (build_of ar ws st plan scratch).plan ≡ words
 
-  not_plan {κ} : {Z : Type κ} {r : Reason} → building.Refused r ≡ building.Plan s → Z
+  not_plan {κ} : {Z : Type κ} {r : Reason} → Err (unbuilt.Refused r) ≡ Ok s → Z
   not_plan e = let z : ◌≡◌ {A = ℕ} 0 1 = cc in absurd (omega arith)
 
   on : (p : Plan) → plan_of ar (shape_terms ar ws) (length plan) ≡ p → build_of ar ws st plan scratch ≡ written p plan scratch
-      → (written p plan scratch).answer ≡ building.Plan s → BuiltAs
+      → (written p plan scratch).answer ≡ Ok s → BuiltAs
   on (halted r i) ep eb e = let z : ◌≡◌ {A = ℕ} 0 1 = cc in absurd (omega arith)
   on too_long ep eb e = not_plan e
   on (plan_of_lem m w) ep eb e =
@@ -85,10 +85,10 @@ module _ (ar ws st plan scratch : List ℕ) (s : Size) where
         back = ap (take s.words) (ap (λ (o : BuildOutcome). o.plan) eb) ∙ ap (λ x. take x (sets plan 0 w)) (sym b) ∙ stored_back w plan room;
       }
 
-  pub built_as : (build_of ar ws st plan scratch).answer ≡ building.Plan s → BuiltAs
+  pub built_as : (build_of ar ws st plan scratch).answer ≡ Ok s → BuiltAs
   built_as e = go (test (shapes_good ar ws st)) (dec_lt (length scratch) 32768)
     where
-      answer_is : {o : BuildOutcome} → build_of ar ws st plan scratch ≡ o → o.answer ≡ building.Plan s
+      answer_is : {o : BuildOutcome} → build_of ar ws st plan scratch ≡ o → o.answer ≡ Ok s
       answer_is d = sym (ap (λ (o : BuildOutcome). o.answer) d) ∙ e
 
       go : (shapes_good ar ws st ≡ true) ⊎ (shapes_good ar ws st ≡ false) → Dec (length scratch < 32768) → BuiltAs
@@ -101,17 +101,17 @@ module _ (ar ws st plan scratch : List ℕ) (s : Size) where
 
 -- ---- starting
 module _ (ar score spans : List ℕ) (w : Walk) (r : Record) where
-  pub started_as : (started ar score spans w).answer ≡ walking.On r → (room_for (length score) w ≡ true)
+  pub started_as : (started ar score spans w).answer ≡ Ok r → (room_for (length score) w ≡ true)
       × ((started ar score spans w).walk ≡ begun (length score) w) × (score_good ar score spans ≡ true)
   unfolding started
   started_as e = go (score_good ar score spans) (room_for (length score) w) e
     where
       tell : Bool → Bool → WalkOutcome
-      tell a b = unless a (record { answer = walking.Refused BadScore; walk = w })
-          (unless b (record { answer = walking.Refused ShortBuffers; walk = w })
-          (record { answer = walking.On (begun (length score) w).count; walk = begun (length score) w }))
+      tell a b = unless a (record { answer = Err BadScore; walk = w })
+          (unless b (record { answer = Err ShortBuffers; walk = w })
+          (record { answer = Ok (begun (length score) w).count; walk = begun (length score) w }))
 
-      go : (a b : Bool) → (tell a b).answer ≡ walking.On r → (b ≡ true) × ((tell a b).walk ≡ begun (length score) w) × (a ≡ true)
+      go : (a b : Bool) → (tell a b).answer ≡ Ok r → (b ≡ true) × ((tell a b).walk ≡ begun (length score) w) × (a ≡ true)
       go false b d = let z : ◌≡◌ {A = ℕ} 0 1 = cc in absurd (omega arith)
       go true false d = let z : ◌≡◌ {A = ℕ} 0 1 = cc in absurd (omega arith)
       go true true d = (refl, refl, refl)

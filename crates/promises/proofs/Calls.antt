@@ -1,6 +1,12 @@
 -- Each call by its contract: whatever result and buffers the contract allows are a row of the call's table in demand 1. `Learnt` is what the checker reads off a call's
 -- contract; κs are the lifetimes, a the arguments, r a result, e the arguments as they are afterwards. So a contract that is changed together with its code breaks a promise.
 -- A slice of bytes has none over 255, a slice of words none over 65,535: `Below` says so where a table needs it.
+use Rattle.kinds.specs.declared.Position.{Position}
+use Rattle.kinds.specs.declared.Reason.{Reason}
+use Rattle.kinds.specs.declared.Shape.{Shape}
+use Rattle.kinds.specs.declared.State.{State}
+use Rattle.readers.specs.declared.Lengths.{Lengths}
+use Rattle.std.specs.Prelude.{Result}
 use mathlib.Core.Path.{◌≡◌, ap, sym, subst}
 use mathlib.Core.List.{List, [], ◌∷◌}
 use Prim.Native.Nat.{ℕ}
@@ -16,15 +22,12 @@ use denote.Triple.Spec.{Spec, exits}
 use Rattle.kinds.specs.Members.{Below}
 use Rattle.kinds.specs.Kinds.{child_says}
 use Rattle.folio.specs.Opening.{lent, opened_says}
-use Rattle.walk.specs.Starting.{walk_of, counting, record_after, walked_says}
+use Rattle.walk.specs.Lent.{walk_in}
+use Rattle.walk.specs.Starting.{counting, record_after, walked_says}
 use Rattle.listing.specs.Listing.{record_in, listed_says}
 use Rattle.counting.specs.Counting.{counted_says}
 use Rattle.readers.specs.BlockWords.{middle}
 use Rattle.readers.specs.PlanParts.{label_of, label_says, lengths_of, block_says, announcement_of, announcement_says, successor_of, successor_says}
-use Rattle.readers.specs.declared.Announcement.{Announcement}
-use Rattle.readers.specs.declared.Block.{Block}
-use Rattle.readers.specs.declared.Label.{Label}
-use Rattle.readers.specs.declared.Successor.{Successor}
 use Rattle.following.specs.Following.{reached_says}
 use Rattle.report.specs.Text.{first_line, refusal_text}
 use Rattle.report.specs.Lines.{written_says}
@@ -33,8 +36,8 @@ use lib.ListN.{get_or}
 use Rattle.folio.proofs.opening.open.Reads as open-folio
 use Rattle.plan.specs.Building.{built_says}
 use Rattle.plan.proofs.building.build.Reads as build
-use Rattle.walk.proofs.starting.start.Reads as start
-use Rattle.walk.proofs.stepping.step.Reads as step
+use Rattle.walk.proofs.Walk.start.Reads as start
+use Rattle.walk.proofs.Walk.step.Reads as step
 use Rattle.listing.proofs.taking.steps.Reads as steps
 use Rattle.clashing.proofs.marks.clashes.Reads as clashes
 use Rattle.comparing.proofs.marking.compare.Reads as compare
@@ -70,60 +73,56 @@ open_call κs a r e h small = subst (OpenRow a.0.now (lent a.1.0.now a.1.1.0.now
     (ap open_told (sym h)) (demand_1.opening _ _ small).0
 
 pub build_call : (κs : _) (a : _) (r : _) (e : _) → build.Learnt κs a r e
-    → BuildRow a.0.now a.1.0.now a.1.1.0.now a.1.1.1.0.now a.1.1.1.1.0.now
-    (told (built_says r) (e.1.1.1.0.now, e.1.1.1.1.0.now))
-build_call κs a r e h = subst (BuildRow a.0.now a.1.0.now a.1.1.0.now a.1.1.1.0.now a.1.1.1.1.0.now)
+    → BuildRow a.0.now a.1.0.words.now a.1.0.starts.now a.1.1.0.now a.1.1.1.0.now (told (built_says r) (e.1.1.0.now, e.1.1.1.0.now))
+build_call κs a r e h = subst (BuildRow a.0.now a.1.0.words.now a.1.0.starts.now a.1.1.0.now a.1.1.1.0.now)
     (ap build_told (sym h)) (demand_1.building _ _ _ _ _).0
 
-pub start_call : (κs : _) (a : _) (r : _) (e : _) → start.Learnt κs a r e → Below 65536 a.1.0.now
-    → StartRow a.0.now a.1.0.now a.1.1.0.now
-    (walk_of a.1.1.1.0.now a.1.1.1.1.0.now a.1.1.1.1.1.0.now (counting 0 0 0))
-    (told (walked_says r) (walk_of e.1.1.1.0.now e.1.1.1.1.0.now e.1.1.1.1.1.0.now (record_after r (counting 0 0 0))))
-start_call κs a r e h small = subst (StartRow a.0.now a.1.0.now a.1.1.0.now
-    (walk_of a.1.1.1.0.now a.1.1.1.1.0.now a.1.1.1.1.1.0.now (counting 0 0 0))) (ap walk_told (sym h))
-    (demand_1.starting _ _ _ _ small).0
+pub start_call : (κs : _) (a : _) (r : _) (e : _) → start.Learnt κs a r e → Below 65536 a.1.1.0.words.now
+    → StartRow a.1.0.now a.1.1.0.words.now a.1.1.0.spans.now (walk_in a.0.now (counting 0 0 0))
+    (told (walked_says r) (walk_in e.0.now (record_after r (counting 0 0 0))))
+start_call κs a r e h small =
+    subst (StartRow a.1.0.now a.1.1.0.words.now a.1.1.0.spans.now (walk_in a.0.now (counting 0 0 0)))
+    (ap walk_told (sym h.1)) (demand_1.starting _ _ _ _ small).0
 
 pub step_call : (κs : _) (a : _) (r : _) (e : _) → step.Learnt κs a r e
-    → StepRow a.0.now a.1.0.now a.1.1.0.now a.1.1.1.1.1.1.1.0
-    (walk_of a.1.1.1.0.now a.1.1.1.1.0.now a.1.1.1.1.1.0.now a.1.1.1.1.1.1.0)
-    (told (walked_says r) (walk_of e.1.1.1.0.now e.1.1.1.1.0.now e.1.1.1.1.1.0.now (record_after r a.1.1.1.1.1.1.0)))
-step_call κs a r e h = subst (StepRow a.0.now a.1.0.now a.1.1.0.now a.1.1.1.1.1.1.1.0
-    (walk_of a.1.1.1.0.now a.1.1.1.1.0.now a.1.1.1.1.1.0.now a.1.1.1.1.1.1.0)) (ap walk_told (sym h))
-    (demand_1.stepping _ _ _ _ _).0
+    → StepRow a.1.0.now a.1.1.0.words.now a.1.1.0.spans.now a.1.1.1.1.0 (walk_in a.0.now a.1.1.1.0)
+    (told (walked_says r) (walk_in e.0.now (record_after r a.1.1.1.0)))
+step_call κs a r e h =
+    subst (StepRow a.1.0.now a.1.1.0.words.now a.1.1.0.spans.now a.1.1.1.1.0 (walk_in a.0.now a.1.1.1.0))
+    (ap walk_told (sym h.1)) (demand_1.stepping _ _ _ _ _).0
 
 pub steps_call : (κs : _) (a : _) (r : _) (e : _) → steps.Learnt κs a r e
-    → ListRow a.0.now a.1.0.now a.1.1.0.now a.1.1.1.1.1.1.1.0.now
-    (walk_of a.1.1.1.0.now a.1.1.1.1.0.now a.1.1.1.1.1.0.now a.1.1.1.1.1.1.0)
-    (told (listed_says r) (walk_of e.1.1.1.0.now e.1.1.1.1.0.now e.1.1.1.1.1.0.now (record_in r)))
-steps_call κs a r e h = subst (ListRow a.0.now a.1.0.now a.1.1.0.now a.1.1.1.1.1.1.1.0.now
-    (walk_of a.1.1.1.0.now a.1.1.1.1.0.now a.1.1.1.1.1.0.now a.1.1.1.1.1.1.0)) (ap list_told (sym h))
-    (demand_1.listing _ _ _ _ _).0
+    → ListRow a.1.0.now a.1.1.0.words.now a.1.1.0.spans.now a.1.1.1.1.0.now (walk_in a.0.now a.1.1.1.0)
+    (told (listed_says r) (walk_in e.0.now (record_in r)))
+steps_call κs a r e h =
+    subst (ListRow a.1.0.now a.1.1.0.words.now a.1.1.0.spans.now a.1.1.1.1.0.now (walk_in a.0.now a.1.1.1.0))
+    (ap list_told (sym h.1)) (demand_1.listing _ _ _ _ _).0
 
-pub matches_call : (κs : _) (a : _) (r : _) (e : _) → matches.Learnt κs a r e → Below 65536 a.1.0.now
-    → CountRow a.0.now a.1.0.now a.1.1.0.now a.1.1.1.0.now (counted_says r)
-matches_call κs a r e h small = subst (CountRow a.0.now a.1.0.now a.1.1.0.now a.1.1.1.0.now) (ap counted_says (sym h))
+pub matches_call : (κs : _) (a : _) (r : _) (e : _) → matches.Learnt κs a r e → Below 65536 a.1.0.words.now
+    → CountRow a.0.now a.1.0.words.now a.1.0.spans.now a.1.1.0.now (counted_says r)
+matches_call κs a r e h small = subst (CountRow a.0.now a.1.0.words.now a.1.0.spans.now a.1.1.0.now) (ap counted_says (sym h))
     (demand_1.matches _ _ _ _ small).0
 
-pub clashes_call : (κs : _) (a : _) (r : _) (e : _) → clashes.Learnt κs a r e → Below 65536 a.1.1.1.0.now
-    → ClashRow a.0.now a.1.0.now a.1.1.0.now a.1.1.1.0.now a.1.1.1.1.0.now a.1.1.1.1.1.0.now (counted_says r)
+pub clashes_call : (κs : _) (a : _) (r : _) (e : _) → clashes.Learnt κs a r e → Below 65536 a.1.1.0.words.now
+    → ClashRow a.0.now a.1.0.words.now a.1.0.starts.now a.1.1.0.words.now a.1.1.0.spans.now a.1.1.1.0.now (counted_says r)
 clashes_call κs a r e h small =
-    subst (ClashRow a.0.now a.1.0.now a.1.1.0.now a.1.1.1.0.now a.1.1.1.1.0.now a.1.1.1.1.1.0.now)
+    subst (ClashRow a.0.now a.1.0.words.now a.1.0.starts.now a.1.1.0.words.now a.1.1.0.spans.now a.1.1.1.0.now)
     (ap counted_says (sym h)) (demand_1.clashes _ _ _ _ _ _ small).0
 
-pub compare_call : (κs : _) (a : _) (r : _) (e : _) → compare.Learnt κs a r e → Below 65536 a.1.1.1.0.now
-    → CompareRow a.0.now a.1.0.now a.1.1.0.now a.1.1.1.0.now a.1.1.1.1.0.now a.1.1.1.1.1.0.now
-    (told (counted_says r) e.1.1.1.1.1.0.now)
+pub compare_call : (κs : _) (a : _) (r : _) (e : _) → compare.Learnt κs a r e → Below 65536 a.1.1.0.words.now
+    → CompareRow a.0.now a.1.0.words.now a.1.0.starts.now a.1.1.0.words.now a.1.1.0.spans.now a.1.1.1.0.now
+    (told (counted_says r) e.1.1.1.0.now)
 compare_call κs a r e h small =
-    subst (CompareRow a.0.now a.1.0.now a.1.1.0.now a.1.1.1.0.now a.1.1.1.1.0.now a.1.1.1.1.1.0.now)
+    subst (CompareRow a.0.now a.1.0.words.now a.1.0.starts.now a.1.1.0.words.now a.1.1.0.spans.now a.1.1.1.0.now)
     (ap compare_told (sym h)) (demand_1.comparing _ _ _ _ _ _ small).0
 
-pub put_call : (κs : _) (a : _) (r : _) (e : _) → put.Learnt κs a r e → Below 65536 a.1.1.1.0.now
-    → PutRow a.0.now a.1.0.now a.1.1.0.now a.1.1.1.0.now a.1.1.1.1.0.now a.1.1.1.1.1.0.0 a.1.1.1.1.1.1.0.0
-    a.1.1.1.1.1.1.1.0.now a.1.1.1.1.1.1.1.1.0.0 a.1.1.1.1.1.1.1.1.1.0.now
-    (told (counted_says r) e.1.1.1.1.1.1.1.1.1.0.now)
+pub put_call : (κs : _) (a : _) (r : _) (e : _) → put.Learnt κs a r e → Below 65536 a.1.1.0.words.now
+    → PutRow a.0.now a.1.0.words.now a.1.0.starts.now a.1.1.0.words.now a.1.1.0.spans.now a.1.1.1.0.0 a.1.1.1.1.0.0
+    a.1.1.1.1.1.0.now a.1.1.1.1.1.1.0.0 a.1.1.1.1.1.1.1.0.now
+    (told (counted_says r) e.1.1.1.1.1.1.1.0.now)
 put_call κs a r e h small =
-    subst (PutRow a.0.now a.1.0.now a.1.1.0.now a.1.1.1.0.now a.1.1.1.1.0.now a.1.1.1.1.1.0.0
-    a.1.1.1.1.1.1.0.0 a.1.1.1.1.1.1.1.0.now a.1.1.1.1.1.1.1.1.0.0 a.1.1.1.1.1.1.1.1.1.0.now)
+    subst (PutRow a.0.now a.1.0.words.now a.1.0.starts.now a.1.1.0.words.now a.1.1.0.spans.now a.1.1.1.0.0 a.1.1.1.1.0.0
+    a.1.1.1.1.1.0.now a.1.1.1.1.1.1.0.0 a.1.1.1.1.1.1.1.0.now)
     (ap put_told (sym h)) (demand_1.putting _ _ _ _ _ _ _ _ _ _ small).0
 
 pub subtree_call : (κs : _) (a : _) (r : _) (e : _) → subtree.Learnt κs a r e → Below 65536 a.1.1.1.0.now
@@ -132,30 +131,30 @@ subtree_call κs a r e h small = subst (FoundRow (Standing a.1.0.now a.1.1.0.now
     (ap part_says (sym h)) (demand_1.subtree _ _ _ _ small).0
 
 -- ---- the plan readers: by the words, by a view that is made of plain parameters, and by a view
-abbrev pub LabelRow : List ℕ → ℕ → ℕ → ℕ → Label → Type 0
+abbrev pub LabelRow : List ℕ → ℕ → ℕ → ℕ → Result Position Reason → Type 0
 LabelRow plan m k s r = FoundRow (LabelFound plan m k s) (λ c. c ∷ []) (label_says r)
 
-abbrev pub BlockRow : List ℕ → ℕ → ℕ → ℕ → ℕ → Block → Type 0
+abbrev pub BlockRow : List ℕ → ℕ → ℕ → ℕ → ℕ → Result Lengths Reason → Type 0
 BlockRow plan m k s f r = FoundRow (BlockFound plan m k s f) (λ b. get_or plan b 0 ∷ get_or plan (middle plan b) 0 ∷ []) (block_says r)
 
-abbrev pub AnnouncementRow : List ℕ → ℕ → ℕ → ℕ → ℕ → ℕ → Announcement → Type 0
+abbrev pub AnnouncementRow : List ℕ → ℕ → ℕ → ℕ → ℕ → ℕ → Result (Shape × Position) Reason → Type 0
 AnnouncementRow plan m k s f i r = FoundRow (AnnouncementFound plan m k s f i) pair_values (announcement_says r)
 
-abbrev pub SuccessorRow : List ℕ → ℕ → ℕ → ℕ → ℕ → ℕ → Successor → Type 0
+abbrev pub SuccessorRow : List ℕ → ℕ → ℕ → ℕ → ℕ → ℕ → Result (State × Position) Reason → Type 0
 SuccessorRow plan m k s f i r = FoundRow (SuccessorFound plan m k s f i) pair_values (successor_says r)
 
-label_row : (plan : List ℕ) (m k s : ℕ) (r : Label) → r ≡ label_of plan m k s → LabelRow plan m k s r
+label_row : (plan : List ℕ) (m k s : ℕ) (r : Result Position Reason) → r ≡ label_of plan m k s → LabelRow plan m k s r
 label_row plan m k s r h = subst (FoundRow (LabelFound plan m k s) (λ c. c ∷ [])) (ap label_says (sym h)) (demand_1.label _ _ _ _).0
 
-block_row : (plan : List ℕ) (m k s f : ℕ) (r : Block) → r ≡ lengths_of plan m k s f → BlockRow plan m k s f r
+block_row : (plan : List ℕ) (m k s f : ℕ) (r : Result Lengths Reason) → r ≡ lengths_of plan m k s f → BlockRow plan m k s f r
 block_row plan m k s f r h = subst (FoundRow (BlockFound plan m k s f) (λ b. get_or plan b 0 ∷ get_or plan (middle plan b) 0 ∷ [])) (ap block_says (sym h))
     (demand_1.lengths _ _ _ _ _).0
 
-announcement_row : (plan : List ℕ) (m k s f i : ℕ) (r : Announcement) → r ≡ announcement_of plan m k s f i → AnnouncementRow plan m k s f i r
+announcement_row : (plan : List ℕ) (m k s f i : ℕ) (r : Result (Shape × Position) Reason) → r ≡ announcement_of plan m k s f i → AnnouncementRow plan m k s f i r
 announcement_row plan m k s f i r h =
     subst (FoundRow (AnnouncementFound plan m k s f i) pair_values) (ap announcement_says (sym h)) (demand_1.announcement _ _ _ _ _ _).0
 
-successor_row : (plan : List ℕ) (m k s f i : ℕ) (r : Successor) → r ≡ successor_of plan m k s f i → SuccessorRow plan m k s f i r
+successor_row : (plan : List ℕ) (m k s f i : ℕ) (r : Result (State × Position) Reason) → r ≡ successor_of plan m k s f i → SuccessorRow plan m k s f i r
 successor_row plan m k s f i r h =
     subst (FoundRow (SuccessorFound plan m k s f i) pair_values) (ap successor_says (sym h)) (demand_1.successor _ _ _ _ _ _).0
 

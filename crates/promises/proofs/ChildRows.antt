@@ -1,4 +1,5 @@
 -- A position's child is found, or lies beyond the codes in use; a position is followed to a node, or to none.
+use Rattle.std.specs.Prelude.{None, Some}
 use mathlib.Core.Path.{◌≡◌, refl, ap, sym, ◌∙◌}
 use mathlib.Core.List.{List, [], ◌∷◌}
 use mathlib.Core.Option.{Option, none, some}
@@ -15,22 +16,21 @@ use native.Mathlib.Decide.{dec_lt}
 use Rattle.kinds.specs.Positions.{decode, code_good, largest}
 use Rattle.kinds.specs.Kinds.{position, child_of, child_says}
 use Rattle.kinds.specs.declared.Position.{Position}
-use Rattle.kinds.specs.declared.Child.TheVariants.{At, Beyond}
 use Rattle.kinds.proofs.KindLaws.{child_bad, child_none, child_many, child_far, child_at_lem}
 use Rattle.promises.specs.Found.{FoundRow, ChildFound, Reaches}
 use Rattle.promises.specs.Told.{By}
 use Rattle.promises.proofs.FoundRows.{by_found}
 
 pub by_child : (p : Position) (i : ℕ) → By (FoundRow (ChildFound p i) (λ c. c ∷ [])) (child_says (child_of p i))
-by_child p i = by_found (ChildFound p i) (λ c. c ∷ []) child_says Beyond (λ c. At (position c)) (child_of p i) refl (λ c. refl) is
+by_child p i = by_found (ChildFound p i) (λ c. c ∷ []) child_says None (λ c. Some (position c)) (child_of p i) refl (λ c. refl) is
     (either (test (code_good p.0)) (dec_lt i 1) (dec_lt 4 i) (dec_lt largest (5 * p.0 + i)))
   where
-    is : (c : ℕ) → ChildFound p i c → child_of p i ≡ At (position c)
+    is : (c : ℕ) → ChildFound p i c → child_of p i ≡ Some (position c)
     is c f = let e = f.code in let u = f.in_use in
-        child_at_lem p i f.position f.number.0 f.number.1 (omega arith) ∙ ap (λ x. At (position x)) (sym e)
+        child_at_lem p i f.position f.number.0 f.number.1 (omega arith) ∙ ap (λ x. Some (position x)) (sym e)
 
     either : (code_good p.0 ≡ true) ⊎ (code_good p.0 ≡ false) → Dec (i < 1) → Dec (4 < i) → Dec (largest < 5 * p.0 + i)
-        → ((c : ℕ) × ChildFound p i c) ⊎ (child_of p i ≡ Beyond)
+        → ((c : ℕ) × ChildFound p i c) ⊎ (child_of p i ≡ None)
     either (inr n) a b c = inr (child_bad p i n)
     either (inl g) (yes a) b c = inr (child_none p i g a)
     either (inl g) (no a) (yes b) c = inr (child_many p i g b)

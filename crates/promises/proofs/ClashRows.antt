@@ -1,5 +1,7 @@
 -- Rows 19, 31, 30 and 35 of counting clashes: what it says is what they give.
 --   says_so    good tables say of matches what the terms that they hold say
+use Rattle.kinds.specs.declared.Reason.{Reason}
+use Rattle.std.specs.Prelude.{Err, Ok, Result}
 use mathlib.Core.Path.{◌≡◌, ap, sym, ◌∙◌}
 use mathlib.Core.Bool.{true, false}
 use mathlib.Core.Logic.{◌⊎◌, inl, inr, ⊎_elim}
@@ -16,8 +18,6 @@ use Rattle.kinds.proofs.Bools.{test, false_true}
 use Rattle.checks.specs.Again.{score_good}
 use Rattle.folio.specs.Folio.{shape_terms, score_term}
 use Rattle.counting.specs.Counting.{Match, counted, counted_says}
-use Rattle.counting.specs.declared.Counted.{Counted}
-use Rattle.counting.specs.declared.Counted.TheVariants as count
 use Rattle.counting.proofs.CountLaws.{count_bad, count_short, count_on}
 use Rattle.counting.proofs.FoundLaws.{in_found}
 use Rattle.clashing.specs.Clashes.{clash_number, nodes_in}
@@ -41,7 +41,7 @@ says_so ar ws st score spans s g =
     says_of ar ws st score spans (shape_terms ar ws) (score_term ar score) a.each b.is a.words a.begins b.words b.spans
 
 module _ (ar ws st score spans marks : List ℕ) (small : Below 65536 score) where
-  abbrev outcome : Counted
+  abbrev outcome : Result ℕ Reason
   outcome = clashes_of ar ws st score spans marks
 
   abbrev all : List Match
@@ -51,18 +51,18 @@ module _ (ar ws st score spans marks : List ℕ) (small : Below 65536 score) whe
   IsOne = IsThere ar ws st score spans marks
 
   -- ---- 19, 31, 30
-  said_19 : (GoodShapes ar ws st → ⊥) → outcome ≡ count.Refused BadShapes
+  said_19 : (GoodShapes ar ws st → ⊥) → outcome ≡ Err BadShapes
   said_19 n = clashes_bad ar ws st score spans marks (is_bad ar ws st n)
 
   module _ (s : GoodShapes ar ws st) where
     goes : outcome ≡ counted (clashes_in ws st score spans) ar score spans marks
     goes = clashes_go ar ws st score spans marks (is_good_lem ar ws st s)
 
-    said_31 : (Good ar score spans → ⊥) → outcome ≡ count.Refused BadScore
+    said_31 : (Good ar score spans → ⊥) → outcome ≡ Err BadScore
     said_31 n = goes ∙ count_bad (clashes_in ws st score spans) ar score spans marks (score_bad ar score spans small n)
 
     module _ (g : Good ar score spans) where
-      said_30 : length marks < length score → outcome ≡ count.Refused ShortBuffers
+      said_30 : length marks < length score → outcome ≡ Err ShortBuffers
       said_30 h = goes ∙ count_short (clashes_in ws st score spans) ar score spans marks (score_fine ar score spans small g) h
 
       -- ---- 35, or the number
@@ -78,13 +78,13 @@ module _ (ar ws st score spans marks : List ℕ) (small : Below 65536 score) whe
             let l = length-take-le (length score) marks h in
             so.is_match m (omega (arith, (in_found (take (length score) marks) m i).0)) e
 
-        said_35 : strays ws st score spans all ≡ true → outcome ≡ count.Refused NoSuchMatch
+        said_35 : strays ws st score spans all ≡ true → outcome ≡ Err NoSuchMatch
         said_35 e = here ∙ in_stray ws st score spans (take (length score) marks) e
 
-        said : strays ws st score spans all ≡ false → outcome ≡ count.Number (clash_number (nodes_in (shape_terms ar ws) (score_term ar score)) all)
+        said : strays ws st score spans all ≡ false → outcome ≡ Ok (clash_number (nodes_in (shape_terms ar ws) (score_term ar score)) all)
         said e =
             here ∙ in_is ws st score spans (take (length score) marks) e
-            ∙ ap count.Number (so.same_number all (λ m i. stands m i (matched_all ws st score spans all e m i)))
+            ∙ ap Ok (so.same_number all (λ m i. stands m i (matched_all ws st score spans all e m i)))
 
         is_stray : (m : Match) → m ∈ all → (IsOne m → ⊥) → strays ws st score spans all ≡ true
         is_stray m i n = go (test (strays ws st score spans all))

@@ -1,6 +1,7 @@
 -- Rows 19, 31 and 30 of comparing, and its marks: what it says and leaves is what they give.
 --   made        the marks of a good score's nodes: they hold exactly the matches
 --   said        what comparing says and leaves then
+use Rattle.std.specs.Prelude.{Err, Ok}
 use mathlib.Core.Path.{◌≡◌, ap, sym, ◌∙◌, subst}
 use mathlib.Core.Bool.{true, false}
 use mathlib.Core.Logic.{◌⊎◌, inl, inr}
@@ -20,7 +21,6 @@ use Rattle.checks.specs.Again.{score_good}
 use Rattle.folio.specs.Folio.{shape_terms, score_term}
 use Rattle.folio.proofs.GoodTables.{scored_good}
 use Rattle.counting.specs.Counting.{Match, found, total, counted}
-use Rattle.counting.specs.declared.Counted.TheVariants.{Number, Refused}
 use Rattle.counting.proofs.CountLaws.{count_bad, count_short, count_on}
 use Rattle.clashing.specs.Strays.{matched}
 use Rattle.clashing.proofs.OneFolio.{SaysOf}
@@ -43,15 +43,15 @@ module _ (ar ws st score spans marks : List ℕ) where
   abbrev made : List ℕ
   made = marks_of ws st score spans
 
-  said_19 : (GoodShapes ar ws st → ⊥) → outcome ≡ out_of (Refused BadShapes) marks
+  said_19 : (GoodShapes ar ws st → ⊥) → outcome ≡ out_of (Err BadShapes) marks
   said_19 n = refused_is ar ws st score spans marks (answer_bad ar ws st score spans marks (is_bad ar ws st n))
 
   module _ (s : GoodShapes ar ws st) where
-    goes : answer_of ar ws st score spans marks ≡ counted (λ ms. Number (total made)) ar score spans marks
+    goes : answer_of ar ws st score spans marks ≡ counted (λ ms. Ok (total made)) ar score spans marks
     goes = answer_go ar ws st score spans marks (is_good_lem ar ws st s)
 
-    said_31 : score_good ar score spans ≡ false → outcome ≡ out_of (Refused BadScore) marks
-    said_31 e = refused_is ar ws st score spans marks (goes ∙ count_bad (λ ms. Number (total made)) ar score spans marks e)
+    said_31 : score_good ar score spans ≡ false → outcome ≡ out_of (Err BadScore) marks
+    said_31 e = refused_is ar ws st score spans marks (goes ∙ count_bad (λ ms. Ok (total made)) ar score spans marks e)
 
     module _ (g : Good ar score spans) where
       fine : score_good ar score spans ≡ true
@@ -60,11 +60,11 @@ module _ (ar ws st score spans marks : List ℕ) where
       nodes_are : length score ≡ span (score_term ar score)
       nodes_are = ap length (score_is ar score spans g).words ∙ length_flatten (score_term ar score)
 
-      said_30 : length marks < length score → outcome ≡ out_of (Refused ShortBuffers) marks
-      said_30 h = refused_is ar ws st score spans marks (goes ∙ count_short (λ ms. Number (total made)) ar score spans marks fine h)
+      said_30 : length marks < length score → outcome ≡ out_of (Err ShortBuffers) marks
+      said_30 h = refused_is ar ws st score spans marks (goes ∙ count_short (λ ms. Ok (total made)) ar score spans marks fine h)
 
-      pub said : length score ≤ length marks → outcome ≡ out_of (Number (total made)) (onto made marks)
-      said h = number_is ar ws st score spans marks (goes ∙ count_on (λ ms. Number (total made)) ar score spans marks fine h)
+      pub said : length score ≤ length marks → outcome ≡ out_of (Ok (total made)) (onto made marks)
+      said h = number_is ar ws st score spans marks (goes ∙ count_on (λ ms. Ok (total made)) ar score spans marks fine h)
 
       so : SaysOf ws st score spans (shape_terms ar ws) (score_term ar score)
       so = says_so ar ws st score spans s g
@@ -111,7 +111,7 @@ module _ (ar ws st score spans marks : List ℕ) (small : Below 65536 score) whe
   compare_only _ (rows.compare_30 s g h) = ap compare_told (said_30 ar ws st score spans marks s g h)
   compare_only _ (rows.compares s g h ms e) =
       ap compare_told (said ar ws st score spans marks s g h
-      ∙ ap (λ ns. out_of (Number (total ns)) (onto ns marks)) (exact_same (exact ar ws st score spans marks s g) e))
+      ∙ ap (λ ns. out_of (Ok (total ns)) (onto ns marks)) (exact_same (exact ar ws st score spans marks s g) e))
 
   pub by_compare : By (CompareRow ar ws st score spans marks) told_so
   by_compare = (compare_row, compare_only)

@@ -1,12 +1,13 @@
 -- Demand 1 holds of every call.
+use Rattle.folio.specs.declared.Counts.{Counts}
+use Rattle.kinds.specs.declared.Refusal.{Refusal}
+use Rattle.std.specs.Prelude.{Err, Ok, Result}
 use mathlib.Core.Path.{◌≡◌, refl, ap, sym, ◌∙◌, subst}
 use mathlib.Core.List.{List}
 use Prim.Native.Nat.{ℕ}
 use Rattle.kinds.specs.Members.{Below}
-use Rattle.kinds.specs.Reasons.{number_of, refusal}
+use Rattle.kinds.specs.Reasons.{number_of, refusal, refused_at}
 use Rattle.folio.specs.Opening.{Lent, refuse_opening, opened}
-use Rattle.folio.specs.declared.Opened.{Opened}
-use Rattle.folio.specs.declared.Opened.TheVariants as opening
 use Rattle.folio.proofs.Accepted.{Accepted, accepted, made}
 use Rattle.sections.proofs.LawsSections.{sections_in}
 use Rattle.promises.specs.Demand1 as rows
@@ -40,12 +41,12 @@ module _ (file : List ℕ) (l : Lent) (small : Below 256 file) where
       means a = rw a.is (rows.opens a.places (trailer_framed file a.places (sections_in file a.places a.placed).0) a.meaning
           a.room)
 
-      go : (x : Opened) → (opened file l).answer ≡ x → OpenRow file l (open_told (opened file l))
-      go (opening.Refused r p) e =
-          let g = refused_given file l small r p e in
+      go : (x : Result Counts Refusal) → (opened file l).answer ≡ x → OpenRow file l (open_told (opened file l))
+      go (Err why) e =
+          let g = refused_given file l small why.0 why.1 e in
           let y = given_refused file l g in
-          subst (OpenRow file l) (sym (told_so y)) (rows.refused (number_of r) p g)
-      go (opening.Folio c) e = means (accepted file l c small e)
+          subst (OpenRow file l) (sym (told_so y)) (rows.refused (number_of why.0) why.1 g)
+      go (Ok c) e = means (accepted file l c small e)
 
   open_only : (o : Told Lent) → OpenRow file l o → open_told (opened file l) ≡ o
   open_only _ (rows.refused n p g) = told_so (given_refused file l g)

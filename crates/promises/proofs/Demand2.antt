@@ -1,6 +1,7 @@
 -- Demand 2 holds of every file that opens and whose build is accepted.
 --   marks_long     there is a mark for each node
 --   exact          the marks of a finished walk hold exactly the matches
+use Rattle.std.specs.Prelude.{Some}
 use mathlib.Core.Path.{◌≡◌, ap, sym, ◌∙◌, subst}
 use mathlib.Core.Bool.{Bool}
 use mathlib.Core.List.{List}
@@ -16,7 +17,6 @@ use Rattle.term.proofs.MatchTest.{agrees_at, matches_of_lem, matches_is}
 use Rattle.term.proofs.Numbers.{number_place, node_at_lem, dom_place}
 use Rattle.counting.specs.Counting.{match_at}
 use Rattle.report.specs.Text.{match_line}
-use Rattle.report.specs.declared.States.TheVariants.{Of}
 use Rattle.walk.specs.Starting.{Walk}
 use Rattle.walking.proofs.AnyWalk.{same_walk}
 use Rattle.promises.specs.OneFile.{OpenFile, OneFile, shapes_in, score_in, after, reported}
@@ -46,8 +46,8 @@ module _ {file : List ℕ} {O : OpenFile file} (S : OneFile O) where
       pub exact : Exact (shapes_in O) (score_in O) (take (span (score_in O)) (after S choices).marks)
       exact = exact_at_end (after S choices) (so_far S choices) marks_long (all_logged S choices done)
 
-      text : (test : Term → Pos → Bool) → Says test (score_in O) → reported S choices ≡ report_in test (shapes_in O) (score_in O) (Of S.size.states)
-      text test says = exact_report O test says (after S choices).marks exact (Of S.size.states) (number_is S choices)
+      text : (test : Term → Pos → Bool) → Says test (score_in O) → reported S choices ≡ report_in test (shapes_in O) (score_in O) (Some S.size.states)
+      text test says = exact_report O test says (after S choices).marks exact (Some S.size.states) (number_is S choices)
 
 pub demand_2 : {file : List ℕ} {O : OpenFile file} (S : OneFile O) → Demand2 S
 demand_2 {O = O} S = record {

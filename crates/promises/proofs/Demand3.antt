@@ -1,5 +1,6 @@
 -- Demand 3 holds of every file that opens and whose build is accepted.
 --   same_…     two finished walks over one file
+use Rattle.std.specs.Prelude.{Ok, Some}
 use mathlib.Core.Path.{◌≡◌, ap, ap₂, sym, ◌∙◌, subst}
 use mathlib.Core.List.{List, ◌++◌}
 use mathlib.Core.Logic.{◌↔◌}
@@ -16,12 +17,10 @@ use Rattle.term.specs.Terms.{span}
 use Rattle.term.proofs.Sizes.{length_sizes}
 use Rattle.counting.specs.Counting.{total}
 use Rattle.report.specs.Text.{first_line, lines, report}
-use Rattle.report.specs.declared.States.TheVariants.{Of}
 use Rattle.walk.specs.Starting.{Walk, WalkOutcome, refuse_walk, walked_says}
 use Rattle.kinds.specs.Reasons.{Says, gives, refusal}
 use Rattle.promises.specs.Told.{Told, told as telling}
 use Rattle.promises.specs.Demand1.{walk_told, recorded}
-use Rattle.walk.specs.declared.Walked.TheVariants.{On}
 use Rattle.walking.specs.OneFolio.{walk_in}
 use Rattle.walking.proofs.AnyWalk as any-walk
 use Rattle.promises.specs.OneFile.{OpenFile, OneFile, words_in, starts_in, score_in, spans_in, buffer_in, after, step_after, accepted_in, reported}
@@ -83,7 +82,7 @@ module _ {file : List ℕ} {O : OpenFile file} (S : OneFile O) (choices : List �
       let d = (told S).step_is choices i in
       let l = rw waiting_is at h in (
         ap walked_says (ap (λ (o : WalkOutcome). o.answer) d ∙ any-walk.taken (told S).folio S.walk (told S).lent choices i l
-            ∙ ap (λ (o : WalkOutcome). On o.walk.count) (sym d)),
+            ∙ ap (λ (o : WalkOutcome). Ok o.walk.count) (sym d)),
         ap (λ (o : WalkOutcome). o.walk.count.logged) d ∙ any-walk.one_logged (told S).folio S.walk (told S).lent choices i l
             ∙ ap suc (sym logged_is),
       )
@@ -132,10 +131,10 @@ module _ {file : List ℕ} {O P : OpenFile file} (S : OneFile O) (T : OneFile P)
   same_text =
       let k : length (spans_in O) ≡ span (score_in O) = ap length (score_spans O) ∙ length_sizes (score_in O) in
       let m : take (length (spans_in O)) (after S c).marks ≡ take (length (spans_in O)) (after T d).marks = rw k same_marks in
-      ap₂ (λ k ms. first_line (totals_of (words_in O) (starts_in O) (spans_in O) O.counts.depth (Of S.size.states) k ms) ++ lines (spans_in O) ms)
+      ap₂ (λ k ms. first_line (totals_of (words_in O) (starts_in O) (spans_in O) O.counts.depth (Some S.size.states) k ms) ++ lines (spans_in O) ms)
       same_number m
       ∙ (λ i. let marks = (after T d).marks in
-      report (totals_of (same_words O P i) (same_starts O P i) (same_spans O P i) (same_depth O P i) (Of (same_states S T i)) (after T d).count.matches
+      report (totals_of (same_words O P i) (same_starts O P i) (same_spans O P i) (same_depth O P i) (Some (same_states S T i)) (after T d).count.matches
       (take (length (same_spans O P i)) marks)) (same_spans O P i) marks)
 
 pub demand_3 : {file : List ℕ} {O : OpenFile file} (S : OneFile O) → Demand3 S

@@ -32,8 +32,8 @@ use Rattle.readers.proofs.reading.announcement_of.Reads as announcement-of
 use Rattle.readers.proofs.reading.label_of.Reads as label_of
 use Rattle.readers.proofs.reading.lengths_of.Reads as lengths-of
 use Rattle.readers.proofs.reading.successor_of.Reads as successor-of
-use Rattle.walk.proofs.starting.start.Reads as start
-use Rattle.walk.proofs.stepping.step.Reads as step
+use Rattle.walk.proofs.Walk.start.Reads as start
+use Rattle.walk.proofs.Walk.step.Reads as step
 use Rattle.listing.proofs.taking.steps.Reads as steps
 use Rattle.views.proofs.viewing.announcement_at.Reads as announcement-at
 use Rattle.views.proofs.viewing.label_at.Reads as label_at
@@ -132,7 +132,7 @@ open_folio_determined κs a r r' e e' h h' = let x = h ∙ sym h' in (
 )
 
 pub build_determined : (κs : _) (a : _) (r r' : _) (e e' : _) → build.Learnt κs a r e → build.Learnt κs a r' e' → (r ≡ r')
-    × (e.1.1.1.0.now ≡ e'.1.1.1.0.now) × (e.1.1.1.1.0.now ≡ e'.1.1.1.1.0.now)
+    × (e.1.1.0.now ≡ e'.1.1.0.now) × (e.1.1.1.0.now ≡ e'.1.1.1.0.now)
 build_determined κs a r r' e e' h h' = let x = h ∙ sym h' in
     (ap (λ (o : BuildOutcome). o.answer) x, ap (λ (o : BuildOutcome). o.plan) x, ap (λ (o : BuildOutcome). o.scratch) x)
 
@@ -149,19 +149,19 @@ same_line : (o o' : LineOutcome) → o ≡ o' → (o.answer ≡ o'.answer) × (o
 same_line o o' x = (ap (λ (y : LineOutcome). y.answer) x, ap (λ (y : LineOutcome). y.out) x)
 
 pub start_determined : (κs : _) (a : _) (r r' : _) (e e' : _) → start.Learnt κs a r e → start.Learnt κs a r' e' → (r ≡ r')
-    × (e.1.1.1.0.now ≡ e'.1.1.1.0.now) × (e.1.1.1.1.0.now ≡ e'.1.1.1.1.0.now)
-    × (e.1.1.1.1.1.0.now ≡ e'.1.1.1.1.1.0.now)
-start_determined κs a r r' e e' h h' = same_walk _ _ (h ∙ sym h')
+    × (e.0.now.waiting.now ≡ e'.0.now.waiting.now) × (e.0.now.log.now ≡ e'.0.now.log.now)
+    × (e.0.now.marks.now ≡ e'.0.now.marks.now)
+start_determined κs a r r' e e' h h' = same_walk _ _ (h.1 ∙ sym h'.1)
 
 pub step_determined : (κs : _) (a : _) (r r' : _) (e e' : _) → step.Learnt κs a r e → step.Learnt κs a r' e' → (r ≡ r')
-    × (e.1.1.1.0.now ≡ e'.1.1.1.0.now) × (e.1.1.1.1.0.now ≡ e'.1.1.1.1.0.now)
-    × (e.1.1.1.1.1.0.now ≡ e'.1.1.1.1.1.0.now)
-step_determined κs a r r' e e' h h' = same_walk _ _ (h ∙ sym h')
+    × (e.0.now.waiting.now ≡ e'.0.now.waiting.now) × (e.0.now.log.now ≡ e'.0.now.log.now)
+    × (e.0.now.marks.now ≡ e'.0.now.marks.now)
+step_determined κs a r r' e e' h h' = same_walk _ _ (h.1 ∙ sym h'.1)
 
 pub steps_determined : (κs : _) (a : _) (r r' : _) (e e' : _) → steps.Learnt κs a r e → steps.Learnt κs a r' e' → (r ≡ r')
-    × (e.1.1.1.0.now ≡ e'.1.1.1.0.now) × (e.1.1.1.1.0.now ≡ e'.1.1.1.1.0.now)
-    × (e.1.1.1.1.1.0.now ≡ e'.1.1.1.1.1.0.now)
-steps_determined κs a r r' e e' h h' = let x = h ∙ sym h' in (
+    × (e.0.now.waiting.now ≡ e'.0.now.waiting.now) × (e.0.now.log.now ≡ e'.0.now.log.now)
+    × (e.0.now.marks.now ≡ e'.0.now.marks.now)
+steps_determined κs a r r' e e' h h' = let x = h.1 ∙ sym h'.1 in (
   ap (λ (o : ListOutcome). o.answer) x,
   ap (λ (o : ListOutcome). o.walk.items) x,
   ap (λ (o : ListOutcome). o.walk.log) x,
@@ -169,11 +169,11 @@ steps_determined κs a r r' e e' h h' = let x = h ∙ sym h' in (
 )
 
 pub compare_determined : (κs : _) (a : _) (r r' : _) (e e' : _) → compare.Learnt κs a r e → compare.Learnt κs a r' e' → (r ≡ r')
-    × (e.1.1.1.1.1.0.now ≡ e'.1.1.1.1.1.0.now)
+    × (e.1.1.1.0.now ≡ e'.1.1.1.0.now)
 compare_determined κs a r r' e e' h h' = let x = h ∙ sym h' in (ap (λ (o : CompareOutcome). o.answer) x, ap (λ (o : CompareOutcome). o.marks) x)
 
 pub put_determined : (κs : _) (a : _) (r r' : _) (e e' : _) → put.Learnt κs a r e → put.Learnt κs a r' e' → (r ≡ r')
-    × (e.1.1.1.1.1.1.1.1.1.0.now ≡ e'.1.1.1.1.1.1.1.1.1.0.now)
+    × (e.1.1.1.1.1.1.1.0.now ≡ e'.1.1.1.1.1.1.1.0.now)
 put_determined κs a r r' e e' h h' = let x = h ∙ sym h' in (ap (λ (o : PutOutcome). o.answer) x, ap (λ (o : PutOutcome). o.score) x)
 
 pub put_line_determined : (κs : _) (a : _) (r r' : _) (e e' : _) → put-line.Learnt κs a r e → put-line.Learnt κs a r' e' → (r ≡ r')

@@ -1,6 +1,9 @@
 -- Opening refuses exactly by the table.
 --   refused_given given_refused   a refusal has its row; a row has its refusal
 --   refused-exactly               so a number is given exactly when its row says
+use Rattle.kinds.specs.declared.Refusal.{Refusal}
+use Rattle.term.specs.declared.Met.{Met}
+use Rattle.std.specs.Prelude.{Err, Ok, Result}
 use mathlib.Core.Path.{◌≡◌, refl, ap, ap₂, sym, ◌∙◌}
 use mathlib.Core.List.{List}
 use Prim.Native.Nat.{ℕ, ◌+◌, ◌-◌, ◌*◌, ◌<◌, ◌≤◌}
@@ -14,24 +17,15 @@ use Rattle.kinds.proofs.Members.{in_take, in_drop}
 use Rattle.term.specs.Terms.{span}
 use Rattle.term.proofs.Sizes.{length_flatten}
 use Rattle.term.proofs.TermWhole.{met_with}
-use Rattle.sections.specs.Sections.{trailer_of, symbols_of, symbols_at, shapes_at, score_at}
+use Rattle.sections.specs.Sections.{trailer_of, symbols_of, symbols_at, shapes_at, score_at, granted}
 use Rattle.contents.specs.Tables.{ShapesRead, shapes_of, score_of}
 use Rattle.kinds.specs.Limits.{blank_word}
 use Rattle.folio.specs.Opening.{Lent, Room, OpenOutcome, refuse_opening, counts_of, stored, held, opened}
 use Rattle.folio.specs.Folio.{Shaped, Scored}
 use Rattle.term.specs.Admitted.{GoodSymbols}
 use Rattle.sections.specs.declared.Places.{Places}
-use Rattle.sections.specs.declared.Sections.{Sections}
-use Rattle.sections.specs.declared.Sections.TheVariants as sections
-use Rattle.sections.specs.declared.Verdict.{Verdict}
-use Rattle.sections.specs.declared.Verdict.TheVariants as verdict
 use Rattle.contents.specs.declared.ShapesMet.{ShapesMet}
-use Rattle.contents.specs.declared.Shapes.{Shapes}
-use Rattle.contents.specs.declared.Shapes.TheVariants as shapes
-use Rattle.contents.specs.declared.Score.{Score}
-use Rattle.contents.specs.declared.Score.TheVariants as score
 use Rattle.folio.specs.declared.Counts.{Counts}
-use Rattle.folio.specs.declared.Opened.TheVariants as opening
 use Rattle.sections.specs.Bytes.{words_of}
 use Rattle.sections.proofs.LawsBytes.{length_words}
 use Rattle.sections.proofs.LawsSections.{Placed, trailer_in, sections_trailer, sections_symbols, sections_good}
@@ -40,17 +34,18 @@ use Rattle.folio.proofs.Symbols.{symbols_is, symbols_of_lem}
 use Rattle.folio.proofs.ScoreWhole.{words_below, score_is, score_of_lem}
 use Rattle.kinds.specs.Members.{Below}
 use Rattle.folio.proofs.ShapesFound.{length_starts, met_in, found_shapes}
-use Rattle.kinds.specs.Reasons.{number_of}
+use Rattle.kinds.specs.Reasons.{number_of, refused_at}
+use Rattle.kinds.proofs.Refusals.{same_refusal as one_refusal}
 use Rattle.promises.proofs.ByNumber.{RefusedAs, by_reason}
 use Rattle.promises.specs.Refusals.{Framed, Given, in_trailer, in_symbols, in_shapes, in_score, row_18}
 use Rattle.promises.proofs.TrailerRows.{trailer_row, row_trailer, trailer_framed, framed_trailer, symbol_row, row_symbol}
 use Rattle.promises.proofs.ShapeRows.{shape_row, row_shape, pass_shapes}
 use Rattle.promises.proofs.ScoreRows.{score_row, row_score}
 
-same_refusal {κ} : {C : Type κ} {r s : Reason} {p q : ℕ} → opening.Refused r p ≡ opening.Refused s q → (r ≡ s → p ≡ q → C) → C
-same_refusal {r = r} {s = s} {p = p} {q = q} e k = let a : r ≡ s = cc in let b : p ≡ q = cc in k a b
+same_refusal {κ} : {C : Type κ} {r s : Reason} {p q : ℕ} → ◌≡◌ {A = Result Counts Refusal} (Err (refused_at r p)) (Err (refused_at s q)) → (r ≡ s → p ≡ q → C) → C
+same_refusal e k = let w = one_refusal e in k w.0 w.1
 
-no_refusal {κ} : {C : Type κ} {c : Counts} {r : Reason} {p : ℕ} → opening.Folio c ≡ opening.Refused r p → C
+no_refusal {κ} : {C : Type κ} {c : Counts} {r : Reason} {p : ℕ} → ◌≡◌ {A = Result Counts Refusal} (Ok c) (Err (refused_at r p)) → C
 no_refusal e = let z : ◌≡◌ {A = ℕ} 0 1 = cc in absurd (omega arith)
 
 module _ (file : List ℕ) (l : Lent) where
@@ -71,11 +66,11 @@ module _ (file : List ℕ) (l : Lent) where
   score_ends q d = section_ends q.score q.end d.nodes d.score_words (omega (arith, d.size))
 
   -- ---- a refusal has its row
-  module _ (small : Below 256 file) (r : Reason) (p : ℕ) (e : (opened file l).answer ≡ opening.Refused r p) where
-    told : (o : OpenOutcome) → opened file l ≡ o → o.answer ≡ opening.Refused r p
+  module _ (small : Below 256 file) (r : Reason) (p : ℕ) (e : (opened file l).answer ≡ Err (refused_at r p)) where
+    told : (o : OpenOutcome) → opened file l ≡ o → o.answer ≡ Err (refused_at r p)
     told o d = sym (ap (λ (x : OpenOutcome). x.answer) d) ∙ e
 
-    module _ (q : Places) (eq : trailer_of file ≡ sections.At q) (good : symbols_of (symbols_at file q) ≡ verdict.Good) where
+    module _ (q : Places) (eq : trailer_of file ≡ Ok q) (good : symbols_of (symbols_at file q) ≡ granted) where
       abbrev ar : List ℕ
       ar = symbols_at file q
 
@@ -88,7 +83,7 @@ module _ (file : List ℕ) (l : Lent) where
       whole : opened file l ≡ held ar ws sc q.shapes l
       whole = opened_at file l q (sections_good file q eq good)
 
-      no_room : (st : List ℕ) (s : Shaped ar ws st) (t : Scored ar sc) (k : Counts) → (stored ar ws st sc k l).answer ≡ opening.Refused r p
+      no_room : (st : List ℕ) (s : Shaped ar ws st) (t : Scored ar sc) (k : Counts) → (stored ar ws st sc k l).answer ≡ Err (refused_at r p)
           → Given file l (number_of r) p
       no_room st s t k d = go (dec_lt (length l.words) (length ws)) (dec_lt (length l.starts) (length st)) (dec_lt (length l.score) (length sc))
           (dec_lt (length l.spans) (length sc))
@@ -116,40 +111,40 @@ module _ (file : List ℕ) (l : Lent) where
               no_refusal (sym (ap (λ (o : OpenOutcome). o.answer) (stored_all ar ws st sc k l (omega arith) (omega arith) (omega arith) (omega arith)))
               ∙ d)
 
-      on_score_lem : (n : ShapesMet) → (shapes_of ar blank_word ws).answer ≡ shapes.Whole n → (x : Score) → score_of ar sc ≡ x → Given file l (number_of r) p
-      on_score_lem n es (score.Refused s i) ex =
+      on_score_lem : (n : ShapesMet) → (shapes_of ar blank_word ws).answer ≡ Ok n → (x : Result Met Refusal) → score_of ar sc ≡ x → Given file l (number_of r) p
+      on_score_lem n es (Err why) ex =
           same_refusal (told _ (whole ∙ held_score ar ws sc q.shapes l es ex)) λ a b.
           let placed = trailer_in file q eq in
-          let place : q.score + 2 * i ≡ p = sym (ap (λ y. y + 2 * i) (score_begins q placed)) ∙ b in
+          let place : q.score + 2 * why.1 ≡ p = sym (ap (λ y. y + 2 * why.1) (score_begins q placed)) ∙ b in
           rw (← place) (in_score q (trailer_framed file q eq) (symbols_is ar good) (shapes_of ar blank_word ws).starts (found_shapes ar ws n es)
-          (score_row ar sc q.score q.end (score_ends q placed) r i (ex ∙ ap (λ y. score.Refused y i) a)))
-      on_score_lem n es (score.Whole m) ex =
+          (score_row ar sc q.score q.end (score_ends q placed) r why.1 (ex ∙ ap (λ y. Err (refused_at y why.1)) a)))
+      on_score_lem n es (Ok m) ex =
           let s = found_shapes ar ws n es in
           let t = score_is ar sc m (words_below _ (λ w i. small w (in_drop q.score file (in_take (q.end - q.score) (drop q.score file) i))))
           ex in
           no_room (shapes_of ar blank_word ws).starts s t (counts_of ar ws n sc m) (rw_told (held_on ar ws sc q.shapes l es ex))
         where
-          rw_told : {o : OpenOutcome} → held ar ws sc q.shapes l ≡ o → o.answer ≡ opening.Refused r p
+          rw_told : {o : OpenOutcome} → held ar ws sc q.shapes l ≡ o → o.answer ≡ Err (refused_at r p)
           rw_told d = told _ (whole ∙ d)
 
-      on_shapes_lem : (x : Shapes) → (shapes_of ar blank_word ws).answer ≡ x → Given file l (number_of r) p
-      on_shapes_lem (shapes.Refused s i) ex =
+      on_shapes_lem : (x : Result ShapesMet Refusal) → (shapes_of ar blank_word ws).answer ≡ x → Given file l (number_of r) p
+      on_shapes_lem (Err why) ex =
           same_refusal (told _ (whole ∙ held_shapes ar ws sc q.shapes l ex)) λ a b.
           rw (← b) (in_shapes q (trailer_framed file q eq) (symbols_is ar good)
-          (shape_row ar ws q.shapes q.score (score_begins q (trailer_in file q eq)) r i (ex ∙ ap (λ y. shapes.Refused y i) a)))
-      on_shapes_lem (shapes.Whole n) ex = on_score_lem n ex (score_of ar sc) refl
+          (shape_row ar ws q.shapes q.score (score_begins q (trailer_in file q eq)) r why.1 (ex ∙ ap (λ y. Err (refused_at y why.1)) a)))
+      on_shapes_lem (Ok n) ex = on_score_lem n ex (score_of ar sc) refl
 
-    on_symbols_lem : (q : Places) → trailer_of file ≡ sections.At q → (v : Verdict) → symbols_of (symbols_at file q) ≡ v → Given file l (number_of r) p
-    on_symbols_lem q eq (verdict.Bad s i) ev =
+    on_symbols_lem : (q : Places) → trailer_of file ≡ Ok q → (v : Result Unit Refusal) → symbols_of (symbols_at file q) ≡ v → Given file l (number_of r) p
+    on_symbols_lem q eq (Err why) ev =
         same_refusal (told _ (opened_refused file l (sections_symbols file q eq ev))) λ a b.
-        in_symbols q (trailer_framed file q eq) (symbol_row (symbols_at file q) r p (ev ∙ ap₂ verdict.Bad a b))
-    on_symbols_lem q eq verdict.Good ev = on_shapes_lem q eq ev (shapes_of (symbols_at file q) blank_word (shapes_at file q)).answer refl
+        in_symbols q (trailer_framed file q eq) (symbol_row (symbols_at file q) r p (ev ∙ ap₂ (λ x y. Err (refused_at x y)) a b))
+    on_symbols_lem q eq (Ok _) ev = on_shapes_lem q eq ev (shapes_of (symbols_at file q) blank_word (shapes_at file q)).answer refl
 
-    on_trailer : (s : Sections) → trailer_of file ≡ s → Given file l (number_of r) p
-    on_trailer (sections.Refused s i) es =
+    on_trailer : (s : Result Places Refusal) → trailer_of file ≡ s → Given file l (number_of r) p
+    on_trailer (Err why) es =
         same_refusal (told _ (opened_refused file l (sections_trailer file es))) λ a b.
-        in_trailer (trailer_row file r p (es ∙ ap₂ sections.Refused a b))
-    on_trailer (sections.At q) es = on_symbols_lem q es (symbols_of (symbols_at file q)) refl
+        in_trailer (trailer_row file r p (es ∙ ap₂ (λ x y. Err (refused_at x y)) a b))
+    on_trailer (Ok q) es = on_symbols_lem q es (symbols_of (symbols_at file q)) refl
 
     pub refused_given : Given file l (number_of r) p
     refused_given = on_trailer (trailer_of file) refl

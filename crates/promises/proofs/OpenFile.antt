@@ -4,6 +4,7 @@
 --   shape_words_lem …  the tables, as the terms that opening read
 --   shapes_good_lem score_good_lem  they are good; symbols_below …: and of bytes and words
 --   same_…            two openings of one file have the same symbols, shapes with their words and starts, score, spans and depth
+use Rattle.std.specs.Prelude.{Ok}
 use mathlib.Core.Path.{◌≡◌, ap, ap₂, sym, ◌∙◌, subst}
 use mathlib.Core.List.{List, map}
 use Prim.Native.Nat.{ℕ, ◌-◌}
@@ -15,10 +16,8 @@ use Rattle.kinds.proofs.Members.{in_take, in_drop}
 use Rattle.term.specs.Terms.{Term, span, depth, flatten, sizes}
 use Rattle.term.proofs.Sizes.{length_flatten, length_sizes}
 use Rattle.sections.specs.Bytes as file-words
-use Rattle.sections.specs.declared.Sections.TheVariants as sections
 use Rattle.sections.specs.declared.Places.{Places}
 use Rattle.folio.specs.declared.Counts.{Counts}
-use Rattle.folio.specs.declared.Opened.TheVariants as opening
 use Rattle.folio.specs.Opening.{OpenOutcome}
 use Rattle.folio.specs.Folio.{Folio, starts_at, counts_in, answered, shape_terms, score_term}
 use Rattle.folio.proofs.ShapesFound.{length_starts}
@@ -43,7 +42,7 @@ module _ {file : List ℕ} (O : OpenFile file) where
 
   counted : O.counts ≡ counts_in (take p.shapes file) ss t
   counted =
-      let z : opening.Folio O.counts ≡ opening.Folio (counts_in (take p.shapes file) ss t) =
+      let z : Ok O.counts ≡ Ok (counts_in (take p.shapes file) ss t) =
       sym O.opens ∙ ap (λ (o : OpenOutcome). o.answer) acc.is in
       cc
 
@@ -137,7 +136,7 @@ module _ {file : List ℕ} (O : OpenFile file) where
 module _ {file : List ℕ} (O P : OpenFile file) where
   same_places : (acc O).places ≡ (acc P).places
   same_places =
-      let z : sections.At (acc O).places ≡ sections.At (acc P).places = sym (acc O).placed ∙ (acc P).placed in
+      let z : Ok (acc O).places ≡ Ok (acc P).places = sym (acc O).placed ∙ (acc P).placed in
       cc
 
   abbrev shape_part : Places → List ℕ

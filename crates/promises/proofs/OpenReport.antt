@@ -3,6 +3,7 @@
 --   tables         the tables say of matches what the terms say
 --   exact_report   the text over such marks is the one that matches alone say
 --   exact_over     by any two openings of a file the marks are the same
+use Rattle.std.specs.Prelude.{Option}
 use mathlib.Core.Path.{◌≡◌, refl, ◌∙◌, subst}
 use mathlib.Core.Bool.{Bool}
 use mathlib.Core.List.{List}
@@ -16,7 +17,6 @@ use Rattle.counting.specs.Counting.{total}
 use Rattle.clashing.proofs.OneFolio.{SaysOf, says_of}
 use Rattle.report.specs.Paths.{path_of}
 use Rattle.report.specs.Text.{report}
-use Rattle.report.specs.declared.States.{States}
 use Rattle.promises.specs.OneFile.{OpenFile, symbols_in, words_in, starts_in, nodes_in, spans_in, shapes_in, score_in}
 use Rattle.promises.specs.Reported.{report_in, totals_of}
 use Rattle.promises.specs.Exact.{Exact}
@@ -38,7 +38,7 @@ module _ {file : List ℕ} (O : OpenFile file) where
       (is_folio O).limits.are_shapes (is_folio O).is_score (shape_words_lem O) (shape_starts O) (score_words O) refl
 
   pub exact_report : (test : Term → Pos → Bool) → Says test (score_in O) → (marks : List ℕ)
-      → Exact (shapes_in O) (score_in O) (take (span (score_in O)) marks) → (s : States) {k : ℕ} → k ≡ total (take (span (score_in O)) marks)
+      → Exact (shapes_in O) (score_in O) (take (span (score_in O)) marks) → (s : Option ℕ) {k : ℕ} → k ≡ total (take (span (score_in O)) marks)
       → report (totals_of (words_in O) (starts_in O) (spans_in O) O.counts.depth s k (take (length (spans_in O)) marks)) (spans_in O) marks
       ≡ report_in test (shapes_in O) (score_in O) s
   exact_report test says marks exact s e =

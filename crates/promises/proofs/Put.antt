@@ -3,6 +3,7 @@
 --   placed          where the call answers a number: the match and the replacement
 --   put_holds       what is promised of it
 --   unchanged       a shape put in for itself changes nothing
+use Rattle.std.specs.Prelude.{Ok}
 use mathlib.Core.Path.{◌≡◌, refl, ap, ap₂, sym, ◌∙◌, subst}
 use mathlib.Core.List.{List, [], ◌∷◌, ◌++◌}
 use mathlib.Core.Option.{some}
@@ -33,7 +34,6 @@ use Rattle.folio.proofs.EveryFolio.{every_folio, symbols_part, bound_bytes, file
 use Rattle.folio.proofs.ScoreWhole.{below_of}
 use Rattle.following.proofs.FollowTree.{span_at_lem}
 use Rattle.counting.specs.Counting.{match_at, counted_says}
-use Rattle.counting.specs.declared.Counted.TheVariants.{Number}
 use Rattle.clashing.specs.Strays.{IsMatch}
 use Rattle.replacing.specs.Links.{IsLink, binding, replaced, Finished}
 use Rattle.replacing.proofs.PutTree.{is_score}
@@ -193,7 +193,7 @@ module _ {file : List ℕ} (O : OpenFile file) (j x : ℕ) (link : List ℕ) (f 
             copies = copies;
           }
 
-  pub put_holds : (k : ℕ) → (put_here O j x link f new).answer ≡ Number k → (w : P) × Put O j x link f new w
+  pub put_holds : (k : ℕ) → (put_here O j x link f new).answer ≡ Ok k → (w : P) × Put O j x link f new w
   put_holds k e =
       let h = found (put_row (symbols_in O) (words_in O) (starts_in O) (nodes_in O) (spans_in O) j x link f new (nodes_below O))
       (ap (λ a. (counted_says a).number) e) in

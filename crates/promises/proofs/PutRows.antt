@@ -1,5 +1,6 @@
 -- Rows 19, 31 and 40 to 44 of putting in, and the new score: what the call says and leaves is what they give.
 --   said        what it says and leaves where the replacement may be put in
+use Rattle.std.specs.Prelude.{Ok}
 use mathlib.Core.Path.{◌≡◌, refl, ap, ap₂, sym, ◌∙◌, subst}
 use mathlib.Core.Bool.{true, false}
 use mathlib.Core.Logic.{◌⊎◌, inl, inr}
@@ -22,7 +23,6 @@ use Rattle.checks.specs.Again.{score_good}
 use Rattle.folio.specs.Folio.{shape_terms, score_term}
 use Rattle.folio.proofs.GoodTables.{scored_good}
 use Rattle.counting.specs.Counting.{match_at}
-use Rattle.counting.specs.declared.Counted.TheVariants.{Number}
 use Rattle.matching.specs.Shapes.{shape_at}
 use Rattle.matching.proofs.ShapeWords.{shape_words_lem}
 use Rattle.clashing.specs.Strays.{matched}
@@ -152,7 +152,7 @@ module _ (ar ws st score spans : List ℕ) (j x : ℕ) (link : List ℕ) (f : �
         said_44 : length new < span R → outcome ≡ refused ShortScore new
         said_44 h = goes ∙ in_44 ar few ℓ t fits good m.there.place x m.there.has_node m.there.matches link new r k nodes flat h
 
-        pub said : span R ≤ length new → outcome ≡ put_out (Number (span R)) (onto (flatten R) new)
+        pub said : span R ≤ length new → outcome ≡ put_out (Ok (span R)) (onto (flatten R) new)
         said h = goes ∙ in_put ar few ℓ t fits good m.there.place x m.there.has_node m.there.matches link new r k nodes flat h
 
   -- ---- the row that applies

@@ -3,6 +3,9 @@
 --   pair_of_lem of_pair               a pair of those counted at a word
 --   block_of_lem of_block         a block's start
 --   by_label by_lengths by_announcement by_successor   the readers
+use Rattle.kinds.specs.declared.Reason.{Reason}
+use Rattle.readers.specs.declared.Lengths.{Lengths}
+use Rattle.std.specs.Prelude.{Err, Ok, Result}
 use mathlib.Core.Path.{◌≡◌, refl, ap, sym, ◌∙◌}
 use mathlib.Core.Bool.{true, false, ◌&&◌}
 use mathlib.Core.List.{List, ◌∷◌, []}
@@ -22,16 +25,11 @@ use Rattle.kinds.proofs.Options.{on_bind, on_need}
 use Rattle.kinds.proofs.Places.{at_below}
 use Rattle.readers.specs.PlanParts.{within, view_good, label_word, to_label, pair_at, label_of, label_says, lengths_of, block_says, to_announcement, announcement_of, announcement_says, to_successor, successor_of, successor_says}
 use Rattle.readers.specs.BlockWords.{middle, pair_list, outs_at, nexts_at, block_fits, block_start}
-use Rattle.readers.specs.declared.Label.TheVariants as label
-use Rattle.readers.specs.declared.Block.TheVariants as block
-use Rattle.readers.specs.declared.Announcement.TheVariants as announcement
-use Rattle.readers.specs.declared.Successor.TheVariants as successor
 use Rattle.readers.proofs.LawsPairs.{pair_list_length, pair_list_at, fits_in}
 use Rattle.readers.proofs.LawsParts as laws
 use Rattle.promises.specs.Found.{FoundRow, View, PairFound, LabelFound, BlockFound, AnnouncementFound, SuccessorFound, pair_values}
 use Rattle.promises.specs.Told.{By}
 use Rattle.promises.proofs.FoundRows.{by_found}
-use Rattle.readers.specs.declared.Block.{Block}
 
 -- ---- a pair
 module _ (plan : List ℕ) (at limit i : ℕ) (x : ℕ × ℕ) where
@@ -94,16 +92,16 @@ module _ (plan : List ℕ) (m k : ℕ) where
 
   -- ---- a label
   module _ (s : ℕ) where
-    label_is : (c : ℕ) → LabelFound plan m k s c → label_of plan m k s ≡ label.At (position c)
+    label_is : (c : ℕ) → LabelFound plan m k s c → label_of plan m k s ≡ Ok (position c)
     unfolding label_of label_word
     label_is c h = rw (view_good_lem h.view, lt-ltb s m h.state, h.word, h.code) refl
 
-    label_either : ((c : ℕ) × LabelFound plan m k s c) ⊎ (label_of plan m k s ≡ label.Refused OutOfRange)
+    label_either : ((c : ℕ) × LabelFound plan m k s c) ⊎ (label_of plan m k s ≡ Err OutOfRange)
     unfolding label_of label_word
     label_either = go (need (view_good plan m k) (bind (label_word plan m s) (λ c. need (code_good c) (some c)))) refl
       where
         go : (o : Option ℕ) → need (view_good plan m k) (bind (label_word plan m s) (λ c. need (code_good c) (some c))) ≡ o
-            → ((c : ℕ) × LabelFound plan m k s c) ⊎ (label_of plan m k s ≡ label.Refused OutOfRange)
+            → ((c : ℕ) × LabelFound plan m k s c) ⊎ (label_of plan m k s ≡ Err OutOfRange)
         go none e = inr (ap to_label e)
         go (some c) e =
             on_need (view_good plan m k) _ e λ t d.
@@ -113,7 +111,7 @@ module _ (plan : List ℕ) (m k : ℕ) where
             inl (w, record { view = good_view t; state = ltb-true s m t₂; word = d₃; code = t₁ })
 
     pub by_label : By (FoundRow (LabelFound plan m k s) (λ c. c ∷ [])) (label_says (label_of plan m k s))
-    by_label = by_found (LabelFound plan m k s) (λ c. c ∷ []) label_says (label.Refused OutOfRange) (λ c. label.At (position c)) (label_of plan m k s)
+    by_label = by_found (LabelFound plan m k s) (λ c. c ∷ []) label_says (Err OutOfRange) (λ c. Ok (position c)) (label_of plan m k s)
         refl (λ c. refl) label_is label_either
 
   -- ---- a block
@@ -155,13 +153,13 @@ module _ (plan : List ℕ) (m k : ℕ) where
         go (inl g) none e = out g e
         go (inl g) (some b) e = found b (of_block b g e)
 
-    abbrev lengths : ℕ → Block
-    lengths b = block.Of (record { announcements = get_or plan b 0; successors = get_or plan (middle plan b) 0 })
+    abbrev lengths : ℕ → Result Lengths Reason
+    lengths b = Ok (record { announcements = get_or plan b 0; successors = get_or plan (middle plan b) 0 })
 
     pub by_lengths : By (FoundRow (BlockFound plan m k s f) (λ b. get_or plan b 0 ∷ get_or plan (middle plan b) 0 ∷ []))
         (block_says (lengths_of plan m k s f))
     by_lengths =
-        by_found (BlockFound plan m k s f) (λ b. get_or plan b 0 ∷ get_or plan (middle plan b) 0 ∷ []) block_says (block.Refused OutOfRange) lengths
+        by_found (BlockFound plan m k s f) (λ b. get_or plan b 0 ∷ get_or plan (middle plan b) 0 ∷ []) block_says (Err OutOfRange) lengths
         (lengths_of plan m k s f)
         refl (λ b. refl)
         (λ b h. laws.lengths_some plan m k (view_good_lem h.view) s f b (block_of_lem b h))
@@ -172,8 +170,8 @@ module _ (plan : List ℕ) (m k : ℕ) where
       pub by_announcement : By (FoundRow (AnnouncementFound plan m k s f i) pair_values) (announcement_says (announcement_of plan m k s f i))
       unfolding announcement_of
       by_announcement =
-          by_found (AnnouncementFound plan m k s f i) pair_values announcement_says (announcement.Refused OutOfRange)
-          (λ x. announcement.Of (record { 0 = x.0 }) (position x.1)) (announcement_of plan m k s f i)
+          by_found (AnnouncementFound plan m k s f i) pair_values announcement_says (Err OutOfRange)
+          (λ x. Ok (record { 0 = x.0 }, position x.1)) (announcement_of plan m k s f i)
           refl (λ x. refl)
           (λ x h. ap to_announcement (laws.pair_in_lem plan m k (view_good_lem h.block.view) s f h.begin (block_of_lem h.begin h.block) false i
           ∙ pair_of_lem plan h.begin (get_or plan 2 0) i x h.pair))
@@ -182,15 +180,15 @@ module _ (plan : List ℕ) (m k : ℕ) where
           (λ g e. inr (ap to_announcement (laws.pair_start plan m k g s f false i e))))
         where
           in_block : (b : ℕ) → BlockFound plan m k s f b → (o : Option (ℕ × ℕ)) → pair_at (get_or plan 2 0) (outs_at plan b) i ≡ o
-              → ((x : ℕ × ℕ) × AnnouncementFound plan m k s f i x) ⊎ (announcement_of plan m k s f i ≡ announcement.Refused OutOfRange)
+              → ((x : ℕ × ℕ) × AnnouncementFound plan m k s f i x) ⊎ (announcement_of plan m k s f i ≡ Err OutOfRange)
           in_block b h none e = inr (ap to_announcement (laws.pair_in_lem plan m k (view_good_lem h.view) s f b (block_of_lem b h) false i ∙ e))
           in_block b h (some x) e = inl (x, record { begin = b; block = h; pair = of_pair plan b (get_or plan 2 0) i x e })
 
       pub by_successor : By (FoundRow (SuccessorFound plan m k s f i) pair_values) (successor_says (successor_of plan m k s f i))
       unfolding successor_of
       by_successor =
-          by_found (SuccessorFound plan m k s f i) pair_values successor_says (successor.Refused OutOfRange)
-          (λ x. successor.Of (record { 0 = x.0 }) (position x.1)) (successor_of plan m k s f i)
+          by_found (SuccessorFound plan m k s f i) pair_values successor_says (Err OutOfRange)
+          (λ x. Ok (record { 0 = x.0 }, position x.1)) (successor_of plan m k s f i)
           refl (λ x. refl)
           (λ x h. ap to_successor (laws.pair_in_lem plan m k (view_good_lem h.block.view) s f h.begin (block_of_lem h.begin h.block) true i
           ∙ pair_of_lem plan (middle plan h.begin) m i x h.pair))
@@ -198,6 +196,6 @@ module _ (plan : List ℕ) (m k : ℕ) where
           (λ g e. inr (ap to_successor (laws.pair_start plan m k g s f true i e))))
         where
           in_block : (b : ℕ) → BlockFound plan m k s f b → (o : Option (ℕ × ℕ)) → pair_at m (nexts_at plan b) i ≡ o
-              → ((x : ℕ × ℕ) × SuccessorFound plan m k s f i x) ⊎ (successor_of plan m k s f i ≡ successor.Refused OutOfRange)
+              → ((x : ℕ × ℕ) × SuccessorFound plan m k s f i x) ⊎ (successor_of plan m k s f i ≡ Err OutOfRange)
           in_block b h none e = inr (ap to_successor (laws.pair_in_lem plan m k (view_good_lem h.view) s f b (block_of_lem b h) true i ∙ e))
           in_block b h (some x) e = inl (x, record { begin = b; block = h; pair = of_pair plan (middle plan b) m i x e })

@@ -3,6 +3,7 @@
 --   found_matches    the matches that right marks hold are those of the shapes at the score's positions
 --   matches_numbered each of these stands at the position of its node
 --   right_report report_right   the text over right marks, where the tables are those of the terms
+use Rattle.std.specs.Prelude.{Option}
 use mathlib.Core.Path.{◌≡◌, refl, ap, ap₂, sym, ◌∙◌, subst}
 use mathlib.Core.Bool.{Bool, true, false, cond}
 use mathlib.Core.List.{List, [], ◌∷◌, ◌++◌, map, append-nil}
@@ -32,7 +33,6 @@ use Rattle.clashing.specs.Clashes.{clash_number, nodes_in, nodes_of}
 use Rattle.clashing.specs.Strays.{IsMatch}
 use Rattle.clashing.proofs.OneFolio.{match_of_lem, SaysOf}
 use Rattle.report.specs.Paths.{path_of}
-use Rattle.report.specs.declared.States.{States}
 use Rattle.report.specs.Text.{match_line, line, text_of, first_line, lines, report}
 use Rattle.promises.specs.Reported.{MatchIn, match_one, matches_at, matches_in, totals_in, report_in, totals_of}
 use Rattle.promises.specs.Demand2.{Says}
@@ -137,17 +137,17 @@ module _ (test : Term → Pos → Bool) (shapes : List Term) (t : Term) (ms : Li
       clashes_are : clash_number (nodes_of words starts (sizes t)) (found_in ms) ≡ clash_number (nodes_in shapes t) (map numbers all)
       clashes_are = tables.same_number (found_in ms) (is_match says) ∙ ap (clash_number (nodes_in shapes t)) (sym found_matches)
 
-      totals_are : (states : States) → totals_of words starts (sizes t) (depth t) states (total ms) ms ≡ totals_in all shapes t states
+      totals_are : (states : Option ℕ) → totals_of words starts (sizes t) (depth t) states (total ms) ms ≡ totals_in all shapes t states
       totals_are states = λ i. record { nodes = length_sizes t i; states = states; matches = total_is i; clashes = clashes_are i; depth = depth t }
 
-      pub right_report : (states : States)
+      pub right_report : (states : Option ℕ)
           → first_line (totals_of words starts (sizes t) (depth t) states (total ms) ms) ++ lines (sizes t) ms ≡ report_in test shapes t states
       right_report states = λ i. first_line (totals_are states i) ++ lines_are i
 
 -- the report of marks, the first n of which are right
 pub report_right : (test : Term → Pos → Bool) (shapes : List Term) (t : Term) (marks : List ℕ) → Right test shapes t (take (span t) marks)
     → length shapes ≤ 16 → ((p : Pos) (n : ℕ) → number t p ≡ some n → path_of (sizes t) n ≡ some p)
-    → (words starts score : List ℕ) → SaysOf words starts score (sizes t) shapes t → Says test t → (states : States)
+    → (words starts score : List ℕ) → SaysOf words starts score (sizes t) shapes t → Says test t → (states : Option ℕ)
     → report (totals_of words starts (sizes t) (depth t) states (total (take (span t) marks)) (take (length (sizes t)) marks)) (sizes t) marks
     ≡ report_in test shapes t states
 unfolding report

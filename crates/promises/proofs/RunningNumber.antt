@@ -1,4 +1,5 @@
 -- The stored number is what document 02 says of it.
+use Rattle.std.specs.Prelude.{Ok}
 use mathlib.Core.Path.{◌≡◌, refl, ap, sym, subst}
 use mathlib.Core.List.{List}
 use Prim.Native.Nat.{ℕ, ◌+◌, ◌*◌, ◌^◌, ◌≤◌}
@@ -9,7 +10,6 @@ use Rattle.walk.specs.Starting.{Walk, begun, started}
 use Rattle.walk.specs.Stepping.{onward, stepped}
 use Rattle.walk.specs.declared.Record.{Record}
 use Rattle.kinds.proofs.Places.{on_in}
-use Rattle.walk.specs.declared.Walked.TheVariants.{On}
 use Rattle.listing.specs.Listing.{listed, accepted_in}
 use Rattle.listing.proofs.Singly.{one_list}
 use Rattle.counting.specs.Counting.{total}
@@ -32,7 +32,7 @@ module _ (score spans : List ℕ) where
   handed_grows (by_list {w} {v} plan choices more) = grows_on (length score) w (listed plan score spans choices w).walk v (list_grows plan choices w)
       (handed_grows more)
 
-  module _ (ar : List ℕ) (w : Walk) (first : Record) (e : (started ar score spans w).answer ≡ On first) (v : Walk)
+  module _ (ar : List ℕ) (w : Walk) (first : Record) (e : (started ar score spans w).answer ≡ Ok first) (v : Walk)
       (h : HandedOn score spans (started ar score spans w).walk v) where
     kept : v.count.matches ≡ total (take (length score) v.marks)
     kept =

@@ -5,6 +5,7 @@
 --   always_ten      by demand 3, every walk to the end has ten accepted steps
 --   waits_for_6_or_8  by wish 7, whatever was chosen: where shape 0 is not marked at node 6, that node or node 8 is unread
 --   always_reported by demand 3, every walk over the file to its end, in any order and with any buffers, reports the text of document 01
+use Rattle.std.specs.Prelude.{Ok, Some}
 use mathlib.Core.Path.{◌≡◌, refl, ap, ap₂, sym, ◌∙◌, subst}
 use mathlib.Core.Bool.{false}
 use mathlib.Core.Logic.{◌⊎◌, inl, inr}
@@ -21,9 +22,7 @@ use Rattle.term.specs.Places.{Matches, number}
 use Rattle.folio.specs.Folio.{shape_terms, score_term}
 use Rattle.folio.specs.Opening.{Lent, lent, opened}
 use Rattle.folio.specs.declared.Counts.{Counts}
-use Rattle.folio.specs.declared.Opened.TheVariants as opening
 use Rattle.plan.specs.Building.{size, build_of}
-use Rattle.plan.specs.declared.Built.TheVariants as building
 use Rattle.walk.specs.Starting.{Walk, WalkOutcome, walk_of, counting, go_on, begun, started}
 use Rattle.walk.specs.Stepping.{run}
 use Rattle.walk.specs.declared.Record.{Record}
@@ -36,7 +35,6 @@ use Rattle.promises.specs.Sample.{file, symbols, shape_words, starts, score, spa
 use Rattle.promises.specs.Reported.{totals_of}
 use Rattle.promises.specs.SoFar.{logged}
 use Rattle.promises.specs.OneFile.{OpenFile, OneFile, words_in, starts_in, nodes_in, spans_in, shapes_in, score_in, lent_in, begun_in, after, accepted_in, reported}
-use Rattle.report.specs.declared.States.TheVariants.{Of}
 use Rattle.promises.proofs.Demand2.{demand_2}
 use Rattle.promises.proofs.Demand3.{demand_3}
 use Rattle.promises.proofs.Unfinished.{unfinished}
@@ -55,7 +53,7 @@ known = record { symbols = 3; shapes = 2; words = 9; nodes = 10; depth = 4; deep
 abbrev pub walk : Walk
 walk = walk_of (nines 20) (nines 10) (nines 10) (counting 7 7 7)
 
-pub opens_are : (opened file tables).answer ≡ opening.Folio known
+pub opens_are : (opened file tables).answer ≡ Ok known
 unfolding computing
 opens_are = refl
 
@@ -78,7 +76,7 @@ pub spans_are : spans_in open_file ≡ spans
 unfolding computing
 spans_are = refl
 
-pub build_is : (build_of symbols shape_words starts (nines 57) (nines 32768)).answer ≡ building.Plan (size 3 56)
+pub build_is : (build_of symbols shape_words starts (nines 57) (nines 32768)).answer ≡ Ok (size 3 56)
 unfolding computing
 build_is = refl
 
@@ -192,13 +190,13 @@ waits_for_6_or_8 choices b =
     either x (there (here e)) n = inr (rw (← e) n)
     either x (there (there m)) n = elim m [ ]
 
-text_is : report (totals_of shape_words starts spans 4 (Of 3) 4 marks) spans marks ≡ text
+text_is : report (totals_of shape_words starts spans 4 (Some 3) 4 marks) spans marks ≡ text
 unfolding computing
 text_is = refl
 
 pub always_reported : {P : OpenFile file} (T : OneFile P) (choices : List ℕ) → (after T choices).count.waiting ≡ 0 → reported T choices ≡ text
 always_reported T choices e =
     (demand_3 T).same_text one_file choices zeros e ended
-    ∙ (λ i. report (totals_of (words_are i) (starts_are i) (spans_are i) 4 (Of 3) (number_is i) (take (length (spans_are i)) (marks_are i))) (spans_are i)
+    ∙ (λ i. report (totals_of (words_are i) (starts_are i) (spans_are i) 4 (Some 3) (number_is i) (take (length (spans_are i)) (marks_are i))) (spans_are i)
     (marks_are i))
     ∙ text_is

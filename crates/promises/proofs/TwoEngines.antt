@@ -1,5 +1,7 @@
 -- The two engines agree, over every file that opens.
 --   compared_is              so comparing sets the nodes' marks, which hold exactly the matches
+use Rattle.kinds.specs.declared.Reason.{Reason}
+use Rattle.std.specs.Prelude.{None, Ok, Result}
 use mathlib.Core.Path.{◌≡◌, ap, sym, ◌∙◌, subst}
 use mathlib.Core.List.{List}
 use Prim.Native.Nat.{ℕ, ◌≤◌}
@@ -10,9 +12,7 @@ use Rattle.kinds.proofs.ListLaws.{take_onto, drop_onto}
 use Rattle.term.specs.Terms.{span}
 use Rattle.term.proofs.Sizes.{length_flatten}
 use Rattle.counting.specs.Counting.{total}
-use Rattle.counting.specs.declared.Counted.TheVariants.{Number}
 use Rattle.comparing.specs.Comparing.{CompareOutcome, marks_of, out_of}
-use Rattle.report.specs.declared.States.TheVariants.{NoPlan}
 use Rattle.promises.specs.OneFile.{OpenFile, OneFile, symbols_in, words_in, starts_in, nodes_in, spans_in, shapes_in, score_in, after}
 use Rattle.promises.specs.Exact.{Exact}
 use Rattle.promises.specs.TwoEngines.{compared_in, TwoEngines}
@@ -28,7 +28,7 @@ module _ {file : List ℕ} (O : OpenFile file) where
     abbrev made : List ℕ
     made = marks_of (words_in O) (starts_in O) (nodes_in O) (spans_in O)
 
-    compared_is : compared_in O marks ≡ out_of (Number (total made)) (onto made marks)
+    compared_is : compared_in O marks ≡ out_of (Ok (total made)) (onto made marks)
     compared_is =
         let l : length (nodes_in O) ≡ span (score_in O) = ap length (score_words O) ∙ length_flatten (score_in O) in
         comparing.said (symbols_in O) (words_in O) (starts_in O) (nodes_in O) (spans_in O) marks (shapes_good_lem O) (score_good_lem O) (omega (arith, l, room))
@@ -44,18 +44,18 @@ module _ {file : List ℕ} (O : OpenFile file) where
     exact : Exact (shapes_in O) (score_in O) (take (span (score_in O)) (compared_in O marks).marks)
     exact = subst (Exact (shapes_in O) (score_in O)) (sym first) made_exact
 
-    answers : (compared_in O marks).answer ≡ Number (total (take (span (score_in O)) (compared_in O marks).marks))
-    answers = ap (λ (o : CompareOutcome). o.answer) compared_is ∙ ap (λ ms. Number (total ms)) (sym first)
+    answers : (compared_in O marks).answer ≡ Ok (total (take (span (score_in O)) (compared_in O marks).marks))
+    answers = ap (λ (o : CompareOutcome). o.answer) compared_is ∙ ap (λ ms. Ok (total ms)) (sym first)
 
     -- ---- a finished walk over the same file
     module _ {P : OpenFile file} (S : OneFile P) (choices : List ℕ) (done : (after S choices).count.waiting ≡ 0) where
       walk_made : made ≡ take (span (score_in O)) (after S choices).marks
       walk_made = exact_over O P made_exact (after S choices).marks (walked.exact S choices done)
 
-      same_number : (compared_in O marks).answer ≡ Number (after S choices).count.matches
+      same_number : (compared_in O marks).answer ≡ Ok (after S choices).count.matches
       same_number =
           ap (λ (o : CompareOutcome). o.answer) compared_is
-          ∙ ap Number (ap total walk_made ∙ ap (λ t. total (take (span t) (after S choices).marks)) (same_score O P) ∙ sym (number_is S choices))
+          ∙ ap Ok (ap total walk_made ∙ ap (λ t. total (take (span t) (after S choices).marks)) (same_score O P) ∙ sym (number_is S choices))
 
 pub two_engines : {file : List ℕ} (O : OpenFile file) (marks : List ℕ) → span (score_in O) ≤ length marks → TwoEngines O marks
 two_engines O marks room = record {
@@ -68,8 +68,8 @@ two_engines O marks room = record {
       ap (λ (o : CompareOutcome). drop (span (score_in O)) o.marks) (compared_is O marks room)
       ∙ ap (λ n. drop n (onto (made O marks room) marks)) (sym (made_exact O marks room).long) ∙ drop_onto (made O marks room) marks
       ∙ ap (λ n. drop n marks) (made_exact O marks room).long;
-  text = λ test says k e. exact_report O test says (compared_in O marks).marks (exact O marks room) NoPlan (same k (sym e ∙ answers O marks room));
+  text = λ test says k e. exact_report O test says (compared_in O marks).marks (exact O marks room) None (same k (sym e ∙ answers O marks room));
 }
   where
-    same : (k : ℕ) {n : ℕ} → Number k ≡ Number n → k ≡ n
+    same : (k : ℕ) {n : ℕ} → ◌≡◌ {A = Result ℕ Reason} (Ok k) (Ok n) → k ≡ n
     same k e = cc

@@ -1,4 +1,6 @@
 -- Rows 30 and 31: the outcomes of starting and of counting matches are those that they give.
+use Rattle.kinds.specs.declared.Reason.{Reason}
+use Rattle.std.specs.Prelude.{Ok, Result}
 use mathlib.Core.Path.{◌≡◌, refl, sym, ◌∙◌, ap}
 use mathlib.Core.Bool.{true, false, ◌&&◌}
 use mathlib.Core.Logic.{◌⊎◌, inl, inr}
@@ -17,8 +19,6 @@ use Rattle.folio.proofs.GoodTables.{score_good_scored, scored_good}
 use Rattle.walk.specs.Starting.{Walk, go_on, begun, room_for, started, refuse_walk}
 use Rattle.counting.specs.Counting.{total, counted, counted_says}
 use Rattle.counting.proofs.CountLaws.{count_bad, count_short, count_on}
-use Rattle.counting.specs.declared.Counted.{Counted}
-use Rattle.counting.specs.declared.Counted.TheVariants as count
 use Rattle.promises.specs.Demand1 as rows
 use Rattle.promises.specs.Demand1.{Good, Roomy, StartRow, CountRow, walk_told}
 use Rattle.promises.specs.Told.{By, Told}
@@ -92,8 +92,8 @@ module _ (ar score spans : List ℕ) (small : Below 65536 score) where
     by_start = (start_row, start_only)
 
   module _ (marks : List ℕ) where
-    abbrev all : List ℕ → Counted
-    all ms = count.Number (total ms)
+    abbrev all : List ℕ → Result ℕ Reason
+    all ms = Ok (total ms)
 
     count_row : CountRow ar score spans marks (counted_says (counted all ar score spans marks))
     count_row = go (score_or_not (test (score_good ar score spans))) (dec_lt (length marks) (length score))

@@ -11,7 +11,7 @@
 --   text               whatever tells which shape matches where, the whole text that find prints is `report_in` of it: the first line, then a line for each
 --                      match, over the score's positions in document order and the shapes ascending
 --   tested             such a test is there
-use Rattle.std.specs.Prelude.{◌≡◌, Bool, true, List, map, ◌↔◌, ℕ, ◌<◌, length, get_or}
+use Rattle.std.specs.Prelude.{◌≡◌, Bool, true, List, map, ◌↔◌, ℕ, ◌<◌, length, get_or, Some}
 use Rattle.std.proofs.Math.Option.{some}
 use Rattle.std.proofs.Math.ListN.{get_elem?}
 use Rattle.kinds.specs.Bits.{bit}
@@ -24,7 +24,6 @@ use Rattle.automaton.specs.PlanWords.{plan_of_lem}
 use Rattle.plan.specs.Building.{plan_of}
 use Rattle.counting.specs.Counting.{match_at}
 use Rattle.report.specs.Text.{line, match_line}
-use Rattle.report.specs.declared.States.TheVariants.{Of}
 use Rattle.promises.specs.OneFile.{OpenFile, OneFile, symbols_in, words_in, nodes_in, spans_in, shapes_in, score_in, plan_in, after, reported}
 use Rattle.promises.specs.Construction.{PaperSays}
 use Rattle.promises.specs.Reported.{report_in}
@@ -51,5 +50,5 @@ pub record Demand2 {file : List ℕ} {O : OpenFile file} (S : OneFile O) : Type 
       → (p : Pos) × (number (score_in O) p ≡ some n) × (line (spans_in O) (match_at n j) ≡ some (match_line (match_at n j) p))
   pub order : (p : Pos) (n : ℕ) → number (score_in O) p ≡ some n → get_elem? (dom (score_in O)) n ≡ some p
   pub text : (test : Term → Pos → Bool) → Says test (score_in O) → (choices : List ℕ) → (after S choices).count.waiting ≡ 0
-      → reported S choices ≡ report_in test (shapes_in O) (score_in O) (Of S.size.states)
+      → reported S choices ≡ report_in test (shapes_in O) (score_in O) (Some S.size.states)
   pub tested : (test : Term → Pos → Bool) × Says test (score_in O)

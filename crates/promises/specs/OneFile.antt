@@ -12,22 +12,18 @@
 --   after_lists list_after  the walk after any lists of choices, each call lent what the one before left; one more list then
 --   singly_in accepted_by_lists  the choices of such lists that were accepted, in order; how many the answers say that they are
 --   reported        the text that find prints: "find use[s] the stored number"
-use Rattle.std.specs.Prelude.{◌≡◌, List, ◌++◌, ℕ, length, take}
+use Rattle.std.specs.Prelude.{◌≡◌, List, ◌++◌, ℕ, length, take, Ok, Some}
 use Rattle.term.specs.Terms.{Term}
 use Rattle.folio.specs.Opening.{Lent, opened}
 use Rattle.folio.specs.Folio.{shape_terms, score_term}
 use Rattle.folio.specs.declared.Counts.{Counts}
-use Rattle.folio.specs.declared.Opened.TheVariants as opening
 use Rattle.plan.specs.Building.{build_of}
 use Rattle.plan.specs.declared.Size.{Size}
-use Rattle.plan.specs.declared.Built.TheVariants as building
 use Rattle.walk.specs.Starting.{Walk, WalkOutcome, started}
 use Rattle.walk.specs.Stepping.{stepped, run, accepted}
 use Rattle.walk.specs.declared.Record.{Record}
 use Rattle.listing.specs.Listing.{ListOutcome, listed, run_lists, singly, accepted_by}
-use Rattle.walk.specs.declared.Walked.TheVariants as walking
 use Rattle.report.specs.Text.{report}
-use Rattle.report.specs.declared.States.TheVariants as states
 use Rattle.kinds.specs.Members.{Below}
 use Rattle.promises.specs.Reported.{totals_of}
 
@@ -35,7 +31,7 @@ pub record OpenFile (file : List ℕ) : Type 0 where
   pub bytes : Below 256 file
   pub tables : Lent
   pub counts : Counts
-  pub opens : (opened file tables).answer ≡ opening.Folio counts
+  pub opens : (opened file tables).answer ≡ Ok counts
 
 module _ {file : List ℕ} (O : OpenFile file) where
   abbrev pub symbols_in : List ℕ
@@ -63,11 +59,11 @@ pub record OneFile {file : List ℕ} (O : OpenFile file) : Type 0 where
   pub plan : List ℕ
   pub scratch : List ℕ
   pub size : Size
-  pub builds : (build_of (symbols_in O) (words_in O) (starts_in O) plan scratch).answer ≡ building.Plan size
+  pub builds : (build_of (symbols_in O) (words_in O) (starts_in O) plan scratch).answer ≡ Ok size
   pub behind : List ℕ
   pub walk : Walk
   pub first : Record
-  pub starts : (started (symbols_in O) (nodes_in O) (spans_in O) walk).answer ≡ walking.On first
+  pub starts : (started (symbols_in O) (nodes_in O) (spans_in O) walk).answer ≡ Ok first
 
 module _ {file : List ℕ} {O : OpenFile file} (S : OneFile O) where
   abbrev pub buffer_in : List ℕ
@@ -106,5 +102,5 @@ module _ {file : List ℕ} {O : OpenFile file} (S : OneFile O) where
   abbrev pub reported : List ℕ → List ℕ
   reported choices =
       let w : Walk = after choices in
-      report (totals_of (words_in O) (starts_in O) (spans_in O) O.counts.depth (states.Of S.size.states) w.count.matches (take (length (spans_in O)) w.marks)) (spans_in O)
+      report (totals_of (words_in O) (starts_in O) (spans_in O) O.counts.depth (Some S.size.states) w.count.matches (take (length (spans_in O)) w.marks)) (spans_in O)
       w.marks

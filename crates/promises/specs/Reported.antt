@@ -8,7 +8,7 @@
 --                   in `Clashes` (clashing/specs), over the shapes' and the score's positions
 --   totals_of       the same by the tables, the stored number of matches and the marks
 --   report_in       the text: the first line, then the lines
-use Rattle.std.specs.Prelude.{List, [], ◌∷◌, ◌++◌, map, Bool, cond, ℕ, length}
+use Rattle.std.specs.Prelude.{List, [], ◌∷◌, ◌++◌, map, Bool, cond, ℕ, length, Option}
 use Rattle.kinds.specs.Lists.{gather, concat, map_at}
 use Rattle.kinds.specs.Positions.{Pos}
 use Rattle.term.specs.Terms.{Term, span, depth}
@@ -16,7 +16,6 @@ use Rattle.term.specs.Places.{dom}
 use Rattle.counting.specs.Counting.{Match, match_at, found_in}
 use Rattle.clashing.specs.Clashes.{clash_number, nodes_in, nodes_of}
 use Rattle.report.specs.declared.Totals.{Totals}
-use Rattle.report.specs.declared.States.{States}
 use Rattle.report.specs.Text.{match_line, first_line}
 
 pub record MatchIn : Type 0 where
@@ -34,7 +33,7 @@ module _ (test : Term → Pos → Bool) (shapes : List Term) where
   abbrev pub matches_in : Term → List MatchIn
   matches_in t = concat (map_at matches_at 0 (dom t))
 
-abbrev pub totals_in : List MatchIn → List Term → Term → States → Totals
+abbrev pub totals_in : List MatchIn → List Term → Term → Option ℕ → Totals
 totals_in ms shapes t states = record {
   nodes = span t;
   states = states;
@@ -43,13 +42,13 @@ totals_in ms shapes t states = record {
   depth = depth t;
 }
 
-abbrev pub report_in : (Term → Pos → Bool) → List Term → Term → States → List ℕ
+abbrev pub report_in : (Term → Pos → Bool) → List Term → Term → Option ℕ → List ℕ
 report_in test shapes t states =
     let ms = matches_in test shapes t in
     first_line (totals_in ms shapes t states) ++ gather (λ m. match_line m.match m.place) ms
 
 -- d is the score's depth, ms are the marks of the nodes
-abbrev pub totals_of : List ℕ → List ℕ → List ℕ → ℕ → States → ℕ → List ℕ → Totals
+abbrev pub totals_of : List ℕ → List ℕ → List ℕ → ℕ → Option ℕ → ℕ → List ℕ → Totals
 totals_of words starts spans d states number ms = record {
   nodes = length spans;
   states = states;

@@ -5,12 +5,11 @@
 --   more_ones    so it adds to the number as many as to the ones in the first n marks
 --   kept         after starting, and any such steps and lists, the number is the ones in the first n marks
 --   in_range     and is never such that a step is refused 34 for it
-use Rattle.std.specs.Prelude.{◌≡◌, List, ℕ, ◌+◌, ◌*◌, ◌^◌, ◌≤◌, length, take}
+use Rattle.std.specs.Prelude.{◌≡◌, List, ℕ, ◌+◌, ◌*◌, ◌^◌, ◌≤◌, length, take, Ok}
 use Rattle.queue.specs.Targets.{newly}
 use Rattle.walk.specs.Starting.{Walk, started}
 use Rattle.walk.specs.Stepping.{stepped}
 use Rattle.walk.specs.declared.Record.{Record}
-use Rattle.walk.specs.declared.Walked.TheVariants.{On}
 use Rattle.listing.specs.Listing.{listed}
 use Rattle.counting.specs.Counting.{total}
 use Rattle.promises.specs.StepFound.{StepFound}
@@ -26,7 +25,7 @@ pub record RunningNumber : Type 0 where
       → v.count.matches ≡ w.count.matches + newly s.found.outs w.marks
   pub more_ones : (plan score spans : List ℕ) (i : ℕ) (w v : Walk) → StepFound plan score spans i w v
       → v.count.matches + total (take (length score) w.marks) ≡ w.count.matches + total (take (length score) v.marks)
-  pub kept : (ar score spans : List ℕ) (w : Walk) (first : Record) → (started ar score spans w).answer ≡ On first → (v : Walk)
+  pub kept : (ar score spans : List ℕ) (w : Walk) (first : Record) → (started ar score spans w).answer ≡ Ok first → (v : Walk)
       → HandedOn score spans (started ar score spans w).walk v → v.count.matches ≡ total (take (length score) v.marks)
-  pub in_range : (ar score spans : List ℕ) (w : Walk) (first : Record) → (started ar score spans w).answer ≡ On first → (v : Walk)
+  pub in_range : (ar score spans : List ℕ) (w : Walk) (first : Record) → (started ar score spans w).answer ≡ Ok first → (v : Walk)
       → HandedOn score spans (started ar score spans w).walk v → (v.count.matches ≤ 16 * length score) × (v.count.matches ≤ 2 ^ 63)

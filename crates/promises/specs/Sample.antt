@@ -4,7 +4,7 @@
 --   table     what the definitions give: from the file its opening, from that the building, from that the plan, from that the walks and the report
 --   claimed   what documents 01 and 02 say
 --   sample    they are equal
-use Rattle.std.specs.Prelude.{◌≡◌, refl, not, List, [], ◌∷◌, ◌++◌, map, ℕ, ◌+◌, ◌*◌, ◌-◌, eqb, length, take, drop, replicate}
+use Rattle.std.specs.Prelude.{◌≡◌, refl, not, List, [], ◌∷◌, ◌++◌, map, ℕ, ◌+◌, ◌*◌, ◌-◌, eqb, length, take, drop, replicate, None, Some}
 use Rattle.kinds.specs.Lists.{any, filter, gather, is_nil}
 use Rattle.kinds.specs.Positions.{code}
 use Rattle.kinds.specs.Reasons.{Says}
@@ -25,7 +25,6 @@ use Rattle.clashing.specs.Clashing.{clashes_of}
 use Rattle.comparing.specs.Comparing.{CompareOutcome, compared}
 use Rattle.replacing.specs.Putting.{PutOutcome, put_of}
 use Rattle.report.specs.Quoted.{bytes}
-use Rattle.report.specs.declared.States.TheVariants.{Of, NoPlan}
 use Rattle.report.specs.Lines.{line_out, written_says}
 use Rattle.report.specs.Text.{report}
 use Rattle.promises.specs.Computing.{computing}
@@ -158,8 +157,8 @@ table =
     ∷ row (child_says (child_of (position 2) 1)) ∷ row (reached_says (reached (target 10 spans 0 11))) ∷ row
     (written_says (line_out spans 6 0 (nines 1399)).answer)
     ∷ row (written_says (line_out spans 10 0 (nines 1400)).answer)
-    ∷ report (totals_of shape_words starts spans 4 (Of 3) 4 marks) spans marks
-    ∷ row (counted_says simple.answer) ∷ simple.marks ∷ report (totals_of shape_words starts spans 4 NoPlan 4 marks) spans marks
+    ∷ report (totals_of shape_words starts spans 4 (Some 3) 4 marks) spans marks
+    ∷ row (counted_says simple.answer) ∷ simple.marks ∷ report (totals_of shape_words starts spans 4 None 4 marks) spans marks
     ∷ row (counted_says swapped.answer) ∷ swapped.score ∷ map (λ o. (counted_says o.answer).number) refusals ∷ []
 
 abbrev pub claimed : List (List ℕ)

@@ -1,21 +1,17 @@
 use crate::saying::say;
 use bufferstone::{Node, Shape, Symbol};
-use running::files::{PATH_BYTES, argument, has_argument};
-use running::texts::{first, same, value_of};
+use running::files::{Name, has_argument};
+use running::texts::{same, value_of};
 
 // What no symbol has for its number.
 const NO_SYMBOL: u16 = 65535;
 
+// Where the replacement is put in, and the finished symbol.
 #[derive(Clone, Copy)]
-pub enum Asked {
-    At(Shape, Node, Symbol),
-    Wrong,
-}
-
-#[derive(Clone, Copy)]
-enum Number {
-    Of(u16),
-    None,
+pub struct Asked {
+    pub shape: Shape,
+    pub node: Node,
+    pub finished: Symbol,
 }
 
 // Whether there are as many arguments as there have to be.
@@ -24,58 +20,40 @@ pub fn is_complete(rt: &HostRuntime) -> bool {
 }
 
 // The argument of that number, or none of its bytes where it is longer than any path.
-pub fn read_argument(rt: &HostRuntime, i: usize, text: &mut [u8]) -> usize {
-    argument(rt, i, text).unwrap_or(0)
+pub fn argument(rt: &HostRuntime, i: usize) -> Name {
+    Name::argument(rt, i).unwrap_or_default()
 }
 
-// The numbers among the arguments.
-pub fn read_numbers(rt: &HostRuntime) -> Asked {
-    let Number::Of(shape) = number_at(rt, 2, b"SHAPE") else {
-        return Asked::Wrong;
-    };
-    let Number::Of(node) = number_at(rt, 3, b"NODE") else {
-        return Asked::Wrong;
-    };
-    let Number::Of(finished) = finished_symbol(rt) else {
-        return Asked::Wrong;
-    };
-    Asked::At(Shape(shape), Node(node), Symbol(finished))
+// The numbers among the arguments. It says which is none.
+pub fn read_numbers(rt: &HostRuntime) -> Option<Asked> {
+    let shape = named_number(rt, argument(rt, 2).as_bytes(), b"SHAPE")?;
+    let node = named_number(rt, argument(rt, 3).as_bytes(), b"NODE")?;
+    let finished = finished_symbol(rt, argument(rt, 4).as_bytes())?;
+    Some(Asked {
+        shape: Shape(shape),
+        node: Node(node),
+        finished: Symbol(finished),
+    })
 }
 
-fn number_at(rt: &HostRuntime, i: usize, name: &[u8]) -> Number {
-    let mut text = [0u8; PATH_BYTES];
-    let n = read_argument(rt, i, &mut text);
-    named_number(rt, first(&text, n), name)
-}
-
-fn finished_symbol(rt: &HostRuntime) -> Number {
-    let mut text = [0u8; PATH_BYTES];
-    let n = read_argument(rt, 4, &mut text);
-    if same(first(&text, n), b"-") {
-        return Number::Of(NO_SYMBOL);
+fn finished_symbol(rt: &HostRuntime, text: &[u8]) -> Option<u16> {
+    if same(text, b"-") {
+        return Some(NO_SYMBOL);
     }
-    named_number(rt, first(&text, n), b"FINISHED")
+    named_number(rt, text, b"FINISHED")
 }
 
-fn named_number(rt: &HostRuntime, text: &[u8], name: &[u8]) -> Number {
-    if is_digits(text) {
-        let value = value_of(text);
-        if value < 65536 {
-            return Number::Of(value as u16);
-        }
+fn named_number(rt: &HostRuntime, text: &[u8], name: &[u8]) -> Option<u16> {
+    let number = decimal(text);
+    if number.is_none() {
+        say(rt, name, "no number from 0 to 65535");
     }
-    say(rt, name, b"no number from 0 to 65535");
-    Number::None
+    number
 }
 
-fn is_digits(text: &[u8]) -> bool {
-    for i in 0..text.len() {
-        if text[i] < b'0' {
-            return false;
-        }
-        if b'9' < text[i] {
-            return false;
-        }
+fn decimal(text: &[u8]) -> Option<u16> {
+    if text.is_empty() || !text.iter().all(|byte| byte.is_ascii_digit()) {
+        return None;
     }
-    0 < text.len()
+    u16::try_from(value_of(text)).ok()
 }

@@ -1,61 +1,54 @@
-use crate::asking::read_argument;
-use crate::saying::{fail, say};
-use running::files::PATH_BYTES;
-use running::reading::read_named;
-use running::texts::first;
+use crate::asking::argument;
+use crate::saying::{read, say};
+use running::parts::first;
 use sections::finding::fill;
+use std::fmt;
 
 // As many words as a replacement may have here. A longer one is no score's either.
 pub const LINK_WORDS: usize = 32768;
 
-// How many words a replacement has.
+// Why a file is no replacement.
 #[derive(Clone, Copy)]
-pub enum Link {
-    Words(usize),
-    Unread,
+enum LinkError {
+    OddBytes,
+    TooLong,
 }
 
-pub fn read_link(rt: &HostRuntime, words: &mut [u16]) -> Link {
-    let mut name = [0u8; PATH_BYTES];
-    let n = read_argument(rt, 5, &mut name);
-    read_words(rt, first(&name, n), words)
-}
-
-fn read_words(rt: &HostRuntime, path: &[u8], words: &mut [u16]) -> Link {
-    let mut bytes = [0u8; 2 * LINK_WORDS];
-    match read_named(rt, path, &mut bytes) {
-        Ok(n) => take_words(rt, path, first(&bytes, n), n, words),
-        Err(error) => {
-            fail(rt, path, error);
-            Link::Unread
+impl fmt::Display for LinkError {
+    fn fmt<W: fmt::Write>(&self, f: &mut fmt::Formatter<W>) -> fmt::Result {
+        match self {
+            LinkError::OddBytes => write!(f, "an odd number of bytes, and a word has two"),
+            LinkError::TooLong => write!(f, "longer than {LINK_WORDS} words"),
         }
     }
 }
 
-// Of a file longer than the buffer there are fewer bytes than its length.
-fn take_words(
-    rt: &HostRuntime,
-    path: &[u8],
-    bytes: &[u8],
-    length: usize,
-    words: &mut [u16],
-) -> Link {
-    let n = bytes.len() / 2;
-    if bytes.len() < length {
-        return too_long(rt, path);
+// The words of the replacement. It says why there are none.
+pub fn read_link<'a>(rt: &HostRuntime, words: &'a mut [u16]) -> Option<&'a [u16]> {
+    let name = argument(rt, 5);
+    let mut bytes = [0u8; 2 * LINK_WORDS];
+    let length = read(rt, name.as_bytes(), &mut bytes)?;
+    match take_words(first(&bytes, length), length, words) {
+        Ok(n) => Some(first(words, n)),
+        Err(error) => {
+            say(rt, name.as_bytes(), error);
+            None
+        }
     }
-    if bytes.len() % 2 == 1 {
-        say(rt, path, b"an odd number of bytes, and a word has two");
-        return Link::Unread;
-    }
-    if words.len() < n {
-        return too_long(rt, path);
-    }
-    fill(bytes, words);
-    Link::Words(n)
 }
 
-fn too_long(rt: &HostRuntime, path: &[u8]) -> Link {
-    say(rt, path, b"longer than 32768 words");
-    Link::Unread
+// How many words there are. Of a file longer than the buffer there are fewer bytes than its length.
+fn take_words(bytes: &[u8], length: usize, words: &mut [u16]) -> Result<usize, LinkError> {
+    let n = bytes.len() / 2;
+    if bytes.len() < length {
+        return Err(LinkError::TooLong);
+    }
+    if bytes.len() % 2 == 1 {
+        return Err(LinkError::OddBytes);
+    }
+    if words.len() < n {
+        return Err(LinkError::TooLong);
+    }
+    fill(bytes, words);
+    Ok(n)
 }

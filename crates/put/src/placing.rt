@@ -1,21 +1,18 @@
-use crate::asking::read_argument;
+use crate::asking::argument;
 use crate::saying::fail;
-use running::files::PATH_BYTES;
-use running::texts::{first, put_byte, put_text};
+use running::files::{Name, text_of};
 use std::fs::File;
-use std::io::{Error, ErrorKind, Write};
+use std::io::Write;
 use std::random::RandomSource;
-use std::{fs, io, str};
+use std::{fs, io};
 
 // Makes the file that the last argument names, of all the bytes, and answers whether it stands.
 pub fn place(rt: &HostRuntime, bytes: &[u8]) -> bool {
-    let mut name = [0u8; PATH_BYTES];
-    let n = read_argument(rt, 6, &mut name);
-    let path = first(&name, n);
-    match place_at(rt, bytes, path) {
+    let name = argument(rt, 6);
+    match place_at(rt, bytes, name.as_bytes()) {
         Ok(()) => true,
         Err(error) => {
-            fail(rt, path, error);
+            fail(rt, name.as_bytes(), error);
             false
         }
     }
@@ -23,48 +20,28 @@ pub fn place(rt: &HostRuntime, bytes: &[u8]) -> bool {
 
 // They go to a file of another name first, beside it, so that no half of a folio ever has the name.
 fn place_at(rt: &HostRuntime, bytes: &[u8], path: &[u8]) -> io::Result<()> {
-    let mut name = [0u8; PATH_BYTES];
-    let n = name_beside(rt, path, &mut name);
-    let beside = text_of(first(&name, n))?;
+    let name = name_beside(rt, path);
+    let beside = text_of(name.as_bytes())?;
     let path = text_of(path)?;
     let file = create(rt, beside)?;
-    let placed = match write_whole(file, bytes) {
-        Ok(()) => move_to(rt, beside, path),
-        Err(error) => Err(error),
-    };
+    let placed = write_whole(file, bytes).and_then(|()| move_to(rt, beside, path));
     if placed.is_err() {
         let _ = fs::remove_file(rt, beside);
     }
     placed
 }
 
-// A path is text.
-fn text_of(path: &[u8]) -> io::Result<&str> {
-    match str::from_utf8(path) {
-        Ok(text) => Ok(text),
-        Err(_) => Err(Error::from(ErrorKind::InvalidFilename)),
-    }
-}
-
 // The name with a dot and six letters behind it, that no other run is likely to take. A name that is cut short is one byte longer than a path may be.
-fn name_beside(rt: &HostRuntime, path: &[u8], name: &mut [u8]) -> usize {
+fn name_beside(rt: &HostRuntime, path: &[u8]) -> Name {
     let mut random = [0u8; 6];
     let _ = rt.fill_bytes(&mut random);
-    let named = put_text(path, name, 0);
-    let dotted = put_byte(b'.', name, named);
-    put_letters(&random, name, dotted)
-}
-
-fn put_letters(random: &[u8], name: &mut [u8], at: usize) -> usize {
-    let mut now = at;
-    for i in 0..random.len() {
-        now = put_byte(letter(random[i]), name, now);
+    let mut name = Name::new();
+    name.push_all(path);
+    name.push(b'.');
+    for byte in &random {
+        name.push(b'a' + byte % 26);
     }
-    now
-}
-
-fn letter(byte: u8) -> u8 {
-    b'a' + byte % 26
+    name
 }
 
 // A file that was not there before.

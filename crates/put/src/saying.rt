@@ -1,15 +1,17 @@
 use bufferstone::limits::LINE_BYTES;
-use bufferstone::{Reason, Written, put_refusal};
+use bufferstone::{Reason, put_refusal};
 use running::failing;
-use running::texts::first;
+use running::parts::first;
+use running::reading::read_named;
+use std::fmt::Display;
 use std::io;
 use std::io::Error;
 
 pub fn show_refusal(rt: &HostRuntime, reason: Reason, place: usize) {
     let mut line = [0u8; LINE_BYTES];
     match put_refusal(reason, place, &mut line) {
-        Written::Refused(why) => {}
-        Written::Bytes(n) => show(rt, rt.write_all(first(&line, n))),
+        Err(why) => {}
+        Ok(n) => show(rt, rt.write_all(first(&line, n))),
     }
 }
 
@@ -25,18 +27,25 @@ fn show(rt: &HostRuntime, written: io::Result<()>) {
 }
 
 // On standard error: what is wrong with the thing named.
-pub fn say(rt: &HostRuntime, name: &[u8], text: &[u8]) {
+pub fn say<D: Display + Drop>(rt: &HostRuntime, name: &[u8], what: D) {
     let to = rt.stderr();
-    let _ = to.write_all(b"put: ");
+    let _ = print!(to; "put: ");
     let _ = to.write_all(name);
-    let _ = to.write_all(b": ");
-    let _ = to.write_all(text);
-    let _ = to.write_all(b"\n");
+    let _ = println!(to; ": {what}");
 }
 
 // The same where a call failed: why it did.
 pub fn fail(rt: &HostRuntime, name: &[u8], error: Error) {
-    let to = rt.stderr();
-    let _ = to.write_all(b"put: ");
-    failing::fail(&to, name, error);
+    failing::fail(&rt.stderr(), "put", name, error);
+}
+
+// The length of the file of that name, whose first bytes are put into `bytes`. It says why there is none.
+pub fn read(rt: &HostRuntime, path: &[u8], bytes: &mut [u8]) -> Option<usize> {
+    match read_named(rt, path, bytes) {
+        Ok(length) => Some(length),
+        Err(error) => {
+            fail(rt, path, error);
+            None
+        }
+    }
 }

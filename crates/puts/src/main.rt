@@ -4,14 +4,14 @@
 // changed; each word lent is 65,535 before. Printed is the line, with what `put` answers behind it: the new score's words, or `refused` and the
 // reason's number; and then each word that was to stay 65,535 and did not.
 use bufferstone::limits::{FILE_BYTES, MOST_SHAPES, SCORE_NODES, SHAPES_WORDS};
-use bufferstone::{Opened, number, open};
+use bufferstone::{number, open};
+use kinds::Refusal;
 use putting::put_lent;
-use running::changing::{Lengths, change_tables};
 use running::files::read_folio;
-use running::reading::{INPUT_BYTES, read_full};
-use running::showing::{show, write};
-use running::texts::{before, behind, ended, first, next_from};
-use running::words::first_words;
+use running::lines::answer_lines;
+use running::parts::first;
+use running::tables::{Buffers, Lengths};
+use running::texts::{before, field};
 use std::io;
 
 mod putting; // the call, and what it leaves
@@ -20,30 +20,10 @@ mod putting; // the call, and what it leaves
 const ROOM: usize = 4;
 
 fn main(rt: HostRuntime) -> io::Result<()> {
-    let mut text = [0u8; INPUT_BYTES];
-    let n = read_full(&mut rt.reader(), &mut text);
-    run_lines(&rt, &text[..n])
+    answer_lines(&rt, |line| run_case(&rt, line))
 }
 
-fn run_lines(rt: &HostRuntime, text: &[u8]) -> io::Result<()> {
-    let mut from: usize = 0;
-    for i in 0..text.len() {
-        run_line(rt, ended(text, from, i, b'\n'))?;
-        from = next_from(text, from, i, b'\n');
-    }
-    Ok(())
-}
-
-fn run_line(rt: &HostRuntime, line: &[u8]) -> io::Result<()> {
-    if line.len() == 0 {
-        return Ok(());
-    }
-    write(rt, line)?;
-    run_case(rt, line)?;
-    write(rt, b"\n")
-}
-
-// A folio's symbols are its first bytes.
+// A folio's symbols are its first bytes. The same stands in `altered`: `running`, which both have, is below opening.
 fn run_case(rt: &HostRuntime, line: &[u8]) -> io::Result<()> {
     let mut file = [0u8; FILE_BYTES + ROOM];
     let mut words = [0u16; SHAPES_WORDS + ROOM];
@@ -58,34 +38,18 @@ fn run_case(rt: &HostRuntime, line: &[u8]) -> io::Result<()> {
         &mut score,
         &mut spans,
     ) {
-        Opened::Refused(reason, place) => show(rt, b"not opened ", number(reason) as usize),
-        Opened::Folio(c) => {
-            let opened = Lengths::opened(c.symbols, c.words, c.shapes, c.nodes);
-            let n = change_tables(
-                changes_of(line),
-                &mut file,
-                &mut words,
-                &mut starts,
-                &mut score,
-                &mut spans,
-                opened,
-            );
-            put_lent(
-                rt,
-                behind(line, b'|'),
-                first(&file, n.symbols),
-                first_words(&words, n.words),
-                first_words(&starts, n.starts),
-                first_words(&score, n.score),
-                first_words(&spans, n.spans),
-            )
+        Err(Refusal(reason, place)) => print!(rt; "not opened {}", number(reason)),
+        Ok(c) => {
+            let mut buffers = Buffers {
+                symbols: &mut file,
+                words: &mut words,
+                starts: &mut starts,
+                score: &mut score,
+                spans: &mut spans,
+                lengths: Lengths::opened(c.symbols, c.words, c.shapes, c.nodes),
+            };
+            buffers.change(field(line, 6));
+            put_lent(rt, line, buffers.tables())
         }
     }
-}
-
-// The last field.
-fn changes_of(line: &[u8]) -> &[u8] {
-    let from_node = behind(behind(line, b'|'), b'|');
-    let from_link = behind(behind(from_node, b'|'), b'|');
-    before(behind(behind(from_link, b'|'), b'|'), b'|')
 }

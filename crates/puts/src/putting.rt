@@ -1,54 +1,44 @@
 use crate::ROOM;
 use bufferstone::limits::SCORE_NODES;
-use bufferstone::{Counted, Node, Shape, Symbol, number, put};
-use running::showing::{show, show_words};
+use bufferstone::{Node, Reason, Shape, Symbol, number, put};
+use running::parts::{first, first_mut};
+use running::showing::show_words;
 use running::staying::{BEFORE, show_changed};
-use running::texts::{before, behind, put_numbers, value_of, word_of};
-use running::words::{first_room, first_words};
+use running::tables::Tables;
+use running::texts::{field, numbers_in, value_of, word_of};
 use std::io;
 
-// The fields are the line's from the shape on.
-pub fn put_lent(
-    rt: &HostRuntime,
-    fields: &[u8],
-    symbols: &[u8],
-    words: &[u16],
-    starts: &[u16],
-    score: &[u16],
-    spans: &[u16],
-) -> io::Result<()> {
-    let from_node = behind(fields, b'|');
-    let from_finished = behind(from_node, b'|');
-    let from_link = behind(from_finished, b'|');
-    let lent = value_of(before(behind(from_link, b'|'), b'|'));
+// The line's fields are the folio, the shape, the node, the finished symbol, the replacement, the words lent and the changes.
+pub fn put_lent(rt: &HostRuntime, line: &[u8], tables: Tables<'_>) -> io::Result<()> {
+    let shape = Shape(word_of(field(line, 1)));
+    let node = Node(word_of(field(line, 2)));
+    let finished = Symbol(word_of(field(line, 3)));
+    let lent = value_of(field(line, 5));
     let mut link = [0u16; SCORE_NODES];
     let mut new = [BEFORE; SCORE_NODES + ROOM];
-    let linked = put_numbers(before(from_link, b'|'), &mut link);
     let answer = put(
-        symbols,
-        words,
-        starts,
-        score,
-        spans,
-        Shape(word_of(before(fields, b'|'))),
-        Node(word_of(before(from_node, b'|'))),
-        first_words(&link, linked),
-        Symbol(word_of(before(from_finished, b'|'))),
-        first_room(&mut new, lent),
+        tables.symbols,
+        tables.shapes(),
+        tables.score(),
+        shape,
+        node,
+        numbers_in(field(line, 4), &mut link),
+        finished,
+        first_mut(&mut new, lent),
     );
     let written = show_answer(rt, answer, &new)?;
     show_changed(rt, &new, written)
 }
 
 // How many words the call was to write.
-fn show_answer(rt: &HostRuntime, answer: Counted, new: &[u16]) -> io::Result<usize> {
+fn show_answer(rt: &HostRuntime, answer: Result<usize, Reason>, new: &[u16]) -> io::Result<usize> {
     match answer {
-        Counted::Refused(reason) => {
-            show(rt, b"refused ", number(reason) as usize)?;
+        Err(reason) => {
+            print!(rt; "refused {}", number(reason))?;
             Ok(0)
         }
-        Counted::Number(n) => {
-            show_words(rt, first_words(new, n))?;
+        Ok(n) => {
+            show_words(rt, first(new, n))?;
             Ok(n)
         }
     }

@@ -1,6 +1,6 @@
 -- Pairs of a number and a code, and what they lead to.
---   fine_over fine_none fine_some                one pair
---   all_bad all_next all_end all_head all_tail first_number first_room   the pairs from a word on
+--   couple next_pair last_pair all_pairs         the pairs from a word on, as the code goes over them
+--   all_head all_tail first_number first_room    a test of the first pair and of those behind it
 --   all_wider                                    with a higher limit
 --   fine_split fine_fail fine_small              all of them, and the targets
 --   landed_length
@@ -9,53 +9,77 @@
 --   next_up end_up                               items close up
 use mathlib.Core.Path.{◌≡◌, refl, ap, ap₂, sym, ◌∙◌}
 use mathlib.Core.Bool.{Bool, true, false, ◌&&◌}
-use mathlib.Core.List.{List, [], ◌∷◌}
+use mathlib.Core.List.{List, [], ◌∷◌, map}
 use mathlib.Core.Option.{Option, none, some}
 use mathlib.Core.Logic.{◌⊎◌, inl, inr, ⊎_elim}
-use Prim.Native.Nat.{ℕ, suc, ◌+◌, ◌-◌, ◌<◌, ◌≤◌}
+use Prim.Native.Nat.{ℕ, zero, suc, ◌+◌, ◌-◌, ◌*◌, ◌/◌, ◌<◌, ◌≤◌}
 use native.Mathlib.Omega.{arith}
 use native.Mathlib.Numerals.{add-one}
-use borrow.Author.Tests.{lt-ltb, le-ltb}
+use borrow.Author.Tests.{lt-ltb}
 use lib.Dec.{ltb}
-use lib.ListN.{length, get_or, take, drop, set}
-use lib.Seq.{sets, drop-cons, drop-set-lt}
+use lib.ListN.{length, get_or, take, drop, set, length-drop, get_or-map, drop_of_length-le}
+use lib.Seq.{sets, drop-cons, drop-set-lt, get_or-take, get_or-drop, length-take-le}
+use Rattle.std.proofs.lemmas.List.{length-map, drop_more}
+use Rattle.std.specs.List.{list_all}
+use Rattle.std.specs.Simd.{first_chunks}
 use Rattle.kinds.specs.Lists.{or_else, all}
 use Rattle.kinds.specs.Bits.{clear_bit, with_bit}
 use Rattle.kinds.proofs.Bools.{and_l, and_r, both, and_false, false_true, ltb_is}
 use Rattle.readers.specs.PlanParts.{pair_words}
 use Rattle.queue.specs.Targets.{targets, put, marked, newly, below_room, fine, landed, closed_up}
 use Rattle.readers.specs.BlockWords.{pair_list}
-use Rattle.readers.proofs.LawsPairs.{pair_list_cons, pair_list_end}
 
--- ---- one pair
-module _ (limit room : ℕ) (to : ℕ → Option ℕ) where
-  pub fine_over : (number code : ℕ) → limit ≤ number → fine limit room to (number, code) ≡ false
-  unfolding fine
-  fine_over number code h = rw (le-ltb _ _ h)
+-- ---- the pairs of a plan, as the code goes over them
+-- a pair of words
+abbrev pub couple : List ℕ → ℕ × ℕ
+couple c = (get_or c 0 0, get_or c 1 0)
 
-  pub fine_none : (number code : ℕ) → number < limit → to code ≡ none → fine limit room to (number, code) ≡ false
-  unfolding fine
-  fine_none number code h e = rw (lt-ltb _ _ h, e)
+couples : (n : ℕ) (zs ws : List ℕ) (b : ℕ) → ((k : ℕ) → k < 2 * n → get_or zs k 0 ≡ get_or ws (b + k) 0) → map couple (first_chunks 2 n zs) ≡ pair_list ws b n
+unfolding pair_list
+couples zero zs ws b same = refl
+couples (suc n) zs ws b same =
+    let e : b + 0 ≡ b = omega arith in
+    let x : get_or (take 2 zs) 0 0 ≡ get_or ws b 0 = get_or-take 2 zs 0 0 (omega arith) ∙ same 0 (omega arith) ∙ ap (λ k. get_or ws k 0) e in
+    let y : get_or (take 2 zs) 1 0 ≡ get_or ws (b + 1) 0 = get_or-take 2 zs 1 0 (omega arith) ∙ same 1 (omega arith) in
+    ap₂ (λ p ps. p ∷ ps) (ap₂ (λ a c. (a, c)) x y) (couples n (drop 2 zs) ws (b + 2) (λ k h.
+    let f : b + (2 + k) ≡ b + 2 + k = omega arith in
+    get_or-drop 2 zs k 0 ∙ same (2 + k) (omega arith) ∙ ap (λ j. get_or ws j 0) f))
 
-  pub fine_some : (number code x : ℕ) → number < limit → to code ≡ some x → fine limit room to (number, code) ≡ ltb x room
-  unfolding fine
-  fine_some number code x h e = rw (lt-ltb _ _ h, e)
+all_couples : (f : ℕ × ℕ → Bool) (ps : List (List ℕ)) → list_all (λ c. f (couple c)) ps ≡ all f (map couple ps)
+all_couples f [] = refl
+all_couples f (c ∷ ps) = ap (λ b. f (couple c) && b) (all_couples f ps)
 
-module _ (f : ℕ × ℕ → Bool) (ws : List ℕ) (b n : ℕ) where
-  pub all_bad : 0 < n → f (get_or ws b 0, get_or ws (b + 1) 0) ≡ false → all f (pair_list ws b n) ≡ false
-  all_bad h e = rw (pair_list_cons ws b n h, e)
+-- so many pairs from b on, cut out and taken two words at a time
+module _ (ws : List ℕ) (b n : ℕ) {ps : List (List ℕ)}
+    (cut : ps ≡ first_chunks 2 (length (take (b + 2 * n - b) (drop b ws)) / 2) (take (b + 2 * n - b) (drop b ws))) (within : b + 2 * n ≤ length ws) where
+  are : map couple ps ≡ pair_list ws b n
+  are =
+      let zs = take (b + 2 * n - b) (drop b ws) in
+      let l : length zs ≡ 2 * n = length-take-le _ _ (omega (arith, length-drop b ws)) ∙ (omega arith) in
+      let m : length zs / 2 ≡ n = omega (arith, l) in
+      ap (map couple) cut ∙ ap (λ k. map couple (first_chunks 2 k zs)) m ∙ couples n zs ws b (λ k h. get_or-take _ (drop b ws) k 0 (omega arith) ∙ get_or-drop b ws k 0)
 
-  pub all_next : 0 < n → f (get_or ws b 0, get_or ws (b + 1) 0) ≡ true → all f (pair_list ws b n) ≡ all f (pair_list ws (b + 2) (n - 1))
-  all_next h e = rw (pair_list_cons ws b n h, e)
+  pub next_pair : {i : ℕ} → i < length ps → drop i (pair_list ws b n) ≡ couple (get_or ps i []) ∷ drop (i + 1) (pair_list ws b n)
+  next_pair {i} h =
+      let m : length ps ≡ length (pair_list ws b n) = sym (length-map ps couple) ∙ ap length are in
+      let x : get_or (pair_list ws b n) i (0, 0) ≡ couple (get_or ps i []) = ap (λ xs. get_or xs i (0, 0)) (sym are) ∙ get_or-map couple ps i [] in
+      drop_more (pair_list ws b n) i (0, 0) (omega arith) ∙ ap (λ p. p ∷ drop (i + 1) (pair_list ws b n)) x
 
-  pub all_end : n ≤ 0 → all f (pair_list ws b n) ≡ true
-  all_end h = rw (pair_list_end ws b n h)
+  pub all_pairs : (f : ℕ × ℕ → Bool) → list_all (λ c. f (couple c)) ps ≡ all f (pair_list ws b n)
+  all_pairs f = all_couples f ps ∙ ap (all f) are
 
-  pub all_head : 0 < n → all f (pair_list ws b n) ≡ true → f (get_or ws b 0, get_or ws (b + 1) 0) ≡ true
-  all_head h e = and_l _ (rw (pair_list_cons ws b n h) at e)
+  pub last_pair : {i : ℕ} → length ps ≤ i → drop i (pair_list ws b n) ≡ []
+  last_pair h =
+      let m : length ps ≡ length (pair_list ws b n) = sym (length-map ps couple) ∙ ap length are in
+      drop_of_length-le (pair_list ws b n) (omega arith)
 
-  pub all_tail : 0 < n → all f (pair_list ws b n) ≡ true → all f (pair_list ws (b + 2) (n - 1)) ≡ true
-  all_tail h e = and_r (f (get_or ws b 0, get_or ws (b + 1) 0)) (rw (pair_list_cons ws b n h) at e)
+-- what holds of all pairs, one at a time
+module _ (f : ℕ × ℕ → Bool) {x : ℕ × ℕ} {xs ys : List (ℕ × ℕ)} (next : xs ≡ x ∷ ys) where
+  pub all_head : all f xs ≡ true → f x ≡ true
+  all_head e = and_l _ (rw next at e)
+
+  pub all_tail : all f xs ≡ true → all f ys ≡ true
+  all_tail e = and_r (f x) (rw next at e)
 
 -- a pair that is fine
 module _ (limit room : ℕ) (to : ℕ → Option ℕ) (x : ℕ × ℕ) where
@@ -71,12 +95,12 @@ module _ (limit room : ℕ) (to : ℕ → Option ℕ) (x : ℕ × ℕ) where
       go (some y) h = ltb_is _ _ h
       go none h = false_true h
 
-module _ (limit room : ℕ) (to : ℕ → Option ℕ) (ws : List ℕ) (b n : ℕ) where
-  pub first_number : 0 < n → all (fine limit room to) (pair_list ws b n) ≡ true → get_or ws b 0 < limit
-  first_number h e = fine_number limit room to _ (all_head (fine limit room to) ws b n h e)
+module _ (limit room : ℕ) (to : ℕ → Option ℕ) {x : ℕ × ℕ} {xs ys : List (ℕ × ℕ)} (next : xs ≡ x ∷ ys) where
+  pub first_number : all (fine limit room to) xs ≡ true → x.0 < limit
+  first_number e = fine_number limit room to x (all_head (fine limit room to) next e)
 
-  pub first_room : 0 < n → all (fine limit room to) (pair_list ws b n) ≡ true → or_else (to (get_or ws (b + 1) 0)) 0 < room
-  first_room h e = fine_room limit room to _ (all_head (fine limit room to) ws b n h e)
+  pub first_room : all (fine limit room to) xs ≡ true → or_else (to x.1) 0 < room
+  first_room e = fine_room limit room to x (all_head (fine limit room to) next e)
 
 pub all_wider : (l l' room : ℕ) (to : ℕ → Option ℕ) (ps : List (ℕ × ℕ)) → l ≤ l' → all (fine l room to) ps ≡ true → all (fine l' room to) ps ≡ true
 unfolding fine
@@ -157,42 +181,42 @@ newly_most [] ms = omega arith
 newly_most (x ∷ xs) ms = let ih = newly_most xs (put x ms) in omega arith
 
 -- ---- marks and items, one at a time
-module _ (to : ℕ → Option ℕ) (ws : List ℕ) (b n : ℕ) where
-  pub marks_next : (ms : List ℕ) (x v : ℕ) → 0 < n → x ≡ or_else (to (get_or ws (b + 1) 0)) 0 → v ≡ with_bit (get_or ms x 0) (get_or ws b 0)
-      → marked (landed to (pair_list ws b n)) ms ≡ marked (landed to (pair_list ws (b + 2) (n - 1))) (set ms x v)
+module _ (to : ℕ → Option ℕ) {p : ℕ × ℕ} {xs ys : List (ℕ × ℕ)} (next : xs ≡ p ∷ ys) where
+  pub marks_next : (ms : List ℕ) (x v : ℕ) → x ≡ or_else (to p.1) 0 → v ≡ with_bit (get_or ms x 0) p.0
+      → marked (landed to xs) ms ≡ marked (landed to ys) (set ms x v)
   unfolding marked landed
-  marks_next ms x v h ex ev = rw (pair_list_cons ws b n h, ev, ex)
-
-  pub marks_end : (ms : List ℕ) → n ≤ 0 → marked (landed to (pair_list ws b n)) ms ≡ ms
-  unfolding marked landed
-  marks_end ms h = rw (pair_list_end ws b n h)
+  marks_next ms x v ex ev = rw (next, ev, ex)
 
   -- of all bits newly set, some are counted
-  pub newly_next : (ms : List ℕ) (x v all new c : ℕ) → all ≡ new + newly (landed to (pair_list ws b n)) ms → 0 < n → x ≡ or_else (to (get_or ws (b + 1) 0)) 0
-      → c ≡ clear_bit (get_or ms x 0) (get_or ws b 0) → v ≡ with_bit (get_or ms x 0) (get_or ws b 0)
-      → all ≡ new + c + newly (landed to (pair_list ws (b + 2) (n - 1))) (set ms x v)
+  pub newly_next : (ms : List ℕ) (x v all new c : ℕ) → all ≡ new + newly (landed to xs) ms → x ≡ or_else (to p.1) 0
+      → c ≡ clear_bit (get_or ms x 0) p.0 → v ≡ with_bit (get_or ms x 0) p.0
+      → all ≡ new + c + newly (landed to ys) (set ms x v)
   unfolding newly landed
-  newly_next ms x v all new c e h ex ec ev =
-      let d : newly (landed to (pair_list ws b n)) ms ≡ c + newly (landed to (pair_list ws (b + 2) (n - 1))) (set ms x v) =
-      rw (pair_list_cons ws b n h, ec, ev, ex) in
+  newly_next ms x v all new c e ex ec ev =
+      let d : newly (landed to xs) ms ≡ c + newly (landed to ys) (set ms x v) = rw (next, ec, ev, ex) in
       omega (arith, e, d)
 
-  pub newly_end : (ms : List ℕ) (all new : ℕ) → all ≡ new + newly (landed to (pair_list ws b n)) ms → n ≤ 0 → new ≡ all
-  unfolding newly landed
-  newly_end ms all new e h = let d : newly (landed to (pair_list ws b n)) ms ≡ 0 = rw (pair_list_end ws b n h) in omega (arith, e, d)
-
-  pub items_next : (xs : List ℕ) (e x : ℕ) → 0 < n → x ≡ or_else (to (get_or ws (b + 1) 0)) 0
-      → sets xs e (pair_words (landed to (pair_list ws b n))) ≡ sets (set (set xs e (get_or ws b 0)) (e + 1) x) (e + 2)
-      (pair_words (landed to (pair_list ws (b + 2) (n - 1))))
+  pub items_next : (its : List ℕ) (e x there : ℕ) → x ≡ or_else (to p.1) 0 → there ≡ e + 2
+      → sets its e (pair_words (landed to xs)) ≡ sets (set (set its e p.0) (e + 1) x) there (pair_words (landed to ys))
   unfolding landed
-  items_next xs e x h ex =
+  items_next its e x there ex on =
       let e₁ : e + 1 ≡ suc e = omega arith in
-      let e₂ : e + 2 ≡ suc (suc e) = omega arith in
-      rw (pair_list_cons ws b n h, e₁, e₂, ex)
+      let e₂ : there ≡ suc (suc e) = omega arith in
+      rw (next, e₁, e₂, ex)
 
-  pub items_end : (xs : List ℕ) (e : ℕ) → n ≤ 0 → sets xs e (pair_words (landed to (pair_list ws b n))) ≡ xs
+-- none is left
+module _ (to : ℕ → Option ℕ) {xs : List (ℕ × ℕ)} (none_left : xs ≡ []) where
+  pub marks_end : (ms : List ℕ) → marked (landed to xs) ms ≡ ms
+  unfolding marked landed
+  marks_end ms = rw none_left
+
+  pub newly_end : (ms : List ℕ) (all new : ℕ) → all ≡ new + newly (landed to xs) ms → new ≡ all
+  unfolding newly landed
+  newly_end ms all new e = let d : newly (landed to xs) ms ≡ 0 = rw none_left in omega (arith, e, d)
+
+  pub items_end : (its : List ℕ) (e : ℕ) → sets its e (pair_words (landed to xs)) ≡ its
   unfolding landed
-  items_end xs e h = rw (pair_list_end ws b n h)
+  items_end its e = rw none_left
 
 module _ (xs : List ℕ) (k end : ℕ) where
   pub next_up : k + 2 < end → end ≤ length xs → closed_up xs k end ≡ closed_up (set xs k (get_or xs (k + 2) 0)) (k + 1) end

@@ -7,32 +7,27 @@ ghost use Rattle.queue.specs.Targets.{marked, newly, landed, closed_up, Leading,
 ghost use Rattle.readers.specs.BlockWords.{pair_list};
 
 use crate::aiming::aim;
-use kinds::{Node, Position};
+use kinds::{Node, Position, Score};
 
 // Sets the bit of each announcement, and counts those that were clear.
 pub fn mark_pairs(
     plan: &[u16],
-    nodes: usize,
-    spans: &[u16],
+    score: Score<'_>,
     marks: &mut [u16],
     from: Node,
     at: usize,
     count: usize,
 ) -> usize
-    requires { Leading plan.now at count (target nodes spans.now from.0) marks.old }
-    ensures { (result ≡ newly (landed (target nodes spans.now from.0) (pair_list plan.now at count)) marks.old) × (marks.new ≡ marked (landed (target nodes spans.now from.0) (pair_list plan.now at count)) marks.old) }
+    requires { Leading plan.now at count (target (length score.words.now) score.spans.now from.0) marks.old }
+    ensures { (result ≡ newly (landed (target (length score.entry.words.now) score.entry.spans.now from.0) (pair_list plan.now at count)) marks.old) × (marks.new ≡ marked (landed (target (length score.entry.words.now) score.entry.spans.now from.0) (pair_list plan.now at count)) marks.old) }
 {
-    let mut here = at;
-    let mut left = count;
+    let (pairs, _) = plan[at..at + 2 * count].as_chunks::<2>();
     let mut new: usize = 0;
-    while 0 < left {
-        let x = aim(nodes, spans, from, Position(plan[here + 1])) as usize;
-        let mark = marks[x];
-        let shape = plan[here];
-        new += clear_bit(mark, shape);
-        marks[x] = with_bit(mark, shape);
-        here += 2;
-        left -= 1;
+    for &[shape, code] in pairs {
+        let x = aim(score, from, Position(code)) as usize;
+        let mark = &mut marks[x];
+        new += clear_bit(*mark, shape);
+        *mark = with_bit(*mark, shape);
     }
     new
 }
@@ -58,18 +53,15 @@ pub fn close_up(items: &mut [u16], at: usize, end: usize)
     requires { (at + 2 ≤ end) × (end ≤ length items.old) }
     ensures { items.new ≡ closed_up items.old at end }
 {
-    let mut k = at;
-    while k + 2 < end {
+    for k in at..end - 2 {
         items[k] = items[k + 2];
-        k += 1;
     }
 }
 
 // Appends each successor as an item, from word `end` on.
 pub fn append_pairs(
     plan: &[u16],
-    nodes: usize,
-    spans: &[u16],
+    score: Score<'_>,
     items: &mut [u16],
     from: Node,
     at: usize,
@@ -77,16 +69,12 @@ pub fn append_pairs(
     end: usize,
 )
     requires { Appended plan.now at count items.old end }
-    ensures { items.new ≡ sets items.old end (pair_words (landed (target nodes spans.now from.0) (pair_list plan.now at count))) }
+    ensures { items.new ≡ sets items.old end (pair_words (landed (target (length score.entry.words.now) score.entry.spans.now from.0) (pair_list plan.now at count))) }
 {
-    let mut here = at;
-    let mut there = end;
-    let mut left = count;
-    while 0 < left {
-        items[there] = plan[here];
-        items[there + 1] = aim(nodes, spans, from, Position(plan[here + 1]));
-        here += 2;
-        there += 2;
-        left -= 1;
+    let (pairs, _) = plan[at..at + 2 * count].as_chunks::<2>();
+    for (i, &[state, code]) in pairs.iter().enumerate() {
+        let there = end + 2 * i;
+        items[there] = state;
+        items[there + 1] = aim(score, from, Position(code));
     }
 }

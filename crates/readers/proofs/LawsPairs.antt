@@ -1,5 +1,5 @@
 -- Pairs and blocks, by index into the words.
---   pair_list_cons pair_list_end pair_list_length pair_list_at pair_list_none pair_list_take pair_list_drop  the pairs from a word on
+--   pair_list_length pair_list_at pair_list_none pair_list_take pair_list_drop  the pairs from a word on
 --   pairs_list pairs_none counted_list counted_none   the reader of pairs, and of a count and that many pairs
 --   fits_out fits_middle fits_is fits_in              does a block lie within the words
 --   block_list block_none                             the reader of a block
@@ -19,17 +19,6 @@ use Rattle.kinds.specs.Lists.{bind}
 use Rattle.kinds.proofs.Bools.{leb_is, leb_not}
 use Rattle.readers.specs.PlanParts.{pairs, pair_words, counted_pairs, block_at}
 use Rattle.readers.specs.BlockWords.{pair_list, middle, outs_at, nexts_at, block_fits}
-
-module _ (ws : List ℕ) (b : ℕ) where
-  pub pair_list_cons : (n : ℕ) → 0 < n → pair_list ws b n ≡ (get_or ws b 0, get_or ws (b + 1) 0) ∷ pair_list ws (b + 2) (n - 1)
-  unfolding pair_list
-  pair_list_cons zero h = absurd (omega arith)
-  pair_list_cons (suc n) h = let e : suc n - 1 ≡ n = omega arith in rw e
-
-  pub pair_list_end : (n : ℕ) → n ≤ 0 → pair_list ws b n ≡ []
-  unfolding pair_list
-  pair_list_end zero h = refl
-  pair_list_end (suc n) h = absurd (omega arith)
 
 pub pair_list_length : (n : ℕ) (ws : List ℕ) (b : ℕ) → length (pair_list ws b n) ≡ n
 unfolding pair_list

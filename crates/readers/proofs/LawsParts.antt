@@ -1,23 +1,21 @@
 -- Header, labels, block starts and pairs of a plan, way by way; and the readers over them.
---   counts_of_lem is_zero not_zero counts_last  the counts
---   product                                  a product of two words
+--   counts_of_lem                            the counts
 --   label_state label_out label_at           a label
 --   no_label a_label                         a label that is answered, taken apart
 --   start_state start_symbol start_out start_cut start_at start_fits start_in   a block's start
 --   block_start                          the block is what stands at its start
 --   second pair_none pair_number pair_code pair_some   a pair of a block
---   view_counts view_last                    the view's counts
 --   label_view label_none label_bad label_good, lengths_view lengths_none lengths_some,
 --   pair_view pair_start pair_in_lem
+use Rattle.std.specs.Prelude.{Err, Ok, Some, Option as Optional}
 use mathlib.Core.Path.{◌≡◌, refl, ap, sym, ◌∙◌}
 use mathlib.Core.Bool.{Bool, true, false, cond, ◌&&◌}
 use mathlib.Core.List.{List}
 use mathlib.Core.Option.{Option, none, some}
-use Prim.Native.Nat.{ℕ, zero, suc, ◌+◌, ◌*◌, ◌<◌, ◌≤◌}
+use Prim.Native.Nat.{ℕ, ◌+◌, ◌*◌, ◌<◌, ◌≤◌}
 use native.Mathlib.Omega.{arith}
-use native.Mathlib.Nat.{suc-mul}
-use borrow.Author.Tests.{lt-ltb, le-ltb, le-leb, eq-eqb, ne_eqb}
-use lib.Dec.{eqb, ltb, leb}
+use borrow.Author.Tests.{lt-ltb, le-ltb}
+use lib.Dec.{ltb, leb}
 use lib.ListN.{length, get_or, get_elem?, drop}
 use Rattle.kinds.specs.Lists.{bind, need}
 use Rattle.kinds.specs.Positions.{code_good}
@@ -29,10 +27,6 @@ use Rattle.kinds.proofs.Options.{on_bind, on_need}
 use Rattle.kinds.proofs.Places.{get_elem_some, get_elem_none}
 use Rattle.readers.specs.PlanParts.{counts_good, label_word, to_label, block_at, block_of, pair_at, view_good, label_of, lengths_of, pair_in}
 use Rattle.readers.specs.BlockWords.{pair_list, middle, outs_at, nexts_at, block_fits, block_start, begins}
-use Rattle.readers.specs.declared.Start.{Start}
-use Rattle.readers.specs.declared.Start.TheVariants as start
-use Rattle.readers.specs.declared.Label.TheVariants as label
-use Rattle.readers.specs.declared.Block.TheVariants as block
 use Rattle.readers.proofs.LawsPairs.{fits_in, pair_list_at, pair_list_none, pair_list_length, block_list, block_none}
 
 -- ---- the counts
@@ -46,21 +40,6 @@ counts_of_lem plan e =
       leb_is _ _ (and_r (ltb 0 (get_or plan 1 0)) (and_l _ r₁)),
       leb_is _ _ (and_r (ltb 0 (get_or plan 2 0)) r₂),
     )
-
-pub is_zero : (n : ℕ) → n ≡ 0 → ltb 0 n ≡ false
-is_zero n e = rw e
-
-pub not_zero : (n : ℕ) → (n ≡ 0 → ⊥) → ltb 0 n ≡ true
-not_zero n h = lt-ltb 0 n (omega arith)
-
-pub counts_last : (plan : List ℕ) → 4 ≤ length plan → (get_or plan 0 0 ≡ 0 → ⊥) → get_or plan 0 0 ≤ 128 → (get_or plan 1 0 ≡ 0 → ⊥) → get_or plan 1 0 ≤ 32
-    → (get_or plan 2 0 ≡ 0 → ⊥)
-    → counts_good plan ≡ leb (get_or plan 2 0) 16
-counts_last plan h a b c d e = rw (le-leb _ _ h, not_zero _ a, le-leb _ _ b, not_zero _ c, le-leb _ _ d, not_zero _ e)
-
-pub product : (a b : ℕ) → b ≤ 65535 → a * b ≤ a * 65535
-product zero b h = omega arith
-product (suc a) b h = let ih = product a b h in let e : suc a * b ≡ a * b + b = suc-mul a b in omega arith
 
 -- ---- a label
 module _ (plan : List ℕ) (m s : ℕ) where
@@ -76,11 +55,11 @@ module _ (plan : List ℕ) (m s : ℕ) where
   unfolding label_word
   label_at h l = rw (lt-ltb _ _ h, get_elem_some _ _ l)
 
-pub no_label : (o : Option ℕ) {r : Reason} → to_label o ≡ label.Refused r → o ≡ none
+pub no_label : (o : Option ℕ) {r : Reason} → to_label o ≡ Err r → o ≡ none
 no_label none e = refl
 no_label (some c) e = let z : ◌≡◌ {A = ℕ} 0 1 = cc in absurd (omega arith)
 
-pub a_label : (o : Option ℕ) {c : ℕ} → to_label o ≡ label.At (position c) → o ≡ some c
+pub a_label : (o : Option ℕ) {c : ℕ} → to_label o ≡ Ok (position c) → o ≡ some c
 a_label none e = let z : ◌≡◌ {A = ℕ} 0 1 = cc in absurd (omega arith)
 a_label (some d) {c} e = let z : position d ≡ position c = cc in ap (λ p. some p.0) z
 
@@ -118,7 +97,7 @@ module _ (plan : List ℕ) (m k s f : ℕ) where
       let z : a ≡ b = cc in rw z at t₃
 
   -- a start that is answered: the whole block lies within the words
-  pub start_in : {r : Start} (b : ℕ) → begins r ≡ block_start plan m k s f → r ≡ start.At b
+  pub start_in : {r : (Optional ℕ)} (b : ℕ) → begins r ≡ block_start plan m k s f → r ≡ Some b
       → middle plan b + 1 + 2 * get_or plan (middle plan b) 0 ≤ length plan
   start_in b e d = fits_in plan b (start_fits (sym e ∙ ap begins d))
 
@@ -164,23 +143,11 @@ module _ (plan : List ℕ) (at limit n i : ℕ) where
 
 -- ---- the readers
 module _ (plan : List ℕ) (m k : ℕ) where
-  pub view_counts : counts_good plan ≡ false → view_good plan m k ≡ false
-  view_counts e = rw e
-
-  pub view_states : counts_good plan ≡ true → (m ≡ get_or plan 0 0 → ⊥) → view_good plan m k ≡ false
-  view_states e n = rw (e, ne_eqb _ _ n)
-
-  pub view_last : counts_good plan ≡ true → m ≡ get_or plan 0 0 → view_good plan m k ≡ eqb k (get_or plan 1 0)
-  view_last e d = rw (e, eq-eqb _ _ d)
-
-  pub view_is : view_good plan m k ≡ true → counts_good plan ≡ true
-  view_is e = and_l _ e
-
-  pub label_view : (s : ℕ) → view_good plan m k ≡ false → label_of plan m k s ≡ label.Refused OutOfRange
+  pub label_view : (s : ℕ) → view_good plan m k ≡ false → label_of plan m k s ≡ Err OutOfRange
   unfolding label_of
   label_view s e = rw e
 
-  pub lengths_view : (s f : ℕ) → view_good plan m k ≡ false → lengths_of plan m k s f ≡ block.Refused OutOfRange
+  pub lengths_view : (s f : ℕ) → view_good plan m k ≡ false → lengths_of plan m k s f ≡ Err OutOfRange
   unfolding lengths_of
   lengths_view s f e = rw e
 
@@ -189,21 +156,21 @@ module _ (plan : List ℕ) (m k : ℕ) where
   pair_view nexts s f i e = rw e
 
   module _ (good : view_good plan m k ≡ true) (s : ℕ) where
-    pub label_none : {r : Reason} → to_label (label_word plan m s) ≡ label.Refused r → label_of plan m k s ≡ label.Refused OutOfRange
+    pub label_none : {r : Reason} → to_label (label_word plan m s) ≡ Err r → label_of plan m k s ≡ Err OutOfRange
     unfolding label_of
     label_none e = rw (good, no_label (label_word plan m s) e)
 
-    pub label_bad : (c : ℕ) → to_label (label_word plan m s) ≡ label.At (position c) → code_good c ≡ false
-        → label_of plan m k s ≡ label.Refused OutOfRange
+    pub label_bad : (c : ℕ) → to_label (label_word plan m s) ≡ Ok (position c) → code_good c ≡ false
+        → label_of plan m k s ≡ Err OutOfRange
     unfolding label_of
     label_bad c e n = rw (good, a_label (label_word plan m s) e, n)
 
-    pub label_good : (c : ℕ) → to_label (label_word plan m s) ≡ label.At (position c) → code_good c ≡ true → label_of plan m k s ≡ label.At (position c)
+    pub label_good : (c : ℕ) → to_label (label_word plan m s) ≡ Ok (position c) → code_good c ≡ true → label_of plan m k s ≡ Ok (position c)
     unfolding label_of
     label_good c e g = rw (good, a_label (label_word plan m s) e, g)
 
     module _ (f : ℕ) where
-      pub lengths_none : block_start plan m k s f ≡ none → lengths_of plan m k s f ≡ block.Refused OutOfRange
+      pub lengths_none : block_start plan m k s f ≡ none → lengths_of plan m k s f ≡ Err OutOfRange
       unfolding lengths_of
       lengths_none e = rw (good, block_start_lem plan m k s f, e)
 
@@ -212,7 +179,7 @@ module _ (plan : List ℕ) (m k : ℕ) where
       pair_start nexts i e = rw (good, block_start_lem plan m k s f, e)
 
       module _ (b : ℕ) (e : block_start plan m k s f ≡ some b) where
-        pub lengths_some : lengths_of plan m k s f ≡ block.Of (record { announcements = get_or plan b 0; successors = get_or plan (middle plan b) 0 })
+        pub lengths_some : lengths_of plan m k s f ≡ Ok (record { announcements = get_or plan b 0; successors = get_or plan (middle plan b) 0 })
         unfolding lengths_of
         lengths_some = rw (
           good,

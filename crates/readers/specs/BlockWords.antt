@@ -5,14 +5,11 @@
 --   block_fits   the whole block lies within the words
 --   block_start  where the block of a state and symbol begins, if it is there and whole
 --   begins pair_of   answers of the code's parts
-use Rattle.std.specs.Prelude.{List, [], ◌∷◌, Bool, ℕ, zero, suc, ◌+◌, ◌*◌, ltb, leb, length, get_or}
+use Rattle.kinds.specs.declared.Position.{Position}
+use Rattle.std.specs.Prelude.{List, [], ◌∷◌, Bool, ℕ, zero, suc, ◌+◌, ◌*◌, ltb, leb, length, get_or, None, Some, Option as Optional}
 use Rattle.std.proofs.Math.Option.{Option, none, some}
 use Rattle.std.proofs.Math.ListN.{get_elem?}
 use Rattle.kinds.specs.Lists.{bind, need}
-use Rattle.readers.specs.declared.Start.{Start}
-use Rattle.readers.specs.declared.Start.TheVariants as start
-use Rattle.readers.specs.declared.Pair.{Pair}
-use Rattle.readers.specs.declared.Pair.TheVariants as pair
 
 unfoldable pub pair_list : List ℕ → ℕ → ℕ → List (ℕ × ℕ)
 pair_list ws b zero = []
@@ -36,10 +33,10 @@ block_start plan m k s f =
     (need (ltb f k)
     (bind (get_elem? plan (4 + m + (s * k + f))) (λ b. need (block_fits plan b) (some b))))
 
-abbrev pub begins : Start → Option ℕ
-begins (start.At b) = some b
-begins start.Nowhere = none
+abbrev pub begins : Optional ℕ → Option ℕ
+begins (Some b) = some b
+begins None = none
 
-abbrev pub pair_of : Pair → Option (ℕ × ℕ)
-pair_of (pair.Of n p) = some (n, p.0)
-pair_of pair.Nothing = none
+abbrev pub pair_of : Optional (ℕ × Position) → Option (ℕ × ℕ)
+pair_of (Some (n, p)) = some (n, p.0)
+pair_of None = none

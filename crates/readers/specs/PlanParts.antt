@@ -8,7 +8,12 @@
 --   block_of      the block of a state and symbol, in a plan of m states and k symbols
 --   pair_at       a pair of a list, its number below a limit and its code a good one; pair_in: one of a block
 --   label_of …   the plan readers, over the words and the view's counts of states and symbols
-use Rattle.std.specs.Prelude.{ℕ, zero, suc, ◌+◌, ◌*◌, List, [], ◌∷◌, Bool, true, false, cond, ◌&&◌, eqb, ltb, leb, length, get_or, drop}
+use Rattle.kinds.specs.declared.Position.{Position}
+use Rattle.kinds.specs.declared.Reason.{Reason}
+use Rattle.kinds.specs.declared.Shape.{Shape}
+use Rattle.kinds.specs.declared.State.{State}
+use Rattle.readers.specs.declared.Lengths.{Lengths}
+use Rattle.std.specs.Prelude.{ℕ, zero, suc, ◌+◌, ◌*◌, List, [], ◌∷◌, Bool, true, false, cond, ◌&&◌, eqb, ltb, leb, length, get_or, drop, Err, Ok, Result}
 use Rattle.std.proofs.Math.Option.{Option, none, some}
 use Rattle.std.proofs.Math.ListN.{get_elem?}
 use Rattle.kinds.specs.Limits.{most_states, most_symbols, most_shapes}
@@ -17,14 +22,6 @@ use Rattle.kinds.specs.Positions.{code_good}
 use Rattle.kinds.specs.Kinds.{position}
 use Rattle.kinds.specs.Reasons.{Says, gives, refuses}
 use Rattle.kinds.specs.declared.Reason.TheVariants.{OutOfRange}
-use Rattle.readers.specs.declared.Label.{Label}
-use Rattle.readers.specs.declared.Label.TheVariants as label
-use Rattle.readers.specs.declared.Block.{Block}
-use Rattle.readers.specs.declared.Block.TheVariants as block
-use Rattle.readers.specs.declared.Announcement.{Announcement}
-use Rattle.readers.specs.declared.Announcement.TheVariants as announcement
-use Rattle.readers.specs.declared.Successor.{Successor}
-use Rattle.readers.specs.declared.Successor.TheVariants as successor
 
 abbrev pub within : ℕ → ℕ → Bool
 within most n = ltb 0 n && leb n most
@@ -65,18 +62,18 @@ pair_at limit xs i = bind (get_elem? xs i) (λ x. need (ltb x.0 limit) (need (co
 abbrev pub view_good : List ℕ → ℕ → ℕ → Bool
 view_good plan m k = counts_good plan && (eqb m (get_or plan 0 0) && eqb k (get_or plan 1 0))
 
-abbrev pub to_label : Option ℕ → Label
-to_label none = label.Refused OutOfRange
-to_label (some c) = label.At (position c)
+abbrev pub to_label : Option ℕ → Result Position Reason
+to_label none = Err OutOfRange
+to_label (some c) = Ok (position c)
 
-unfoldable pub label_of : List ℕ → ℕ → ℕ → ℕ → Label
+unfoldable pub label_of : List ℕ → ℕ → ℕ → ℕ → Result Position Reason
 label_of plan m k s = to_label (need (view_good plan m k) (bind (label_word plan m s) (λ c. need (code_good c) (some c))))
 
-abbrev pub to_lengths : Option (List (ℕ × ℕ) × List (ℕ × ℕ)) → Block
-to_lengths none = block.Refused OutOfRange
-to_lengths (some b) = block.Of (record { announcements = length b.0; successors = length b.1 })
+abbrev pub to_lengths : Option (List (ℕ × ℕ) × List (ℕ × ℕ)) → Result Lengths Reason
+to_lengths none = Err OutOfRange
+to_lengths (some b) = Ok (record { announcements = length b.0; successors = length b.1 })
 
-unfoldable pub lengths_of : List ℕ → ℕ → ℕ → ℕ → ℕ → Block
+unfoldable pub lengths_of : List ℕ → ℕ → ℕ → ℕ → ℕ → Result Lengths Reason
 lengths_of plan m k s f = to_lengths (need (view_good plan m k) (block_of plan m k s f))
 
 -- pair i of a block: of its announcements, whose numbers are shapes; or of its successors, whose numbers are states
@@ -84,33 +81,33 @@ unfoldable pub pair_in : Bool → List ℕ → ℕ → ℕ → ℕ → ℕ → �
 pair_in nexts plan m k s f i = need (view_good plan m k)
     (bind (block_of plan m k s f) (λ b. cond nexts (pair_at m b.1 i) (pair_at (get_or plan 2 0) b.0 i)))
 
-abbrev pub to_announcement : Option (ℕ × ℕ) → Announcement
-to_announcement none = announcement.Refused OutOfRange
-to_announcement (some x) = announcement.Of (record { 0 = x.0 }) (position x.1)
+abbrev pub to_announcement : Option (ℕ × ℕ) → Result (Shape × Position) Reason
+to_announcement none = Err OutOfRange
+to_announcement (some x) = Ok (record { 0 = x.0 }, position x.1)
 
-unfoldable pub announcement_of : List ℕ → ℕ → ℕ → ℕ → ℕ → ℕ → Announcement
+unfoldable pub announcement_of : List ℕ → ℕ → ℕ → ℕ → ℕ → ℕ → Result (Shape × Position) Reason
 announcement_of plan m k s f i = to_announcement (pair_in false plan m k s f i)
 
-abbrev pub to_successor : Option (ℕ × ℕ) → Successor
-to_successor none = successor.Refused OutOfRange
-to_successor (some x) = successor.Of (record { 0 = x.0 }) (position x.1)
+abbrev pub to_successor : Option (ℕ × ℕ) → Result (State × Position) Reason
+to_successor none = Err OutOfRange
+to_successor (some x) = Ok (record { 0 = x.0 }, position x.1)
 
-unfoldable pub successor_of : List ℕ → ℕ → ℕ → ℕ → ℕ → ℕ → Successor
+unfoldable pub successor_of : List ℕ → ℕ → ℕ → ℕ → ℕ → ℕ → Result (State × Position) Reason
 successor_of plan m k s f i = to_successor (pair_in true plan m k s f i)
 
 -- the answers in document 01's numbers
-abbrev pub label_says : Label → Says
-label_says (label.At p) = gives (p.0 ∷ [])
-label_says (label.Refused r) = refuses r 0
+abbrev pub label_says : Result Position Reason → Says
+label_says (Ok p) = gives (p.0 ∷ [])
+label_says (Err r) = refuses r 0
 
-abbrev pub block_says : Block → Says
-block_says (block.Of l) = gives (l.announcements ∷ l.successors ∷ [])
-block_says (block.Refused r) = refuses r 0
+abbrev pub block_says : Result Lengths Reason → Says
+block_says (Ok l) = gives (l.announcements ∷ l.successors ∷ [])
+block_says (Err r) = refuses r 0
 
-abbrev pub announcement_says : Announcement → Says
-announcement_says (announcement.Of j p) = gives (j.0 ∷ p.0 ∷ [])
-announcement_says (announcement.Refused r) = refuses r 0
+abbrev pub announcement_says : Result (Shape × Position) Reason → Says
+announcement_says (Ok (j, p)) = gives (j.0 ∷ p.0 ∷ [])
+announcement_says (Err r) = refuses r 0
 
-abbrev pub successor_says : Successor → Says
-successor_says (successor.Of s p) = gives (s.0 ∷ p.0 ∷ [])
-successor_says (successor.Refused r) = refuses r 0
+abbrev pub successor_says : Result (State × Position) Reason → Says
+successor_says (Ok (s, p)) = gives (s.0 ∷ p.0 ∷ [])
+successor_says (Err r) = refuses r 0

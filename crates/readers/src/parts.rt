@@ -1,8 +1,7 @@
-ghost use Rattle.std.specs.Prelude.{◌≡◌};
+ghost use Rattle.std.specs.Prelude.{◌≡◌, true, ◌+◌, ◌*◌, ◌≤◌, length, get_or};
 ghost use Rattle.readers.specs.PlanParts.{counts_good, label_word, to_label};
-ghost use Rattle.readers.specs.BlockWords.{block_start, block_fits, begins};
+ghost use Rattle.readers.specs.BlockWords.{block_start, block_fits, begins, middle};
 
-use crate::{Label, Start};
 use kinds::limits::{MOST_SHAPES, MOST_STATES, MOST_SYMBOLS};
 use kinds::{Position, Reason, State, Symbol};
 
@@ -10,62 +9,56 @@ use kinds::{Position, Reason, State, Symbol};
 pub fn counts_good(plan: &[u16]) -> bool
     ensures { result ≡ counts_good plan.now }
 {
-    if plan.len() < 4 {
-        return false;
-    }
-    if plan[0] == 0 {
-        return false;
-    }
-    if MOST_STATES < plan[0] {
-        return false;
-    }
-    if plan[1] == 0 {
-        return false;
-    }
-    if MOST_SYMBOLS < plan[1] as usize {
-        return false;
-    }
-    if plan[2] == 0 {
-        return false;
-    }
-    plan[2] as usize <= MOST_SHAPES
+    4 <= plan.len()
+        && 0 < plan[0]
+        && plan[0] <= MOST_STATES
+        && 0 < plan[1]
+        && plan[1] as usize <= MOST_SYMBOLS
+        && 0 < plan[2]
+        && plan[2] as usize <= MOST_SHAPES
 }
 
 // The label of a state, whatever its code.
-pub fn state_label(plan: &[u16], states: u16, state: State) -> Label
+pub fn state_label(plan: &[u16], states: u16, state: State) -> Result<Position, Reason>
     ensures { result ≡ to_label (label_word plan.now states state.0) }
 {
     if states <= state.0 {
-        return Label::Refused(Reason::OutOfRange);
+        return Err(Reason::OutOfRange);
     }
     let at = 4 + state.0 as usize;
     if plan.len() <= at {
-        return Label::Refused(Reason::OutOfRange);
+        return Err(Reason::OutOfRange);
     }
-    Label::At(Position(plan[at]))
+    Ok(Position(plan[at]))
 }
 
 // Where the block of a state and symbol begins, if it is there and whole.
-pub fn block_start(plan: &[u16], states: u16, symbols: u16, state: State, symbol: Symbol) -> Start
+pub fn block_start(
+    plan: &[u16],
+    states: u16,
+    symbols: u16,
+    state: State,
+    symbol: Symbol,
+) -> Option<usize>
     ensures { begins result ≡ block_start plan.now states symbols state.0 symbol.0 }
 {
     if states <= state.0 {
-        return Start::Nowhere;
+        return None;
     }
     let beyond = symbols <= symbol.0;
     if beyond {
-        return Start::Nowhere;
+        return None;
     }
     let place = 4 + states as usize + (state.0 as usize * symbols as usize + symbol.0 as usize);
     if plan.len() <= place {
-        return Start::Nowhere;
+        return None;
     }
     let b = plan[place] as usize;
     let whole = block_fits(plan, b);
     if !whole {
-        return Start::Nowhere;
+        return None;
     }
-    Start::At(b)
+    Some(b)
 }
 
 // The whole block lies within the plan words.
@@ -80,4 +73,13 @@ fn block_fits(plan: &[u16], b: usize) -> bool
         return false;
     }
     mid + 1 + 2 * plan[mid] as usize <= plan.len()
+}
+
+// Where a block's successors are counted.
+pub fn middle(plan: &[u16], b: usize) -> usize
+    requires { block_fits plan.now b ≡ true }
+    ensures place { result ≡ middle plan.now b }
+    ensures whole { result + 1 + 2 * get_or plan.now result 0 ≤ length plan.now }
+{
+    b + 1 + 2 * plan[b] as usize
 }

@@ -2,44 +2,49 @@ ghost use Rattle.std.specs.Prelude.{◌≡◌};
 ghost use Rattle.readers.specs.PlanParts.{view_good, label_of, lengths_of, announcement_of, successor_of, pair_in};
 ghost use Rattle.readers.specs.BlockWords.{pair_of};
 
+use crate::Lengths;
 use crate::pairs::pair_at;
-use crate::parts::{block_start, counts_good, state_label};
-use crate::{Announcement, Block, Label, Lengths, Pair, Start, Successor};
-use kinds::{Reason, Shape, State, Symbol};
+use crate::parts::{block_start, counts_good, middle, state_label};
+use kinds::{Position, Reason, Shape, State, Symbol};
 
-pub fn label_of(words: &[u16], states: u16, symbols: u16, state: State) -> Label
+pub fn label_of(words: &[u16], states: u16, symbols: u16, state: State) -> Result<Position, Reason>
     ensures { result ≡ label_of words.now states symbols state.0 }
 {
     let good = view_good(words, states, symbols);
     if !good {
-        return Label::Refused(Reason::OutOfRange);
+        return Err(Reason::OutOfRange);
     }
     match state_label(words, states, state) {
-        Label::Refused(why) => Label::Refused(Reason::OutOfRange),
-        Label::At(p) => {
+        Err(why) => Err(Reason::OutOfRange),
+        Ok(p) => {
             let used = p.is_good();
             if !used {
-                return Label::Refused(Reason::OutOfRange);
+                return Err(Reason::OutOfRange);
             }
-            Label::At(p)
+            Ok(p)
         }
     }
 }
 
-pub fn lengths_of(words: &[u16], states: u16, symbols: u16, state: State, symbol: Symbol) -> Block
+pub fn lengths_of(
+    words: &[u16],
+    states: u16,
+    symbols: u16,
+    state: State,
+    symbol: Symbol,
+) -> Result<Lengths, Reason>
     ensures { result ≡ lengths_of words.now states symbols state.0 symbol.0 }
 {
     let good = view_good(words, states, symbols);
     if !good {
-        return Block::Refused(Reason::OutOfRange);
+        return Err(Reason::OutOfRange);
     }
     match block_start(words, states, symbols, state, symbol) {
-        Start::Nowhere => Block::Refused(Reason::OutOfRange),
-        Start::At(b) => {
-            let outs = words[b] as usize;
-            let mid = b + 1 + 2 * outs;
-            Block::Of(Lengths {
-                announcements: outs,
+        None => Err(Reason::OutOfRange),
+        Some(b) => {
+            let mid = middle(words, b);
+            Ok(Lengths {
+                announcements: words[b] as usize,
                 successors: words[mid] as usize,
             })
         }
@@ -54,12 +59,12 @@ pub fn announcement_of(
     state: State,
     symbol: Symbol,
     i: usize,
-) -> Announcement
+) -> Result<(Shape, Position), Reason>
     ensures { result ≡ announcement_of words.now states symbols state.0 symbol.0 i }
 {
     match find_pair(words, states, symbols, state, symbol, false, i) {
-        Pair::Nothing => Announcement::Refused(Reason::OutOfRange),
-        Pair::Of(j, p) => Announcement::Of(Shape(j), p),
+        None => Err(Reason::OutOfRange),
+        Some((j, p)) => Ok((Shape(j), p)),
     }
 }
 
@@ -71,12 +76,12 @@ pub fn successor_of(
     state: State,
     symbol: Symbol,
     i: usize,
-) -> Successor
+) -> Result<(State, Position), Reason>
     ensures { result ≡ successor_of words.now states symbols state.0 symbol.0 i }
 {
     match find_pair(words, states, symbols, state, symbol, true, i) {
-        Pair::Nothing => Successor::Refused(Reason::OutOfRange),
-        Pair::Of(s, p) => Successor::Of(State(s), p),
+        None => Err(Reason::OutOfRange),
+        Some((s, p)) => Ok((State(s), p)),
     }
 }
 
@@ -89,19 +94,18 @@ fn find_pair(
     symbol: Symbol,
     nexts: bool,
     i: usize,
-) -> Pair
+) -> Option<(u16, Position)>
     ensures { pair_of result ≡ pair_in nexts words.now states symbols state.0 symbol.0 i }
 {
     let good = view_good(words, states, symbols);
     if !good {
-        return Pair::Nothing;
+        return None;
     }
     match block_start(words, states, symbols, state, symbol) {
-        Start::Nowhere => Pair::Nothing,
-        Start::At(b) => {
+        None => None,
+        Some(b) => {
             if nexts {
-                let mid = b + 1 + 2 * words[b] as usize;
-                return pair_at(words, mid, states, i);
+                return pair_at(words, middle(words, b), states, i);
             }
             pair_at(words, b, words[2], i)
         }
@@ -112,12 +116,5 @@ fn find_pair(
 fn view_good(words: &[u16], states: u16, symbols: u16) -> bool
     ensures { result ≡ view_good words.now states symbols }
 {
-    let good = counts_good(words);
-    if !good {
-        return false;
-    }
-    if states != words[0] {
-        return false;
-    }
-    symbols == words[1]
+    counts_good(words) && states == words[0] && symbols == words[1]
 }

@@ -1,37 +1,20 @@
 -- Whether a replacement is one tree, and whether a node is finished: the loops.
---   known_symbol known_none known_name   one word
 --   Wanting want_begin want_next want_none want_many want_unknown want_end   words wanted, from word i on
---   bears_not bears_is                   one node
---   Looking look_begin look_here look_next look_end   the nodes from y on
+--   finished_any                         whether a node is finished
 use Prim.Native.Nat.{ℕ, zero, suc, ◌+◌, ◌-◌, ◌<◌, ◌≤◌}
 use mathlib.Core.Path.{◌≡◌, refl, ap, sym, ◌∙◌}
 use mathlib.Core.List.{List, [], ◌∷◌}
-use mathlib.Core.Bool.{Bool, true, false, ◌&&◌, ◌||◌}
+use mathlib.Core.Bool.{true, false, ◌&&◌, ◌||◌}
 use native.Mathlib.Omega.{arith}
-use native.Mathlib.Nat.{sub-zero}
 use native.Mathlib.Numerals.{add-one}
-use borrow.Author.Tests.{lt-ltb, le-ltb, le-leb, lt-leb, ne_eqb, eq-eqb}
-use lib.Dec.{eqb, ltb}
+use borrow.Author.Tests.{ne_eqb}
+use lib.Dec.{eqb}
 use lib.ListN.{length, get_or, drop, drop_of_length-le, length-drop}
 use lib.Seq.{drop-cons}
-use Rattle.kinds.specs.Limits.{first_name}
+use Rattle.std.specs.List.{list_any, range_with_len}
 use Rattle.kinds.specs.Lists.{any, range}
 use Rattle.kinds.proofs.Bools.{and_false}
 use Rattle.replacing.specs.Putting.{is_known, trees_in, bears, finished_at}
-
--- ---- one word of a replacement
-module _ (ar : List ℕ) (n w : ℕ) where
-  pub known_symbol : w < length ar → true ≡ is_known ar n w
-  unfolding is_known
-  known_symbol h = rw (lt-ltb w (length ar) h)
-
-  pub known_none : length ar ≤ w → w < first_name → false ≡ is_known ar n w
-  unfolding is_known
-  known_none h g = rw (le-ltb w (length ar) h, lt-leb first_name w g)
-
-  pub known_name : length ar ≤ w → first_name ≤ w → ltb w (first_name + n) ≡ is_known ar n w
-  unfolding is_known
-  known_name h g = rw (le-ltb w (length ar) h, le-leb first_name w g)
 
 -- more are wanted than words are there
 trees_many : (ar : List ℕ) (n k : ℕ) (ws : List ℕ) → length ws < k → trees_in ar n k ws ≡ false
@@ -73,34 +56,11 @@ module _ {ar : List ℕ} {n : ℕ} {link : List ℕ} {k i : ℕ} (h : Wanting ar
   unfolding trees_in
   want_end l = sym (h.whole ∙ rw (drop_of_length-le link l))
 
--- ---- one node
-module _ (score spans : List ℕ) (x f y : ℕ) where
-  pub bears_not : (get_or score y 0 ≡ f → ⊥) → false ≡ bears score spans x f y
-  unfolding bears
-  bears_not h = rw (ne_eqb (get_or score y 0) f h)
-
-  pub bears_is : get_or score y 0 ≡ f → ltb x (y + get_or spans y 0) ≡ bears score spans x f y
-  unfolding bears
-  bears_is h = rw (eq-eqb (get_or score y 0) f h)
-
-pub record Looking (score spans : List ℕ) (x f y : ℕ) : Type 0 where
-  pub whole : finished_at score spans x f ≡ any (bears score spans x f) (range y (suc x - y))
-
-pub look_begin : (score spans : List ℕ) (x f : ℕ) → Looking score spans x f 0
+-- ---- the nodes up to one
+pub finished_any : (score spans : List ℕ) (x f : ℕ) → list_any (bears score spans x f) (range_with_len 0 (x + 1)) ≡ finished_at score spans x f
 unfolding finished_at
-look_begin score spans x f = record { whole = ap (λ n. any (bears score spans x f) (range 0 n)) (sym (sub-zero (suc x))) }
-
-module _ {score spans : List ℕ} {x f y : ℕ} (h : Looking score spans x f y) where
-  first : y ≤ x → finished_at score spans x f ≡ (bears score spans x f y || any (bears score spans x f) (range (suc y) (x - y)))
-  first l = let z : suc x - y ≡ suc (x - y) = omega arith in h.whole ∙ ap (λ n. any (bears score spans x f) (range y n)) z
-
-  pub look_here : {b : Bool} → y ≤ x → b ≡ bears score spans x f y → b ≡ true → true ≡ finished_at score spans x f
-  look_here l e g = sym (first l ∙ rw (← e, g))
-
-  pub look_next : {b : Bool} → y ≤ x → b ≡ bears score spans x f y → b ≡ false → Looking score spans x f (y + 1)
-  look_next l e g =
-      let z : suc x - suc y ≡ x - y = omega arith in
-      record { whole = first l ∙ rw (← e, g, add-one y, z) }
-
-  pub look_end : x < y → false ≡ finished_at score spans x f
-  look_end l = let z : suc x - y ≡ 0 = omega arith in sym (h.whole ∙ rw z)
+finished_any score spans x f = ap (λ n. list_any (bears score spans x f) (range_with_len 0 n)) (add-one x) ∙ same 0 (suc x)
+  where
+    same : (y n : ℕ) → list_any (bears score spans x f) (range_with_len y n) ≡ any (bears score spans x f) (range y n)
+    same y zero = refl
+    same y (suc n) = ap (λ b. bears score spans x f y || b) (ap (λ z. list_any (bears score spans x f) (range_with_len z n)) (add-one y) ∙ same (suc y) n)

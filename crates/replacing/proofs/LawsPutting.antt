@@ -1,21 +1,22 @@
 -- Putting in, at each way through it.
 --   made_words made_long            what was made is the result; or it has over 4,096 words
---   past handed_refused handed_long handed_short handed_written handed_as   43, 44, or the result in the buffer
+--   past handed_long handed_short handed_written stored handed_as   43, 44, or the result in the buffer
 --   in_none in_goes in_tree         42, or that
 --   put_shapes put_score put_out_lem put_not put_finished put_goes  19, 31, 40, 41, or that
 --   short_shape, as_long            a good shape has at most 16 words; good spans are as many as the score's words
+use Rattle.kinds.specs.declared.Refusal.{Refusal}
+use Rattle.std.specs.Prelude.{Err, None, Ok, Result, Some, is_ok}
 use Prim.Native.Nat.{ℕ, ◌-◌, ◌<◌, ◌≤◌}
 use mathlib.Core.Path.{◌≡◌, refl, ap, ap₂, sym, ◌∙◌}
-use mathlib.Core.List.{List}
+use mathlib.Core.List.{List, ◌++◌}
 use mathlib.Core.Bool.{true, false}
 use native.Mathlib.Omega.{arith}
 use native.Mathlib.Nat.{zero-add, sub-zero}
 use native.Mathlib.Decide.{dec_lt}
 use borrow.Author.Tests.{lt-ltb, le-ltb, le-leb, lt-leb}
-use lib.ListN.{length, take}
+use lib.ListN.{length, take, drop}
 use lib.Seq.{sets}
 use Rattle.kinds.specs.Limits.{blank_word, score_levels}
-use Rattle.kinds.specs.declared.Reason.{Reason}
 use Rattle.kinds.specs.declared.Reason.TheVariants.{BadShapes, BadScore, NotThere, IsFinished, NoTree, PastLimits, ShortScore}
 use Rattle.kinds.proofs.ListLaws.{onto_sets, stored_back}
 use Rattle.kinds.proofs.Places.{at_in, at_some}
@@ -25,16 +26,13 @@ use Rattle.term.proofs.Sizes.{length_flatten}
 use Rattle.term.proofs.LawsReading.{whole_in}
 use Rattle.term.proofs.LawsSpans.{length_spans}
 use Rattle.contents.specs.Tables.{score_limits, score_of}
-use Rattle.contents.specs.declared.Score.{Score}
-use Rattle.contents.specs.declared.Score.TheVariants as score
 use Rattle.contents.proofs.LawsTables.{score_read}
-use Rattle.checks.specs.Again.{shapes_good, score_good, is_whole}
+use Rattle.checks.specs.Again.{shapes_good, score_good}
 use Rattle.checks.proofs.LawsAgain.{score_good_is}
 use Rattle.folio.specs.Folio.{Shaped}
 use Rattle.folio.proofs.GoodTables.{shapes_good_shaped}
 use Rattle.folio.proofs.ShapesFound.{length_starts}
 use Rattle.counting.specs.Counting.{match_at}
-use Rattle.counting.specs.declared.Counted.TheVariants.{Number}
 use Rattle.matching.specs.Shapes.{shape_at}
 use Rattle.matching.specs.Falling.{covered}
 use Rattle.matching.proofs.LawsShapes.{words_none}
@@ -42,44 +40,43 @@ use Rattle.matching.proofs.ShapeWords.{shape_words_lem}
 use Rattle.clashing.specs.Strays.{matched}
 use Rattle.replacing.specs.Adding.{Added, to, full}
 use Rattle.replacing.specs.Putting.{trees_in, finished_at, result_of, PutOutcome, put_out, refused, handed, put_in, put_of}
-use Rattle.replacing.specs.declared.Room.TheVariants.{To, Full}
 
 -- ---- what was made
-pub made_words : {made now result : List ℕ} {e : ℕ} → Added made 0 result (To e) now → take (e - 0) now ≡ result
+pub made_words : {made now result : List ℕ} {e : ℕ} → Added made 0 result (Some e) now → take (e - 0) now ≡ result
 made_words {made} {result = result} (to e now a b c) =
     let z : e - 0 ≡ length result = omega arith in
     rw (z, c) (stored_back result made (omega arith))
 
-pub made_long : {made now result : List ℕ} → Added made 0 result Full now → length made < length result
+pub made_long : {made now result : List ℕ} → Added made 0 result None now → length made < length result
 made_long {made} {result = result} (full now h) = omega (arith, h, zero-add (length result))
 
 -- ---- 43 and 44
-many_words : (ar result : List ℕ) → 4096 < length result → (s : Score) → score_of ar result ≡ s → is_whole s ≡ false
-many_words ar result h (score.Refused r p) e = refl
-many_words ar result h (score.Whole m) e =
+many_words : (ar result : List ℕ) → 4096 < length result → (s : Result Met Refusal) → score_of ar result ≡ s → is_ok s ≡ false
+many_words ar result h (Err why) e = refl
+many_words ar result h (Ok m) e =
     let r = score_read ar result m e in
     let w = whole_in ar result (score_limits 0) score_levels 0 m r.0 in
     absurd (omega (arith, h, r.1, w.few))
 
 module _ (ar result new : List ℕ) where
-  pub past : is_whole (score_of ar result) ≡ false → refused PastLimits new ≡ handed ar result new
+  pub past : is_ok (score_of ar result) ≡ false → refused PastLimits new ≡ handed ar result new
   unfolding handed
   past e = rw e
 
   pub handed_long : 4096 < length result → refused PastLimits new ≡ handed ar result new
   handed_long h = past (many_words ar result h (score_of ar result) refl)
 
-  pub handed_refused : {r : Reason} {p : ℕ} → score_of ar result ≡ score.Refused r p → refused PastLimits new ≡ handed ar result new
-  handed_refused e = past (ap is_whole e)
-
-  module _ {m : Met} (e : score_of ar result ≡ score.Whole m) where
+  module _ (e : is_ok (score_of ar result) ≡ true) where
     pub handed_short : length new < length result → refused ShortScore new ≡ handed ar result new
     unfolding handed
     handed_short h = rw (e, lt-leb (length result) (length new) h)
 
-    pub handed_written : {now : List ℕ} → length result ≤ length new → now ≡ sets new 0 result → put_out (Number (length result)) now ≡ handed ar result new
+    pub handed_written : {now : List ℕ} → length result ≤ length new → now ≡ sets new 0 result → put_out (Ok (length result)) now ≡ handed ar result new
     unfolding handed
-    handed_written h d = rw (e, le-leb (length result) (length new) h) (ap (put_out (Number (length result))) (d ∙ sym (onto_sets result new h)))
+    handed_written h d = rw (e, le-leb (length result) (length new) h) (ap (put_out (Ok (length result))) (d ∙ sym (onto_sets result new h)))
+
+pub stored : (result new : List ℕ) {now : List ℕ} → length result ≤ length new → now ≡ result → now ++ drop (length result) new ≡ sets new 0 result
+stored result new h d = ap (λ ws. ws ++ drop (length result) new) d ∙ onto_sets result new h
 
 pub handed_as : (ar new : List ℕ) {words result : List ℕ} {o : PutOutcome} → words ≡ result → o ≡ handed ar words new → o ≡ handed ar result new
 handed_as ar new e h = h ∙ ap (λ w. handed ar w new) e

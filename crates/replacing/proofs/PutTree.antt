@@ -1,5 +1,6 @@
 -- Putting in where a shape matches at a node of a score, on terms: 42, 43, 44, or the new score.
 --   in_42 in_43 in_44 in_put
+use Rattle.std.specs.Prelude.{Ok, is_ok}
 use Prim.Native.Nat.{ℕ, ◌<◌, ◌≤◌}
 use mathlib.Core.Path.{◌≡◌, refl, ap, sym, ◌∙◌}
 use mathlib.Core.List.{List}
@@ -17,7 +18,6 @@ use Rattle.term.specs.Terms.{Term, span, depth, flatten, sizes, Fits}
 use Rattle.term.specs.Places.{number, Matches}
 use Rattle.term.specs.Admitted.{IsScore}
 use Rattle.term.proofs.Sizes.{length_flatten}
-use Rattle.counting.specs.declared.Counted.TheVariants.{Number}
 use Rattle.folio.proofs.ScoreWhole.{score_of_lem}
 use Rattle.replacing.specs.Links.{IsLink, replaced}
 use Rattle.replacing.specs.Putting.{PutOutcome, put_out, refused, handed, put_in}
@@ -53,10 +53,10 @@ module _ (ar : List ℕ) (few : length ar ≤ first_name) (ℓ t : Term) (fits :
       is_score = within ar R (result_fits ar ℓ t fits is p x n m link r k) (result_whole ar ℓ t fits is p x n m link r k) small flat
 
       pub in_44 : length new < span R → outcome ≡ refused ShortScore new
-      in_44 h = goes ∙ sym (handed_short ar (flatten R) new (score_of_lem ar R is_score) (omega (arith, h, length_flatten R)))
+      in_44 h = goes ∙ sym (handed_short ar (flatten R) new (ap is_ok (score_of_lem ar R is_score)) (omega (arith, h, length_flatten R)))
 
-      pub in_put : span R ≤ length new → outcome ≡ put_out (Number (span R)) (onto (flatten R) new)
+      pub in_put : span R ≤ length new → outcome ≡ put_out (Ok (span R)) (onto (flatten R) new)
       in_put h =
           let l : length (flatten R) ≤ length new = omega (arith, h, length_flatten R) in
-          goes ∙ sym (handed_written ar (flatten R) new (score_of_lem ar R is_score) l (onto_sets (flatten R) new l))
-          ∙ ap (λ k. put_out (Number k) (onto (flatten R) new)) (length_flatten R)
+          goes ∙ sym (handed_written ar (flatten R) new (ap is_ok (score_of_lem ar R is_score)) l (onto_sets (flatten R) new l))
+          ∙ ap (λ k. put_out (Ok k) (onto (flatten R) new)) (length_flatten R)

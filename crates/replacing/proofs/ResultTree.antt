@@ -4,6 +4,9 @@
 --   result_words     the words
 --   result_fits result_whole   what fits, and has no blank
 --   result-is is-result        it is a score exactly if it has at most 4,096 nodes, and is at most 64 deep
+use Rattle.kinds.specs.declared.Refusal.{Refusal}
+use Rattle.term.specs.declared.Met.{Met}
+use Rattle.std.specs.Prelude.{Err, Ok, Result, is_ok}
 use Prim.Native.Nat.{ℕ, ◌+◌, ◌-◌, ◌<◌, ◌≤◌}
 use mathlib.Core.Path.{◌≡◌, refl, ap, ap₂, sym, ◌∙◌}
 use mathlib.Core.List.{List, [], ◌∷◌, ◌++◌, append-nil}
@@ -30,10 +33,7 @@ use Rattle.term.proofs.Subterms.{fits_sub, whole_sub}
 use Rattle.term.proofs.LawsReading.{whole_in}
 use Rattle.term.proofs.WholeTerm.{whole_term}
 use Rattle.contents.specs.Tables.{score_limits, score_of}
-use Rattle.contents.specs.declared.Score.{Score}
-use Rattle.contents.specs.declared.Score.TheVariants as score
 use Rattle.contents.proofs.LawsTables.{score_read}
-use Rattle.checks.specs.Again.{is_whole}
 use Rattle.folio.proofs.ScoreWhole.{score_of_lem}
 use Rattle.following.proofs.FollowTree.{words_stand, span_at_lem}
 use Rattle.matching.specs.Falling.{covered}
@@ -139,15 +139,15 @@ module _ (ar : List ℕ) (u : Term) (fits : Fits ar no_blank u) (whole : Whole u
   pub within : span u ≤ 4096 → depth u ≤ 64 → IsScore ar u
   within a b = record { fits = fits; whole = whole; flat = b; small = a }
 
-  pub passes : span u ≤ 4096 → depth u ≤ 64 → is_whole (score_of ar (flatten u)) ≡ true
-  passes a b = ap is_whole (score_of_lem ar u (within a b))
+  pub passes : span u ≤ 4096 → depth u ≤ 64 → is_ok (score_of ar (flatten u)) ≡ true
+  passes a b = ap is_ok (score_of_lem ar u (within a b))
 
-  pub passed : is_whole (score_of ar (flatten u)) ≡ true → (span u ≤ 4096) × (depth u ≤ 64)
+  pub passed : is_ok (score_of ar (flatten u)) ≡ true → (span u ≤ 4096) × (depth u ≤ 64)
   passed e = go (score_of ar (flatten u)) refl e
     where
-      go : (s : Score) → score_of ar (flatten u) ≡ s → is_whole s ≡ true → (span u ≤ 4096) × (depth u ≤ 64)
-      go (score.Refused r i) d h = false_true h
-      go (score.Whole m) d h =
+      go : (s : Result Met Refusal) → score_of ar (flatten u) ≡ s → is_ok s ≡ true → (span u ≤ 4096) × (depth u ≤ 64)
+      go (Err why) d h = false_true h
+      go (Ok m) d h =
           let r = score_read ar (flatten u) m d in
           let a = whole_term ar (flatten u) (score_limits 0) score_levels 0 m r.0 in
           let w = whole_in ar (flatten u) (score_limits 0) score_levels 0 m r.0 in

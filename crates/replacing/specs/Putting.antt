@@ -9,16 +9,14 @@
 --   PutOutcome   an answer, and the buffer as it is then; a refusal writes nothing
 --   handed       43 and 44, or the result in the buffer
 --   put_in put_of  42, and all from 19 on
-use Rattle.std.specs.Prelude.{ℕ, zero, suc, ◌+◌, ◌-◌, List, [], ◌∷◌, ◌++◌, Bool, false, cond, not, ◌&&◌, ◌||◌, eqb, ltb, leb, length, get_or, take, drop}
+use Rattle.std.specs.Prelude.{ℕ, zero, suc, ◌+◌, ◌-◌, List, [], ◌∷◌, ◌++◌, Bool, false, cond, not, ◌&&◌, ◌||◌, eqb, ltb, leb, length, get_or, take, drop, Err, Ok, Result, is_ok}
 use Rattle.kinds.specs.Limits.{blank_word, first_name}
 use Rattle.kinds.specs.Lists.{unless, any, gather, range, onto}
 use Rattle.kinds.specs.declared.Reason.{Reason}
 use Rattle.kinds.specs.declared.Reason.TheVariants.{BadShapes, BadScore, NotThere, IsFinished, NoTree, PastLimits, ShortScore}
 use Rattle.contents.specs.Tables.{score_of}
-use Rattle.checks.specs.Again.{shapes_good, score_good, is_whole}
+use Rattle.checks.specs.Again.{shapes_good, score_good}
 use Rattle.counting.specs.Counting.{match_at}
-use Rattle.counting.specs.declared.Counted.{Counted}
-use Rattle.counting.specs.declared.Counted.TheVariants.{Number, Refused}
 use Rattle.matching.specs.Shapes.{part, shape_at}
 use Rattle.matching.specs.Falling.{covered}
 use Rattle.clashing.specs.Strays.{matched}
@@ -52,20 +50,20 @@ module _ (score spans : List ℕ) where
 
 -- ---- what is answered, and written
 pub record PutOutcome : Type 0 where
-  pub answer : Counted
+  pub answer : Result ℕ Reason
   pub score : List ℕ
 
-abbrev pub put_out : Counted → List ℕ → PutOutcome
+abbrev pub put_out : Result ℕ Reason → List ℕ → PutOutcome
 put_out a new = record { answer = a; score = new }
 
 abbrev pub refused : Reason → List ℕ → PutOutcome
-refused r new = put_out (Refused r) new
+refused r new = put_out (Err r) new
 
 unfoldable pub handed : List ℕ → List ℕ → List ℕ → PutOutcome
 handed ar result new =
-    unless (is_whole (score_of ar result)) (refused PastLimits new)
+    unless (is_ok (score_of ar result)) (refused PastLimits new)
     (unless (leb (length result) (length new)) (refused ShortScore new)
-    (put_out (Number (length result)) (onto result new)))
+    (put_out (Ok (length result)) (onto result new)))
 
 unfoldable pub put_in : List ℕ → List ℕ → List ℕ → List ℕ → ℕ → List ℕ → List ℕ → PutOutcome
 put_in ar shape score spans x link new =

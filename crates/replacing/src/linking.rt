@@ -10,21 +10,11 @@ pub fn is_tree(symbols: &[u8], n: usize, link: &[u16]) -> bool
     ensures { result ≡ trees_in symbols.now n 1 link.now }
 {
     let mut wanted = 1;
-    let mut i = 0;
-    while i < link.len() {
-        if wanted == 0 {
+    for (i, word) in link.iter().enumerate() {
+        if wanted == 0 || link.len() - i < wanted || !is_known(symbols, n, *word) {
             return false;
         }
-        if link.len() - i < wanted {
-            return false;
-        }
-        let word = link[i];
-        let known = is_known(symbols, n, word);
-        if !known {
-            return false;
-        }
-        wanted = wanted - 1 + count(symbols, word);
-        i += 1;
+        wanted = wanted - 1 + count(symbols, *word);
     }
     wanted == 0
 }
@@ -35,11 +25,5 @@ fn is_known(symbols: &[u8], n: usize, word: u16) -> bool
     ensures { result ≡ is_known symbols.now n word }
 {
     let w = word as usize;
-    if w < symbols.len() {
-        return true;
-    }
-    if w < FIRST_NAME {
-        return false;
-    }
-    w < FIRST_NAME + n
+    w < symbols.len() || FIRST_NAME <= w && w < FIRST_NAME + n
 }

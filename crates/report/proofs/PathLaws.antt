@@ -1,9 +1,9 @@
 -- The way from the root to a node, child by child.
 --   child_out child_empty child_past child_here child_next child_end child_last   the search for the child
 --   place_here place_none place_next place_end place_over   the path
---   path_out path_begins path_few   a node past the spans, or not; a path has at most 64 numbers
+--   path_out path_begins   a node past the spans, or not
 --   Written written_none_yet written_done written_nowhere written_next   what is written so far, and what is left
-use Prim.Native.Nat.{ℕ, zero, suc, ◌+◌, ◌-◌, ◌<◌, ◌≤◌}
+use Prim.Native.Nat.{ℕ, suc, ◌+◌, ◌-◌, ◌<◌, ◌≤◌}
 use mathlib.Core.Path.{◌≡◌, refl, ap, sym, ◌∙◌}
 use mathlib.Core.List.{List, [], ◌∷◌, ◌++◌, append_assoc, append-nil}
 use mathlib.Core.Option.{Option, none, some, map}
@@ -11,11 +11,7 @@ use native.Mathlib.Omega.{arith}
 use native.Mathlib.Numerals.{add-one}
 use borrow.Author.Tests.{lt-ltb, le-ltb, le-leb, lt-leb, eq-eqb, ne_eqb}
 use lib.ListN.{length, get_or, set, take}
-use mathlib.Core.Bool.{Bool, true, false, cond}
-use lib.Dec.{eqb, ltb}
-use Rattle.kinds.specs.Lists.{bind}
 use Rattle.kinds.specs.Positions.{Pos}
-use Rattle.kinds.proofs.Options.{on_bind, on_map, on_need}
 use Rattle.kinds.proofs.ListLaws.{take_set}
 use Rattle.report.specs.Paths.{child_on, child_of, path_to, path_of}
 
@@ -25,15 +21,15 @@ module _ (sp : List ℕ) (x : ℕ) where
   unfolding child_on
   child_last a h = rw (le-ltb (a + 1) (length sp) (omega arith))
 
-  module _ (end k c : ℕ) (l : k < 4) where
-    more : 4 - k ≡ suc (4 - (k + 1))
+  module _ (end k c : ℕ) (l : k ≤ 4) where
+    more : 5 - k ≡ suc (5 - (k + 1))
     more = omega arith
 
-    pub child_out : length sp ≤ c → child_on sp end x (4 - k) c (k + 1) ≡ none
+    pub child_out : length sp ≤ c → child_on sp end x (5 - k) c k ≡ none
     unfolding child_on
     child_out h = rw (more, le-ltb c (length sp) h)
 
-    pub child_empty : c < length sp → get_or sp c 0 ≡ 0 → child_on sp end x (4 - k) c (k + 1) ≡ none
+    pub child_empty : c < length sp → get_or sp c 0 ≡ 0 → child_on sp end x (5 - k) c k ≡ none
     unfolding child_on
     child_empty h e = rw (more, lt-ltb c (length sp) h, le-ltb 0 (get_or sp c 0) (omega arith))
 
@@ -41,24 +37,25 @@ module _ (sp : List ℕ) (x : ℕ) where
       spans_some : 0 < get_or sp c 0
       spans_some = omega (arith, some_span)
 
-      pub child_past : end < c + get_or sp c 0 → child_on sp end x (4 - k) c (k + 1) ≡ none
+      pub child_past : end < c + get_or sp c 0 → child_on sp end x (5 - k) c k ≡ none
       unfolding child_on
       child_past g = rw (more, lt-ltb c (length sp) h, lt-ltb 0 (get_or sp c 0) spans_some, lt-leb (c + get_or sp c 0) end g)
 
-      pub child_here : c + get_or sp c 0 ≤ end → x < c + get_or sp c 0 → child_on sp end x (4 - k) c (k + 1) ≡ some (k + 1, c)
+      pub child_here : c + get_or sp c 0 ≤ end → x < c + get_or sp c 0 → child_on sp end x (5 - k) c k ≡ some (k, c)
       unfolding child_on
       child_here i g =
           rw (more, lt-ltb c (length sp) h, lt-ltb 0 (get_or sp c 0) spans_some, le-leb (c + get_or sp c 0) end i, lt-ltb x (c + get_or sp c 0) g)
 
       pub child_next : c + get_or sp c 0 ≤ end → c + get_or sp c 0 ≤ x
-          → child_on sp end x (4 - k) c (k + 1) ≡ child_on sp end x (4 - (k + 1)) (c + get_or sp c 0) (k + 1 + 1)
+          → child_on sp end x (5 - k) c k ≡ child_on sp end x (5 - (k + 1)) (c + get_or sp c 0) (k + 1)
       unfolding child_on
       child_next i g =
           rw (more, lt-ltb c (length sp) h, lt-ltb 0 (get_or sp c 0) spans_some, le-leb (c + get_or sp c 0) end i, le-ltb x (c + get_or sp c 0) g)
 
-  pub child_end : (end k c i : ℕ) → 4 ≤ k → child_on sp end x (4 - k) c i ≡ none
+  -- behind the last
+  pub child_end : (end k c i : ℕ) → 4 ≤ k → child_on sp end x (5 - (k + 1)) c i ≡ none
   unfolding child_on
-  child_end end k c i h = let e : 4 - k ≡ 0 = omega arith in rw e
+  child_end end k c i h = let e : 5 - (k + 1) ≡ 0 = omega arith in rw e
 
   module _ (d a : ℕ) where
     pub place_here : d < 64 → a ≡ x → path_to (64 - d) sp x a ≡ some []
@@ -89,21 +86,6 @@ module _ (sp : List ℕ) (x : ℕ) where
   pub path_begins : x < length sp → path_of sp x ≡ path_to 64 sp x 0
   unfolding path_of
   path_begins h = rw (lt-ltb x (length sp) h)
-
-pub place_few : (d : ℕ) (sp : List ℕ) (x a : ℕ) (p : Pos) → path_to d sp x a ≡ some p → length p ≤ d
-unfolding path_to
-place_few zero sp x a p e = on_need (eqb a x) (some []) e λ t f. let z : [] ≡ p = cc in rw (← z) (omega arith)
-place_few (suc d) sp x a p e = go (eqb a x) e (place_few d sp x)
-  where
-    go : (b : Bool) → cond b (some []) (bind (child_of sp x a) (λ c. map (λ p. c.0 ∷ p) (path_to d sp x c.1))) ≡ some p
-        → ((c : ℕ) (q : Pos) → path_to d sp x c ≡ some q → length q ≤ d) → length p ≤ suc d
-    go true f ih = let z : [] ≡ p = cc in rw (← z) (omega arith)
-    go false f ih =
-        on_bind (child_of sp x a) _ f λ c ec f₁. on_map (path_to d sp x c.1) _ f₁ λ q eq z. let h = ih c.1 q eq in rw (← z) (omega arith)
-
-pub path_few : (sp : List ℕ) (x : ℕ) (p : Pos) → path_of sp x ≡ some p → length p ≤ 64
-unfolding path_of
-path_few sp x p e = on_need (ltb x (length sp)) (path_to 64 sp x 0) e λ t f. place_few 64 sp x 0 p f
 
 -- written so far: d numbers, the rest from node a on
 pub record Written (sp : List ℕ) (x : ℕ) (o : List ℕ) (d a : ℕ) : Type 0 where

@@ -14,7 +14,7 @@
 --   report        over the first line's numbers, the spans of the n nodes and the marks
 --   refusal_text  what a refusal prints
 --   step_of path_in numbers_in  what the parts of the code answer: a child, a path at a buffer's start, how many numbers it has
-use Rattle.std.specs.Prelude.{ℕ, zero, suc, ◌+◌, ◌/◌, ◌%◌, List, [], ◌∷◌, ◌++◌, cond, ltb, length, take}
+use Rattle.std.specs.Prelude.{ℕ, zero, suc, ◌+◌, ◌/◌, ◌%◌, List, [], ◌∷◌, ◌++◌, cond, ltb, length, take, None, Some, Option as Optional}
 use Rattle.std.proofs.Math.Option.{Option, none, some, map}
 use Rattle.kinds.specs.Limits.{number_digits}
 use Rattle.kinds.specs.Lists.{gather}
@@ -25,12 +25,6 @@ use Rattle.counting.specs.Counting.{Match, found_in}
 use Rattle.report.specs.Quoted.{bytes}
 use Rattle.report.specs.Paths.{path_of}
 use Rattle.report.specs.declared.Totals.{Totals}
-use Rattle.report.specs.declared.States.{States}
-use Rattle.report.specs.declared.States.TheVariants as states
-use Rattle.report.specs.declared.Step.{Step}
-use Rattle.report.specs.declared.Step.TheVariants.{At, Nowhere}
-use Rattle.report.specs.declared.Depth.{Depth}
-use Rattle.report.specs.declared.Depth.TheVariants as depth
 
 unfoldable pub digits_to : ℕ → ℕ → List ℕ
 digits_to zero n = []
@@ -57,9 +51,9 @@ match_line m p = digits m.node ++ (field (bytes " ") m.shape ++ (bytes " " ++ (p
 abbrev pub line : List ℕ → Match → Option (List ℕ)
 line spans m = map (match_line m) (path_of spans m.node)
 
-abbrev pub states_field : States → List ℕ
-states_field (states.Of n) = field (bytes " states ") n
-states_field states.NoPlan = bytes " states -"
+abbrev pub states_field : Optional ℕ → List ℕ
+states_field (Some n) = field (bytes " states ") n
+states_field None = bytes " states -"
 
 abbrev pub first_line : Totals → List ℕ
 first_line t =
@@ -84,15 +78,15 @@ abbrev pub refusal_text : Reason → ℕ → List ℕ
 refusal_text r p = field (bytes "refused ") (number_of r) ++ (field (bytes " at ") p ++ bytes "\n")
 
 -- a step as what it finds
-abbrev pub step_of : Step → Option (ℕ × ℕ)
-step_of (At i c) = some (i, c)
-step_of Nowhere = none
+abbrev pub step_of : Optional (ℕ × ℕ) → Option (ℕ × ℕ)
+step_of (Some (i, c)) = some (i, c)
+step_of None = none
 
 -- the path that so many numbers at a buffer's start are
-abbrev pub path_in : Depth → List ℕ → Option Pos
-path_in (depth.Of n) out = some (take n out)
-path_in depth.Nowhere out = none
+abbrev pub path_in : Optional ℕ → List ℕ → Option Pos
+path_in (Some n) out = some (take n out)
+path_in None out = none
 
-abbrev pub numbers_in : Depth → ℕ
-numbers_in (depth.Of n) = n
-numbers_in depth.Nowhere = 0
+abbrev pub numbers_in : Optional ℕ → ℕ
+numbers_in (Some n) = n
+numbers_in None = 0

@@ -3,27 +3,27 @@ ghost use Rattle.counting.specs.Counting.{match_at};
 ghost use Rattle.report.specs.Lines.{out_of, written, line_out, first_out, refusal_out};
 ghost use Rattle.report.specs.Text.{match_line};
 
+use crate::Totals;
 use crate::text::{put_digits, put_dotted, put_field, put_path, put_states, put_text};
-use crate::{Depth, Totals, Written};
 use kinds::limits::{LINE_BYTES, NUMBER_DIGITS, PATH_NUMBERS};
 use kinds::{Node, Reason, Shape, number};
 
 // The line of a match: its node, its shape and the node's path; 34 for a node that the spans do not have.
-pub fn put_line(spans: &[u16], node: Node, shape: Shape, out: &mut [u8]) -> Written
+pub fn put_line(spans: &[u16], node: Node, shape: Shape, out: &mut [u8]) -> Result<usize, Reason>
     ensures { out_of result out.new ≡ line_out spans.now node.0 shape.0 out.old }
 {
     if out.len() < LINE_BYTES {
-        return Written::Refused(Reason::ShortBuffers);
+        return Err(Reason::ShortBuffers);
     }
     let mut path = [0u16; PATH_NUMBERS];
     match put_path(spans, node.0 as usize, &mut path) {
-        Depth::Nowhere => Written::Refused(Reason::OutOfRange),
-        Depth::Of(n) => put_match(node, shape, &path[0..n], out),
+        None => Err(Reason::OutOfRange),
+        Some(n) => put_match(node, shape, &path[0..n], out),
     }
 }
 
 // The line of a match whose node's path is known.
-fn put_match(node: Node, shape: Shape, path: &[u16], out: &mut [u8]) -> Written
+fn put_match(node: Node, shape: Shape, path: &[u16], out: &mut [u8]) -> Result<usize, Reason>
     requires { (length path.now ≤ 64) × (1400 ≤ length out.old) }
     ensures { out_of result out.new ≡ written (match_line (match_at node.0 shape.0) path.now) out.old }
 {
@@ -32,28 +32,28 @@ fn put_match(node: Node, shape: Shape, path: &[u16], out: &mut [u8]) -> Written
     let c = put_text(b" ", out, b);
     let d = put_dotted(path, out, c);
     let end = put_text(b"\n", out, d);
-    Written::Bytes(end)
+    Ok(end)
 }
 
 // What a refusal prints.
-pub fn put_refusal(reason: Reason, place: usize, out: &mut [u8]) -> Written
+pub fn put_refusal(reason: Reason, place: usize, out: &mut [u8]) -> Result<usize, Reason>
     ensures { out_of result out.new ≡ refusal_out reason place out.old }
 {
     if out.len() < LINE_BYTES {
-        return Written::Refused(Reason::ShortBuffers);
+        return Err(Reason::ShortBuffers);
     }
     let a = put_field(b"refused ", number(reason) as usize, out, 0);
     let b = put_field(b" at ", place, out, a);
     let end = put_text(b"\n", out, b);
-    Written::Bytes(end)
+    Ok(end)
 }
 
 // The first line.
-pub fn put_first(totals: Totals, out: &mut [u8]) -> Written
+pub fn put_first(totals: Totals, out: &mut [u8]) -> Result<usize, Reason>
     ensures { out_of result out.new ≡ first_out totals out.old }
 {
     if out.len() < LINE_BYTES {
-        return Written::Refused(Reason::ShortBuffers);
+        return Err(Reason::ShortBuffers);
     }
     let states = totals.states;
     let a = put_field(b"nodes ", totals.nodes, out, 0);
@@ -62,5 +62,5 @@ pub fn put_first(totals: Totals, out: &mut [u8]) -> Written
     let d = put_field(b" clashes ", totals.clashes, out, c);
     let e = put_field(b" depth ", totals.depth, out, d);
     let end = put_text(b"\n", out, e);
-    Written::Bytes(end)
+    Ok(end)
 }

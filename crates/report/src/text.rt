@@ -3,70 +3,65 @@ ghost use Rattle.std.proofs.lemmas.List.Edits.{sets};
 ghost use Rattle.report.specs.Paths.{child_of, path_of};
 ghost use Rattle.report.specs.Text.{digits_to, field, states_field, path_text, step_of, path_in, numbers_in};
 
-use crate::{Depth, States, Step};
-use kinds::limits::{NUMBER_DIGITS, PATH_NUMBERS};
+use kinds::limits::{MOST_CHILDREN, NUMBER_DIGITS, PATH_NUMBERS};
 
 // The number and the node of the child of `at`, one of the first four, in whose subtree x stands; each child lies inside its parent's span.
-fn find_child(spans: &[u16], x: usize, at: usize) -> Step
+fn find_child(spans: &[u16], x: usize, at: usize) -> Option<(u16, usize)>
     ensures { step_of result ≡ child_of spans.now x at }
 {
     if spans.len() <= at {
-        return Step::Nowhere;
+        return None;
     }
     let end = at + spans[at] as usize;
     let mut here = at + 1;
-    let mut k: u16 = 0;
-    while k < 4 {
+    for k in 1..=u16::from(MOST_CHILDREN) {
         if spans.len() <= here {
-            return Step::Nowhere;
+            return None;
         }
         let size = spans[here] as usize;
         if size == 0 {
-            return Step::Nowhere;
+            return None;
         }
         let e = here + size;
         if end < e {
-            return Step::Nowhere;
+            return None;
         }
         if x < e {
-            return Step::At(k + 1, here);
+            return Some((k, here));
         }
         here = e;
-        k += 1;
     }
-    Step::Nowhere
+    None
 }
 
 // The child numbers from the root to node x into `out`; answers how many, or that there is no such node.
-pub fn put_path(spans: &[u16], x: usize, out: &mut [u16]) -> Depth
+pub fn put_path(spans: &[u16], x: usize, out: &mut [u16]) -> Option<usize>
     requires { 64 ≤ length out.old }
     ensures path { path_in result out.new ≡ path_of spans.now x }
     ensures few { numbers_in result ≤ 64 }
 {
     if spans.len() <= x {
-        return Depth::Nowhere;
+        return None;
     }
     let mut at: usize = 0;
-    let mut d: usize = 0;
-    while d < PATH_NUMBERS {
+    for d in 0..PATH_NUMBERS {
         if at == x {
-            return Depth::Of(d);
+            return Some(d);
         }
         match find_child(spans, x, at) {
-            Step::Nowhere => {
-                return Depth::Nowhere;
+            None => {
+                return None;
             }
-            Step::At(i, c) => {
+            Some((i, c)) => {
                 out[d] = i;
                 at = c;
             }
         }
-        d += 1;
     }
     if at == x {
-        return Depth::Of(d);
+        return Some(PATH_NUMBERS);
     }
-    Depth::Nowhere
+    None
 }
 
 // The decimal digits of n, at most `left` of them, from `at` on; answers the place after them.
@@ -94,12 +89,9 @@ pub fn put_text(text: &[u8], out: &mut [u8], at: usize) -> usize
     ensures count { result ≡ at + length text.now }
     ensures buffer { out.new ≡ sets out.old at text.now }
 {
-    let mut i = 0;
-    while i < text.len() {
-        out[at + i] = text[i];
-        i += 1;
-    }
-    at + i
+    let end = at + text.len();
+    out[at..end].copy_from_slice(text);
+    end
 }
 
 // A text and a number behind it, from `at` on; answers the place after them.
@@ -114,15 +106,15 @@ pub fn put_field(text: &[u8], n: usize, out: &mut [u8], at: usize) -> usize
 }
 
 // How many states there are, or `-`, behind their name.
-pub fn put_states(states: States, out: &mut [u8], at: usize) -> usize
+pub fn put_states(states: Option<usize>, out: &mut [u8], at: usize) -> usize
     requires { at + 28 ≤ length out.old }
     ensures count { result ≡ at + length (states_field states) }
     ensures buffer { out.new ≡ sets out.old at (states_field states) }
     ensures few { result ≤ at + 28 }
 {
     match states {
-        States::Of(n) => put_field(b" states ", n, out, at),
-        States::NoPlan => put_text(b" states -", out, at),
+        Some(n) => put_field(b" states ", n, out, at),
+        None => put_text(b" states -", out, at),
     }
 }
 
@@ -133,15 +125,13 @@ pub fn put_dotted(path: &[u16], out: &mut [u8], at: usize) -> usize
     ensures buffer { out.new ≡ sets out.old at (path_text path.now) }
     ensures few { result ≤ at + (21 * length path.now + 1) }
 {
-    if path.len() == 0 {
+    let Some((first, rest)) = path.split_first() else {
         return put_text(b"-", out, at);
-    }
-    let mut here = put_digits(path[0] as usize, NUMBER_DIGITS, out, at);
-    let mut i = 1;
-    while i < path.len() {
+    };
+    let mut here = put_digits(*first as usize, NUMBER_DIGITS, out, at);
+    for number in rest {
         out[here] = b'.';
-        here = put_digits(path[i] as usize, NUMBER_DIGITS, out, here + 1);
-        i += 1;
+        here = put_digits(*number as usize, NUMBER_DIGITS, out, here + 1);
     }
     here
 }

@@ -1,90 +1,72 @@
-use crate::failing::fail_output;
-use crate::holding::{HELD_BYTES, Held, Shown};
-use crate::names::find_names;
-use crate::reading::find_in;
-use crate::{first, holding, reading};
-use running::files::{PATH_BYTES, argument, has_argument};
+use crate::engines::Engine;
+use crate::failing::Failure;
+use crate::finding::Finder;
+use crate::holding::{HELD_BYTES, Output};
+use running::failing::fail;
+use running::files::{Name, has_argument};
+use running::texts::same;
+use std::io;
 
 // What the arguments ask for.
 #[derive(Clone, Copy)]
 enum Asked {
     Input,
-    Arguments(usize),
-    Names,
-    NamesAndProgress,
+    Arguments,
+    Names { progress: bool },
 }
 
 // Prints the reports that the program's arguments ask for.
-pub fn answer(rt: &HostRuntime, by_plan: bool) {
-    let mut out = [0u8; HELD_BYTES];
-    let held = find_asked(rt, by_plan, asked_by(rt, arg_count(rt)), &mut out);
-    match holding::write(rt, &out, held) {
-        Held::Lost(error) => fail_output(rt, by_plan, error),
-        Held::Bytes(_) => {}
-    }
-}
-
-// The program's own name is counted.
-fn arg_count(rt: &HostRuntime) -> usize {
-    for i in 0..usize::MAX {
-        if !has_argument(rt, i) {
-            return i;
+pub fn answer<'a, E: Engine>(rt: &'a HostRuntime, engine: &'a E) {
+    let mut bytes = [0u8; HELD_BYTES];
+    let mut finder = Finder {
+        rt,
+        engine,
+        out: Output::new(rt, &mut bytes),
+    };
+    match find_asked(&mut finder, asked_by(rt)) {
+        Ok(()) => {}
+        Err(Failure::Output(error)) => {
+            fail(&rt.stderr(), engine.program(), b"standard output", error)
         }
+        Err(Failure::Names(error)) => fail(&rt.stderr(), engine.program(), b"names", error),
     }
-    usize::MAX
 }
 
-fn asked_by(rt: &HostRuntime, n: usize) -> Asked {
-    if n < 2 {
+fn asked_by(rt: &HostRuntime) -> Asked {
+    let Some(first) = Name::argument(rt, 1) else {
         return Asked::Input;
-    }
-    if is_argument(rt, 1, b"--names") {
-        if n == 2 {
-            return Asked::Names;
-        }
-        if n == 3 {
-            if is_argument(rt, 2, b"--progress") {
-                return Asked::NamesAndProgress;
-            }
+    };
+    if same(first.as_bytes(), b"--names") {
+        let Some(second) = Name::argument(rt, 2) else {
+            return Asked::Names { progress: false };
+        };
+        if same(second.as_bytes(), b"--progress") && !has_argument(rt, 3) {
+            return Asked::Names { progress: true };
         }
     }
-    Asked::Arguments(n)
+    Asked::Arguments
 }
 
-fn is_argument(rt: &HostRuntime, i: usize, word: &[u8]) -> bool {
-    let mut name = [0u8; PATH_BYTES];
-    let n = argument(rt, i, &mut name).unwrap_or(0);
-    reading::same(first::bytes(&name, n), word)
-}
-
-fn find_asked(rt: &HostRuntime, by_plan: bool, asked: Asked, out: &mut [u8]) -> Held {
+fn find_asked<E: Engine>(finder: &mut Finder<'_, '_, E>, asked: Asked) -> Result<(), Failure> {
     match asked {
-        Asked::Input => find_in(rt, by_plan, &mut rt.stdin(), out, Held::Bytes(0)).held(),
-        Asked::Arguments(n) => find_arguments(rt, by_plan, n, out),
-        Asked::Names => find_names(rt, by_plan, false, out),
-        Asked::NamesAndProgress => find_names(rt, by_plan, true, out),
-    }
-}
-
-fn find_arguments(rt: &HostRuntime, by_plan: bool, n: usize, out: &mut [u8]) -> Held {
-    let mut held = Held::Bytes(0);
-    for i in 1..n {
-        held = find_argument(rt, by_plan, i, out, held);
-        if held.is_lost() {
-            return held;
+        Asked::Input => {
+            finder.find_in(&mut finder.rt.stdin())?;
         }
+        Asked::Arguments => find_arguments(finder)?,
+        Asked::Names { progress } => finder.find_names(progress)?,
     }
-    held
+    finder.out.write()?;
+    Ok(())
 }
 
-fn find_argument(rt: &HostRuntime, by_plan: bool, i: usize, out: &mut [u8], held: Held) -> Held {
-    let mut name = [0u8; PATH_BYTES];
-    let n = argument(rt, i, &mut name).unwrap_or(0);
-    find_named(rt, by_plan, first::bytes(&name, n), out, held).held()
-}
-
-fn find_named(rt: &HostRuntime, by_plan: bool, path: &[u8], out: &mut [u8], held: Held) -> Shown {
-    let named = holding::put_text(rt, path, out, held);
-    let ended = holding::put_byte(rt, b'\n', out, named);
-    reading::find_file(rt, by_plan, path, &mut rt.stdin(), out, ended)
+fn find_arguments<E: Engine>(finder: &mut Finder<'_, '_, E>) -> io::Result<()> {
+    for i in 1..usize::MAX {
+        let Some(name) = Name::argument(finder.rt, i) else {
+            return Ok(());
+        };
+        finder.out.put_text(name.as_bytes())?;
+        finder.out.put_byte(b'\n')?;
+        finder.find_file(name.as_bytes(), &mut finder.rt.stdin())?;
+    }
+    Ok(())
 }

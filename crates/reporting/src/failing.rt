@@ -1,19 +1,14 @@
-// Each says on standard error which program's call failed, and why.
-use running::failing::fail;
 use std::io::Error;
 
-pub fn fail_output(rt: &HostRuntime, by_plan: bool, error: Error) {
-    if by_plan {
-        fail(&rt.stderr(), b"find: standard output", error);
-    } else {
-        fail(&rt.stderr(), b"simple: standard output", error);
-    }
+// What ends a run before all is done: output that is lost, or names that cannot be read.
+#[derive(Clone, Copy)]
+pub enum Failure {
+    Output(Error),
+    Names(Error),
 }
 
-pub fn fail_names(rt: &HostRuntime, by_plan: bool, error: Error) {
-    if by_plan {
-        fail(&rt.stderr(), b"find: names", error);
-    } else {
-        fail(&rt.stderr(), b"simple: names", error);
+impl From<Error> for Failure {
+    fn from(error: Error) -> Failure {
+        Failure::Output(error)
     }
 }

@@ -1,5 +1,6 @@
 // The changes of a table, each with a space behind it: TABLE@I=V, TABLE+V, TABLE-K. The marks are changed as a table with no name: I:V.
-use crate::texts::{before, begins, behind, ended, has, next_from, value_of};
+use crate::parts::{Entry, put};
+use crate::texts::{before, begins, behind, has, value_of};
 
 // A value at an index, a value behind the last, or so many of the last left out.
 #[derive(Clone, Copy)]
@@ -7,86 +8,27 @@ enum Change {
     At(usize, usize),
     Behind(usize),
     Without(usize),
-    Nothing,
 }
 
-// The lengths of a folio's tables.
-#[derive(Clone, Copy)]
-pub struct Lengths {
-    pub symbols: usize,
-    pub words: usize,
-    pub starts: usize,
-    pub score: usize,
-    pub spans: usize,
-}
-
-impl Lengths {
-    // As opening writes them.
-    pub fn opened(symbols: usize, words: usize, shapes: usize, nodes: usize) -> Lengths {
-        Lengths {
-            symbols,
-            words,
-            starts: shapes,
-            score: nodes,
-            spans: nodes,
+// How many entries a table of n has when what `changes` says of it is done.
+pub fn change_table<T: Entry>(changes: &[u8], table: &[u8], entries: &mut [T], n: usize) -> usize {
+    let mut now = n;
+    for ended in changes.split_inclusive(|byte| *byte == b' ') {
+        if let Some(text) = ended.strip_suffix(b" ") {
+            now = change_of(text, table).map_or(now, |change| change.make(entries, now));
         }
     }
-}
-
-// How long the tables are when the changes are done.
-pub fn change_tables(
-    changes: &[u8],
-    symbols: &mut [u8],
-    words: &mut [u16],
-    starts: &mut [u16],
-    score: &mut [u16],
-    spans: &mut [u16],
-    n: Lengths,
-) -> Lengths {
-    Lengths {
-        symbols: change_symbols(changes, symbols, n.symbols),
-        words: change_words(changes, b"shapes", words, n.words),
-        starts: change_words(changes, b"starts", starts, n.starts),
-        score: change_words(changes, b"score", score, n.score),
-        spans: change_words(changes, b"spans", spans, n.spans),
-    }
-}
-
-// How many words a table of n words has when what `changes` says of it is done.
-pub fn change_words(changes: &[u8], table: &[u8], words: &mut [u16], n: usize) -> usize {
-    let mut now = n;
-    let mut from: usize = 0;
-    for i in 0..changes.len() {
-        let change = change_of(ended(changes, from, i, b' '), table);
-        now = change_word(change, words, now);
-        from = next_from(changes, from, i, b' ');
-    }
     now
 }
 
-// The same for the symbols, which are bytes.
-pub fn change_symbols(changes: &[u8], symbols: &mut [u8], n: usize) -> usize {
-    let mut now = n;
-    let mut from: usize = 0;
-    for i in 0..changes.len() {
-        let change = change_of(ended(changes, from, i, b' '), b"symbols");
-        now = change_symbol(change, symbols, now);
-        from = next_from(changes, from, i, b' ');
+fn change_of(text: &[u8], table: &[u8]) -> Option<Change> {
+    if text.is_empty() || !begins(text, table) {
+        return None;
     }
-    now
-}
-
-fn change_of(text: &[u8], table: &[u8]) -> Change {
-    if text.len() == 0 {
-        return Change::Nothing;
+    if table.is_empty() {
+        return Some(change_at(text, b':'));
     }
-    if table.len() == 0 {
-        return change_at(text, b':');
-    }
-    if begins(text, table) {
-        return signed_change(text);
-    }
-    Change::Nothing
+    Some(signed_change(text))
 }
 
 // No name of a table has a sign in it.
@@ -104,59 +46,19 @@ fn change_at(text: &[u8], sign: u8) -> Change {
     Change::At(value_of(before(text, sign)), value_of(behind(text, sign)))
 }
 
-fn change_word(change: Change, words: &mut [u16], n: usize) -> usize {
-    match change {
-        Change::At(i, value) => {
-            put_word(words, i, value);
-            n
+impl Change {
+    // Made in a table of n entries; how many there are then. No table comes near the greatest length.
+    fn make<T: Entry>(self, entries: &mut [T], n: usize) -> usize {
+        match self {
+            Change::At(i, value) => {
+                put(entries, i, value);
+                n
+            }
+            Change::Behind(value) => {
+                put(entries, n, value);
+                n.saturating_add(1)
+            }
+            Change::Without(k) => n.saturating_sub(k),
         }
-        Change::Behind(value) => {
-            put_word(words, n, value);
-            longer(n)
-        }
-        Change::Without(k) => shorter(n, k),
-        Change::Nothing => n,
     }
-}
-
-fn put_word(words: &mut [u16], i: usize, value: usize) {
-    if i < words.len() {
-        words[i] = (value % 65536) as u16;
-    }
-}
-
-fn change_symbol(change: Change, symbols: &mut [u8], n: usize) -> usize {
-    match change {
-        Change::At(i, value) => {
-            put_symbol(symbols, i, value);
-            n
-        }
-        Change::Behind(value) => {
-            put_symbol(symbols, n, value);
-            longer(n)
-        }
-        Change::Without(k) => shorter(n, k),
-        Change::Nothing => n,
-    }
-}
-
-fn put_symbol(symbols: &mut [u8], i: usize, value: usize) {
-    if i < symbols.len() {
-        symbols[i] = (value % 256) as u8;
-    }
-}
-
-// No table comes near this length.
-fn longer(n: usize) -> usize {
-    if 65535 < n {
-        return n;
-    }
-    n + 1
-}
-
-fn shorter(n: usize, k: usize) -> usize {
-    if n < k {
-        return 0;
-    }
-    n - k
 }

@@ -7,9 +7,6 @@ use std::io;
 use std::io::Read;
 use std::rt::Files;
 
-// As much is read of the cases on standard input.
-pub const INPUT_BYTES: usize = 65536;
-
 // No input takes as many turns.
 const MOST_TURNS: u64 = 0x7fffffffffffffff;
 
@@ -57,13 +54,10 @@ pub fn read_full(input: &mut impl Read, bytes: &mut [u8]) -> usize
     ensures { result ≤ length bytes.new }
 {
     let mut n: usize = 0;
-    for turn in 0..bytes.len() {
-        if n < bytes.len() {
-            match input.read(&mut bytes[n..]) {
-                Ok(0) => return n,
-                Ok(more) => n += more,
-                Err(_) => return n,
-            }
+    while n < bytes.len() {
+        match input.read(&mut bytes[n..]) {
+            Ok(more) if 0 < more => n += more,
+            _ => break,
         }
     }
     n

@@ -1,38 +1,33 @@
 -- Words along bytes.
---   words_next words_end    the words from a byte on
 --   fill_next fill_end      a loop that stores them
 --   length_words            an even number of bytes
 --   words_take words_drop   parts of words are words of parts
 use Prim.Native.Nat.{ℕ, zero, suc, ◌+◌, ◌*◌, ◌<◌, ◌≤◌}
-use mathlib.Core.Path.{◌≡◌, refl, ap, sym, ◌∙◌}
-use mathlib.Core.List.{List, [], ◌∷◌}
+use mathlib.Core.Path.{◌≡◌, refl, ap}
+use mathlib.Core.List.{List, [], ◌∷◌, ◌++◌}
 use native.Mathlib.Omega.{arith}
 use native.Mathlib.Numerals.{add-one}
 use lib.ListN.{length, get_or, take, drop, set}
 use lib.Seq.{sets}
-use Rattle.kinds.proofs.ListLaws.{from}
-use Rattle.sections.specs.Bytes.{word_at, words_of}
+use Rattle.sections.specs.Bytes.{words_of}
 
-pub words_next : (b : List ℕ) (i : ℕ) → i + 1 < length b → words_of (drop i b) ≡ word_at b i ∷ words_of (drop (i + 2) b)
+-- two bytes more
+pub fill_next : (o : List ℕ) (k : ℕ) (rest pair next : List ℕ) {at after w : ℕ} → rest ≡ pair ++ next → length pair ≡ 2
+    → at ≡ k → after ≡ k + 1 → w ≡ get_or pair 0 0 + get_or pair 1 0 * 256
+    → sets o k (words_of rest) ≡ sets (set o at w) after (words_of next)
 unfolding words_of
-words_next b i h =
-    let e : i + 1 + 1 ≡ i + 2 = omega arith in
-    ap words_of (from b i (omega arith) ∙ ap (λ (r : List ℕ). get_or b i 0 ∷ r) (from b (i + 1) h ∙ ap (λ (n : ℕ). get_or b (i + 1) 0 ∷ drop n b) e))
+fill_next o k rest [] next e l ea en ew = absurd (omega arith)
+fill_next o k rest (x ∷ []) next e l ea en ew = absurd (omega arith)
+fill_next o k rest (x ∷ y ∷ z ∷ pair) next e l ea en ew = absurd (omega arith)
+fill_next o k rest (x ∷ y ∷ []) next {at} {after} {w} e l ea en ew =
+    let v : w ≡ x + 256 * y = omega arith in
+    rw (e, ea, en, v, add-one k) refl
 
-pub words_end : (b : List ℕ) (i : ℕ) → length b ≤ i + 1 → words_of (drop i b) ≡ []
+pub fill_end : (o : List ℕ) (k : ℕ) (rest : List ℕ) → length rest < 2 → sets o k (words_of rest) ≡ o
 unfolding words_of
-words_end [] zero h = refl
-words_end [] (suc i) h = refl
-words_end (x ∷ []) zero h = refl
-words_end (x ∷ y ∷ r) zero h = absurd (omega arith)
-words_end (x ∷ b) (suc i) h = words_end b i (omega arith)
-
-pub fill_next : (o b : List ℕ) (k i : ℕ) → i + 1 < length b
-    → sets o k (words_of (drop i b)) ≡ sets (set o k (word_at b i)) (k + 1) (words_of (drop (i + 2) b))
-fill_next o b k i h = ap (sets o k) (words_next b i h) ∙ ap (λ (n : ℕ). sets (set o k (word_at b i)) n (words_of (drop (i + 2) b))) (sym (add-one k))
-
-pub fill_end : (o b : List ℕ) (k i : ℕ) → length b ≤ i + 1 → sets o k (words_of (drop i b)) ≡ o
-fill_end o b k i h = ap (sets o k) (words_end b i h)
+fill_end o k [] h = refl
+fill_end o k (x ∷ []) h = refl
+fill_end o k (x ∷ y ∷ rest) h = absurd (omega arith)
 
 -- an even number of bytes
 pub length_words : (n : ℕ) (b : List ℕ) → length b ≡ 2 * n → length (words_of b) ≡ n

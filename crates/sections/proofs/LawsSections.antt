@@ -1,51 +1,54 @@
 -- Refusals 1 to 6, way by way.
---   count_over count_next counts_end                 6: counts above 4, from one on
+--   first_over                                       6: the first count above 4
 --   symbols_none symbols_many symbols_each           5
+--   symbols_over                                     5 passed, and 6
 --   trailer_short trailer_long trailer_first trailer_second   1 to 3
 --   trailer_to distances_at                          1 to 3 passed, and 4
---   Placed distances_in trailer_in                   what a file that passes 1 to 4 has
+--   Placed distances_in trailer_in                   what a file that granted 1 to 4 has
 --   sections_in sections_placed sections_good sections_symbols sections_trailer   1 to 6
+use Rattle.kinds.specs.declared.Refusal.{Refusal}
+use Rattle.kinds.specs.Reasons.{refused_at}
 use Prim.Native.Nat.{ℕ, ◌+◌, ◌*◌, ◌-◌, ◌/◌, ◌%◌, ◌<◌, ◌≤◌}
-use mathlib.Core.Path.{◌≡◌, refl, ap, ◌∙◌}
-use mathlib.Core.List.{List}
-use mathlib.Core.Bool.{Bool, true, false}
+use mathlib.Core.Path.{◌≡◌, refl, ap, sym, ◌∙◌}
+use mathlib.Core.List.{List, [], ◌∷◌}
+use mathlib.Core.Bool.{Bool, true, false, cond}
 use native.Mathlib.Omega.{arith}
-use borrow.Author.Tests.{le-leb, lt-leb, eq-eqb, ne_eqb, leb-true, eqb-true}
-use lib.Dec.{leb, eqb}
-use lib.ListN.{length, get_or, take, drop}
+use borrow.Author.Tests.{le-leb, lt-leb, lt-ltb, le-ltb, eq-eqb, ne_eqb, leb-true, leb-false, eqb-true}
+use lib.Dec.{leb, ltb, eqb}
+use Rattle.std.specs.Prelude.{Option, Some, None, position, Err, Ok, Result}
+use Rattle.std.specs.List.{position_from}
+use Rattle.std.proofs.lemmas.Iterator.Adapters.{position_from-zero}
+use lib.ListN.{length, get_or, take}
 use Rattle.kinds.specs.Lists.{unless}
-use Rattle.kinds.proofs.ListLaws.{from, from_end}
 use Rattle.kinds.specs.declared.Reason.{Reason}
 use Rattle.kinds.specs.declared.Reason.TheVariants.{Short, Long, EndBytes, Trailer, Symbols, Children}
 use Rattle.sections.specs.Bytes.{word_at}
-use Rattle.sections.specs.Sections.{places, distances_of, trailer_of, over_at, symbols_of, judged, with_symbols, sections_of}
+use Rattle.sections.specs.Sections.{places, distances_of, trailer_of, over_at, symbols_of, judged, with_symbols, sections_of, granted}
 use Rattle.sections.specs.declared.Places.{Places}
-use Rattle.sections.specs.declared.Sections.{Sections}
-use Rattle.sections.specs.declared.Sections.TheVariants.{At, Refused}
-use Rattle.sections.specs.declared.Verdict.{Verdict}
-use Rattle.sections.specs.declared.Verdict.TheVariants.{Good, Bad}
 
 -- ---- symbols
 
-module _ (ar : List ℕ) (i : ℕ) where
-  pub count_over : i < length ar → 4 < get_or ar i 0 → over_at i (drop i ar) ≡ Bad Children i
-  unfolding over_at
-  count_over h g = ap (over_at i) (from ar i h) ∙ rw (lt-leb _ _ g)
+-- the verdict on the first count above 4, where there is one
+abbrev pub first_over : Option ℕ → Result Unit Refusal
+first_over (Some i) = Err (refused_at Children i)
+first_over None = granted
 
-  pub count_next : i < length ar → get_or ar i 0 ≤ 4 → over_at i (drop i ar) ≡ over_at (i + 1) (drop (i + 1) ar)
-  unfolding over_at
-  count_next h g = ap (over_at i) (from ar i h) ∙ rw (le-leb _ _ g)
-
-  pub counts_end : length ar ≤ i → over_at i (drop i ar) ≡ Good
-  unfolding over_at
-  counts_end h = ap (over_at i) (from_end ar i h)
+counts_over : (i : ℕ) (ar : List ℕ) → over_at i ar ≡ first_over (position_from (λ n. ltb 4 n) i ar)
+unfolding over_at
+counts_over i [] = refl
+counts_over i (x ∷ xs) = go (leb x 4) refl (counts_over (i + 1) xs)
+  where
+    go : (b : Bool) → leb x 4 ≡ b → over_at (i + 1) xs ≡ first_over (position_from (λ n. ltb 4 n) (i + 1) xs)
+        → unless (leb x 4) (Err (refused_at Children i)) (over_at (i + 1) xs) ≡ first_over (cond (ltb 4 x) (Some i) (position_from (λ n. ltb 4 n) (i + 1) xs))
+    go true e ih = rw (e, le-ltb 4 x (leb-true x 4 e)) ih
+    go false e ih = rw (e, lt-ltb 4 x (leb-false x 4 e)) refl
 
 module _ (ar : List ℕ) where
-  pub symbols_none : length ar < 1 → symbols_of ar ≡ Bad Symbols 0
+  pub symbols_none : length ar < 1 → symbols_of ar ≡ Err (refused_at Symbols 0)
   unfolding symbols_of
   symbols_none h = rw (lt-leb 1 (length ar) h)
 
-  pub symbols_many : 1 ≤ length ar → 32 < length ar → symbols_of ar ≡ Bad Symbols 0
+  pub symbols_many : 1 ≤ length ar → 32 < length ar → symbols_of ar ≡ Err (refused_at Symbols 0)
   unfolding symbols_of
   symbols_many h g = rw (le-leb 1 (length ar) h, lt-leb (length ar) 32 g)
 
@@ -53,23 +56,26 @@ module _ (ar : List ℕ) where
   unfolding symbols_of
   symbols_each h g = rw (le-leb 1 (length ar) h, le-leb (length ar) 32 g)
 
+  pub symbols_over : {o : Option ℕ} → 1 ≤ length ar → length ar ≤ 32 → position (λ n. ltb 4 n) ar ≡ o → symbols_of ar ≡ first_over o
+  symbols_over h g e = symbols_each h g ∙ counts_over 0 ar ∙ ap first_over (sym (position_from-zero (λ n. ltb 4 n) ar) ∙ e)
+
 -- ---- the trailer
 
 module _ (s : List ℕ) where
-  pub trailer_short : length s < 8 → trailer_of s ≡ Refused Short (length s)
+  pub trailer_short : length s < 8 → trailer_of s ≡ Err (refused_at Short (length s))
   unfolding trailer_of
   trailer_short h = rw (lt-leb 8 (length s) h)
 
-  pub trailer_long : 8 ≤ length s → 8744 < length s → trailer_of s ≡ Refused Long (length s)
+  pub trailer_long : 8 ≤ length s → 8744 < length s → trailer_of s ≡ Err (refused_at Long (length s))
   unfolding trailer_of
   trailer_long a h = rw (le-leb 8 (length s) a, lt-leb (length s) 8744 h)
 
-  pub trailer_first : 8 ≤ length s → length s ≤ 8744 → (get_or s (length s - 2) 0 ≡ 83 → ⊥) → trailer_of s ≡ Refused EndBytes (length s - 2)
+  pub trailer_first : 8 ≤ length s → length s ≤ 8744 → (get_or s (length s - 2) 0 ≡ 83 → ⊥) → trailer_of s ≡ Err (refused_at EndBytes (length s - 2))
   unfolding trailer_of
   trailer_first a b h = rw (le-leb 8 (length s) a, le-leb (length s) 8744 b, ne_eqb _ _ h)
 
   pub trailer_second : 8 ≤ length s → length s ≤ 8744 → get_or s (length s - 2) 0 ≡ 83 → (get_or s (length s - 1) 0 ≡ 67 → ⊥)
-      → trailer_of s ≡ Refused EndBytes (length s - 2)
+      → trailer_of s ≡ Err (refused_at EndBytes (length s - 2))
   unfolding trailer_of
   trailer_second a b c h = rw (le-leb 8 (length s) a, le-leb (length s) 8744 b, eq-eqb _ _ c, ne_eqb _ _ h)
 
@@ -81,11 +87,11 @@ trailer_to s h1 h2 h3 h4 {a} {b} {c} ea eb ec =
     rw (le-leb _ _ h1, le-leb _ _ h2, eq-eqb _ _ h3, eq-eqb _ _ h4) in
     rw (ea, eb, ec) e
 
-pub distances_at : (e a b c : ℕ) → a ≡ e → b ≤ a → c ≤ b → b % 2 ≡ 0 → c % 2 ≡ 0 → distances_of e a b c ≡ At (places (e - b) (e - c) e)
+pub distances_at : (e a b c : ℕ) → a ≡ e → b ≤ a → c ≤ b → b % 2 ≡ 0 → c % 2 ≡ 0 → distances_of e a b c ≡ Ok (places (e - b) (e - c) e)
 unfolding distances_of
 distances_at e a b c ea ba cb eb ec = rw (eq-eqb a e ea, le-leb b a ba, le-leb c b cb, eq-eqb (b % 2) 0 eb, eq-eqb (c % 2) 0 ec)
 
--- ---- what a file that passes 1 to 6 has
+-- ---- what a file that granted 1 to 6 has
 
 pub record Placed (s : List ℕ) (p : Places) : Type 0 where
   pub first : p.shapes ≤ p.score
@@ -98,15 +104,15 @@ pub record Placed (s : List ℕ) (p : Places) : Type 0 where
   pub score_words : p.end ≡ p.score + 2 * nodes
 
 -- a refusal is no place
-pub never {κ} : {C : Type κ} {r : Reason} {q : ℕ} {p : Places} → Refused r q ≡ At p → C
+pub never {κ} : {C : Type κ} {r : Reason} {q : ℕ} {p : Places} → Err (refused_at r q) ≡ Ok p → C
 never e = let z : ◌≡◌ {A = ℕ} 0 1 = cc in absurd (omega arith)
 
-on_unless {κ} : {C : Type κ} (t : Bool) (r : Reason) (q : ℕ) (x : Sections) (p : Places) → unless t (Refused r q) x ≡ At p → (t ≡ true → x ≡ At p → C)
+on_unless {κ} : {C : Type κ} (t : Bool) (r : Reason) (q : ℕ) (x : Result Places Refusal) (p : Places) → unless t (Err (refused_at r q)) x ≡ Ok p → (t ≡ true → x ≡ Ok p → C)
     → C
 on_unless true r q x p e k = k refl e
 on_unless false r q x p e k = never e
 
-pub distances_in : (e a b c : ℕ) (p : Places) → distances_of e a b c ≡ At p → (b ≤ e) × (c ≤ b) × (b % 2 ≡ 0) × (c % 2 ≡ 0)
+pub distances_in : (e a b c : ℕ) (p : Places) → distances_of e a b c ≡ Ok p → (b ≤ e) × (c ≤ b) × (b % 2 ≡ 0) × (c % 2 ≡ 0)
     × (p ≡ places (e - b) (e - c) e)
 unfolding distances_of
 distances_in e a b c p h =
@@ -120,7 +126,7 @@ distances_in e a b c p h =
     let q : p ≡ places (e - b) (e - c) e = cc in
     (omega arith, leb-true c b t3, eqb-true (b % 2) 0 t4, eqb-true (c % 2) 0 t5, q)
 
-pub trailer_in : (s : List ℕ) (p : Places) → trailer_of s ≡ At p → Placed s p
+pub trailer_in : (s : List ℕ) (p : Places) → trailer_of s ≡ Ok p → Placed s p
 unfolding trailer_of
 trailer_in s p h =
     on_unless (leb 8 (length s)) Short (length s) _ p h λ t1 h1.
@@ -144,35 +150,35 @@ trailer_in s p h =
           score_words = omega (arith, d.0, d.1, d.3);
         })
 
-pub never_bad {κ} : {C : Type κ} {r : Reason} {q : ℕ} → Bad r q ≡ Good → C
+pub never_bad {κ} : {C : Type κ} {r : Reason} {q : ℕ} → Err (refused_at r q) ≡ granted → C
 never_bad e = let z : ◌≡◌ {A = ℕ} 0 1 = cc in absurd (omega arith)
 
-pub sections_in : (s : List ℕ) (p : Places) → sections_of s ≡ At p → (trailer_of s ≡ At p) × (symbols_of (take p.shapes s) ≡ Good)
+pub sections_in : (s : List ℕ) (p : Places) → sections_of s ≡ Ok p → (trailer_of s ≡ Ok p) × (symbols_of (take p.shapes s) ≡ granted)
 unfolding sections_of
 sections_in s p h = go (trailer_of s) refl h
   where
-    inner : (q : Places) (v : Verdict) → judged v (At q) ≡ At p → (v ≡ Good) × (q ≡ p)
-    inner q Good e = let z : q ≡ p = cc in (refl, z)
-    inner q (Bad r i) e = never e
+    inner : (q : Places) (v : Result Unit Refusal) → judged v (Ok q) ≡ Ok p → (v ≡ granted) × (q ≡ p)
+    inner q (Ok _) e = let z : q ≡ p = cc in (refl, z)
+    inner q (Err why) e = never e
 
-    go : (t : Sections) → trailer_of s ≡ t → with_symbols s t ≡ At p → (trailer_of s ≡ At p) × (symbols_of (take p.shapes s) ≡ Good)
-    go (Refused r i) e k = never k
-    go (At q) e k =
+    go : (t : Result Places Refusal) → trailer_of s ≡ t → with_symbols s t ≡ Ok p → (trailer_of s ≡ Ok p) × (symbols_of (take p.shapes s) ≡ granted)
+    go (Err why) e k = never k
+    go (Ok q) e k =
         let w = inner q (symbols_of (take q.shapes s)) k in
-        (e ∙ ap At w.1, rw (← w.1) w.0)
+        (e ∙ ap Ok w.1, rw (← w.1) w.0)
 
-pub sections_placed : (s : List ℕ) (p : Places) → sections_of s ≡ At p → Placed s p
+pub sections_placed : (s : List ℕ) (p : Places) → sections_of s ≡ Ok p → Placed s p
 sections_placed s p h = trailer_in s p (sections_in s p h).0
 
-pub sections_good : (s : List ℕ) (p : Places) → trailer_of s ≡ At p → symbols_of (take p.shapes s) ≡ Good → sections_of s ≡ At p
+pub sections_good : (s : List ℕ) (p : Places) → trailer_of s ≡ Ok p → symbols_of (take p.shapes s) ≡ granted → sections_of s ≡ Ok p
 unfolding sections_of
 sections_good s p e g = ap (with_symbols s) e ∙ rw g
 
-pub sections_symbols : (s : List ℕ) (p : Places) {r : Reason} {i : ℕ} → trailer_of s ≡ At p → symbols_of (take p.shapes s) ≡ Bad r i
-    → sections_of s ≡ Refused r i
+pub sections_symbols : (s : List ℕ) (p : Places) {r : Reason} {i : ℕ} → trailer_of s ≡ Ok p → symbols_of (take p.shapes s) ≡ Err (refused_at r i)
+    → sections_of s ≡ Err (refused_at r i)
 unfolding sections_of
 sections_symbols s p e g = ap (with_symbols s) e ∙ rw g
 
-pub sections_trailer : (s : List ℕ) {r : Reason} {i : ℕ} → trailer_of s ≡ Refused r i → sections_of s ≡ Refused r i
+pub sections_trailer : (s : List ℕ) {r : Reason} {i : ℕ} → trailer_of s ≡ Err (refused_at r i) → sections_of s ≡ Err (refused_at r i)
 unfolding sections_of
 sections_trailer s e = ap (with_symbols s) e

@@ -1,64 +1,61 @@
-ghost use Rattle.std.specs.Prelude.{◌≡◌, ◌+◌, ◌*◌, ◌<◌, ◌≤◌, length};
+ghost use Rattle.std.specs.Prelude.{◌≡◌, ◌+◌, ◌*◌, ◌<◌, ◌≤◌, length, position, ltb};
 ghost use Rattle.std.proofs.lemmas.List.Edits.{sets};
 ghost use Rattle.sections.specs.Bytes.{word_at, words_of};
 ghost use Rattle.sections.specs.Sections.{distances_of, trailer_of, symbols_of, sections_of};
 
-use crate::{Places, Sections, Verdict};
-use kinds::Reason;
+use crate::Places;
 use kinds::limits::{FILE_BYTES, MOST_CHILDREN, MOST_SYMBOLS, TRAILER_BYTES};
+use kinds::{Reason, Refusal};
 
 // Tests 1 to 6.
-pub fn find_sections(file: &[u8]) -> Sections
+#[tactic(auto, unfolding(crate::specs::Sections::sections_of))]
+pub fn find_sections(file: &[u8]) -> Result<Places, Refusal>
     ensures { result ≡ sections_of file.now }
 {
-    match trailer(file) {
-        Sections::Refused(reason, place) => Sections::Refused(reason, place),
-        Sections::At(p) => {
-            let s = p.shapes;
-            match test_symbols(&file[0..s]) {
-                Verdict::Good => Sections::At(p),
-                Verdict::Bad(reason, place) => Sections::Refused(reason, place),
-            }
-        }
-    }
+    let places = trailer(file)?;
+    let s = places.shapes;
+    test_symbols(&file[0..s])?;
+    Ok(places)
 }
 
 // Tests 5 and 6.
-pub fn test_symbols(symbols: &[u8]) -> Verdict
+#[tactic(auto, unfolding(crate::specs::Sections::symbols_of))]
+pub fn test_symbols(symbols: &[u8]) -> Result<(), Refusal>
     ensures { result ≡ symbols_of symbols.now }
 {
-    if symbols.len() < 1 {
-        return Verdict::Bad(Reason::Symbols, 0);
+    if symbols.is_empty() {
+        return Err(Refusal(Reason::Symbols, 0));
     }
     if MOST_SYMBOLS < symbols.len() {
-        return Verdict::Bad(Reason::Symbols, 0);
+        return Err(Refusal(Reason::Symbols, 0));
     }
-    let mut i = 0;
-    while i < symbols.len() {
-        if MOST_CHILDREN < symbols[i] {
-            return Verdict::Bad(Reason::Children, i);
-        }
-        i += 1;
+    match first_over(symbols) {
+        Some(i) => Err(Refusal(Reason::Children, i)),
+        None => Ok(()),
     }
-    Verdict::Good
+}
+
+// The first symbol with too many children.
+fn first_over(symbols: &[u8]) -> Option<usize>
+    ensures { result ≡ position (λ n. ltb MOST_CHILDREN n) symbols.now }
+{
+    symbols.iter().position(|n| MOST_CHILDREN < *n)
 }
 
 // Tests 1 to 4.
-fn trailer(file: &[u8]) -> Sections
+#[tactic(auto, unfolding(crate::specs::Sections::trailer_of))]
+fn trailer(file: &[u8]) -> Result<Places, Refusal>
     ensures { result ≡ trailer_of file.now }
 {
     let n = file.len();
     if n < TRAILER_BYTES {
-        return Sections::Refused(Reason::Short, n);
+        return Err(Refusal(Reason::Short, n));
     }
     if FILE_BYTES < n {
-        return Sections::Refused(Reason::Long, n);
+        return Err(Refusal(Reason::Long, n));
     }
-    if file[n - 2] != 83 {
-        return Sections::Refused(Reason::EndBytes, n - 2);
-    }
-    if file[n - 1] != 67 {
-        return Sections::Refused(Reason::EndBytes, n - 2);
+    if file[n - 2] != 83 || file[n - 1] != 67 {
+        return Err(Refusal(Reason::EndBytes, n - 2));
     }
     let a = word(file, n - 8);
     let b = word(file, n - 6);
@@ -67,25 +64,14 @@ fn trailer(file: &[u8]) -> Sections
 }
 
 // Test 4: e is the trailer's start.
-fn distances(e: usize, a: usize, b: usize, c: usize) -> Sections
+#[tactic(auto, unfolding(crate::specs::Sections::distances_of))]
+fn distances(e: usize, a: usize, b: usize, c: usize) -> Result<Places, Refusal>
     ensures { result ≡ distances_of e a b c }
 {
-    if a != e {
-        return Sections::Refused(Reason::Trailer, e);
+    if a != e || a < b || b < c || b % 2 != 0 || c % 2 != 0 {
+        return Err(Refusal(Reason::Trailer, e));
     }
-    if a < b {
-        return Sections::Refused(Reason::Trailer, e);
-    }
-    if b < c {
-        return Sections::Refused(Reason::Trailer, e);
-    }
-    if b % 2 != 0 {
-        return Sections::Refused(Reason::Trailer, e);
-    }
-    if c % 2 != 0 {
-        return Sections::Refused(Reason::Trailer, e);
-    }
-    Sections::At(Places {
+    Ok(Places {
         shapes: e - b,
         score: e - c,
         end: e,
@@ -97,7 +83,7 @@ fn word(s: &[u8], at: usize) -> usize
     requires { at + 1 < length s.now }
     ensures { result ≡ word_at s.now at }
 {
-    s[at] as usize + 256 * s[at + 1] as usize
+    u16::from_le_bytes([s[at], s[at + 1]]) as usize
 }
 
 // The words of bytes, low byte first, to the start of `words`.
@@ -105,11 +91,7 @@ pub fn fill(bytes: &[u8], words: &mut [u16])
     requires { length bytes.now ≤ 2 * length words.old }
     ensures { words.new ≡ sets words.old 0 (words_of bytes.now) }
 {
-    let mut i = 0;
-    let mut k = 0;
-    while i + 1 < bytes.len() {
-        words[k] = bytes[i] as u16 + 256 * bytes[i + 1] as u16;
-        k += 1;
-        i += 2;
+    for (k, pair) in bytes.chunks_exact(2).enumerate() {
+        words[k] = u16::from_le_bytes([pair[0], pair[1]]);
     }
 }

@@ -11,15 +11,3 @@ pub struct Places {
     pub score: usize,
     pub end: usize,
 }
-
-#[derive(Clone, Copy)]
-pub enum Sections {
-    At(Places),
-    Refused(Reason, usize),
-}
-
-#[derive(Clone, Copy)]
-pub enum Verdict {
-    Good,
-    Bad(Reason, usize),
-}

@@ -5,7 +5,8 @@
 // `simple --names` takes the names from standard input, a NUL behind each, and counts the files in a last line; `-` is then descriptor 3.
 // `simple --names --progress` says on standard error how many files are done and, when all output is written, the last line again.
 use reporting::asking::answer;
+use reporting::engines::Comparing;
 
 fn main(rt: HostRuntime) {
-    answer(&rt, false);
+    answer(&rt, &Comparing);
 }

@@ -3,6 +3,7 @@
 --   class_…                             put behind the states, and lifted there
 --   lifted_…                            what scratch then holds
 --   met_big met_known met_full met_new  the ways to meet it
+use Rattle.std.specs.Prelude.{Err, Ok}
 use mathlib.Core.Path.{◌≡◌, refl, ap, ap₂, sym, ◌∙◌}
 use mathlib.Core.List.{List, [], ◌∷◌, ◌++◌}
 use Prim.Native.Nat.{ℕ, ◌+◌, ◌-◌, ◌/◌, ◌<◌, ◌≤◌}
@@ -24,7 +25,6 @@ use Rattle.states.specs.Meeting.{place_of, LiftsBehind, Behind, Spared, ClassMee
 use Rattle.states.specs.Parting.{derived_words}
 use Rattle.classes.specs.Squares.{Squared}
 use Rattle.states.specs.declared.Class.{Class}
-use Rattle.states.specs.declared.Going.TheVariants as going
 use Rattle.decoding.proofs.Room.{flat_length}
 use Rattle.goals.proofs.GoalLaws.{goals_length}
 use Rattle.states.proofs.WordArrays.{flat_back, flat_thirds, picked_few}
@@ -110,7 +110,7 @@ module _ {sc : List ℕ} {m : ℕ} {goals : List ℕ} {n : ℕ} {dep : Square} {
     lifted_kept = spared_kept lifted_spared c.kept
 
     -- a class of too many goals
-    pub met_big : 32 < k.goals → MetIs (going.Stopped ManyGoals) new 0 (meet (words [] 0) (states_in sc m) K)
+    pub met_big : 32 < k.goals → MetIs (Err ManyGoals) new 0 (meet (words [] 0) (states_in sc m) K)
     met_big h = meet_big (words [] 0) (states_in sc m) K (omega (arith, l.0))
 
     module _ {x : ℕ} (p : x ≡ place_of (states_in new m) (goals_from new (place_in m) k.goals)) where
@@ -124,7 +124,7 @@ module _ {sc : List ℕ} {m : ℕ} {goals : List ℕ} {n : ℕ} {dep : Square} {
         place : x ≡ (succ_of (words [] 0) (states_in sc m) K).to
         place = lifted_place ∙ place_in_lem [] 0 (states_in sc m) K
 
-        pub met_known : x < m → MetIs (going.On m 2) new 0 (meet (words [] 0) (states_in sc m) K)
+        pub met_known : x < m → MetIs (Ok (m, 2)) new 0 (meet (words [] 0) (states_in sc m) K)
         met_known h =
             let z = states_length sc m in
             let one : List Succ = succ_of (words [] 0) (states_in sc m) K ∷ [] in
@@ -137,11 +137,11 @@ module _ {sc : List ℕ} {m : ℕ} {goals : List ℕ} {n : ℕ} {dep : Square} {
               few = omega arith;
             }
 
-        pub met_full : m ≤ x → m ≡ 128 → MetIs (going.Stopped ManyStates) new 0 (meet (words [] 0) (states_in sc m) K)
+        pub met_full : m ≤ x → m ≡ 128 → MetIs (Err ManyStates) new 0 (meet (words [] 0) (states_in sc m) K)
         met_full h e = let z = states_length sc m in meet_full (words [] 0) (states_in sc m) K small (omega (arith, place)) (omega arith)
 
         pub met_new : m ≤ x → (m ≡ 128 → ⊥)
-            → MetIs (going.On (m + 1) 2) (set new m k.goals) 0 (meet (words [] 0) (states_in sc m) K) × (Behind sc (set new m k.goals))
+            → MetIs (Ok (m + 1, 2)) (set new m k.goals) 0 (meet (words [] 0) (states_in sc m) K) × (Behind sc (set new m k.goals))
         met_new h ne =
             let z = states_length sc m in
             let b = c.kept.few in

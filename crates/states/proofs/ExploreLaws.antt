@@ -1,9 +1,9 @@
 -- Exploring, turn by turn.
 --   Meeting meeting_…                   classes in turn
---   symbol_…                            a state on a symbol, from its parts
 --   block_length words_more             how many words blocks take
 --   Rowing rowing_…                     symbols in turn
 --   Running running_…                   states in turn
+use Rattle.std.specs.Prelude.{Err, Ok, Result}
 use mathlib.Core.Path.{◌≡◌, refl, ap, ap₂, sym, ◌∙◌}
 use mathlib.Core.List.{List, [], ◌∷◌, ◌++◌, map, append_assoc, append-nil}
 use mathlib.Core.Bool.{Bool, true, false, cond}
@@ -30,16 +30,12 @@ use Rattle.decoding.specs.GoodStates.{Ready, GoodState}
 use Rattle.derivatives.specs.Orders.{class_at}
 use Rattle.automaton.specs.Classes.{Square}
 use Rattle.states.specs.Meeting.{Held, Behind, Spared, blocks_length, row_most, ClassesMet, MetIs, SymbolIs, RowIs, ExploredIs}
-use Rattle.states.specs.Parting.{OnSymbol, firsts, classes_by, Parted}
-use Rattle.states.specs.declared.Parts.{Parts}
-use Rattle.states.specs.declared.Going.{Going}
-use Rattle.states.specs.declared.Going.TheVariants as going
-use Rattle.states.specs.declared.Explored.TheVariants as result
+use Rattle.states.specs.Parting.{OnSymbol, classes_by}
 use Rattle.decoding.proofs.Room.{flat_length}
 use Rattle.states.proofs.WordArrays.{flat_back}
 use Rattle.states.proofs.PartLaws.{held_good, on_symbol}
 use Rattle.states.proofs.StateLaws.{states_length, states_at, spared_run, spared_kept, states_more, kept_more, more_behind}
-use Rattle.states.proofs.MeetLaws.{onto, meets_begin, meets_stop, meets_on, meets_end, row_stop, row_on, run_stop, run_on, run_end}
+use Rattle.states.proofs.MeetLaws.{onto, meets_on, row_on, run_stop, run_on, run_end}
 use Rattle.decoding.proofs.GoodLaws.{ready_few, good_start, good_next}
 
 -- one class has one successor
@@ -52,7 +48,6 @@ pub record Meeting (d : Square) (ws : List ℕ) (n : ℕ) (order : List ℕ) (ba
   where
     pub below : j ≤ length order
     pub kept : Kept sc states
-    pub long : length sc ≡ length sc₀
     pub behind : Behind sc₀ sc
     pub sum : count ≡ base + 2 * j
     pub xs : List Succ
@@ -61,29 +56,17 @@ pub record Meeting (d : Square) (ws : List ℕ) (n : ℕ) (order : List ℕ) (ba
         (meets (words [] 0) (states_in sc states) (classes_by d ws n (drop j order)))
 
 module _ {d : Square} {ws : List ℕ} {n : ℕ} {order : List ℕ} {base : ℕ} {sc₀ : List ℕ} {m : ℕ} where
-  pub meeting_begin : Kept sc₀ m → Meeting d ws n order base sc₀ m sc₀ m base 0
-  meeting_begin kept = record {
-    below = omega arith;
-    kept = kept;
-    long = refl;
-    behind = refl;
-    sum = omega arith;
-    xs = [];
-    many = refl;
-    is = meets_begin (words [] 0) (meets (words [] 0) (states_in sc₀ m) (classes_by d ws n order));
-  }
-
   module _ {sc : List ℕ} {states count j : ℕ} (s : Meeting d ws n order base sc₀ m sc states count j) where
     ahead : j < length order
         → classes_by d ws n (drop j order) ≡ class_at d ws n (get_or order j 0 % 128) ∷ classes_by d ws n (drop (j + 1) order)
     ahead h = ap (classes_by d ws n) (from order j h)
 
-    pub meeting_on : j < length order → (sc' : List ℕ) (g : Going) (all more : ℕ) → g ≡ going.On all more
+    pub meeting_on : j < length order → (sc' : List ℕ) (g : Result (ℕ × ℕ) Reason) (all more : ℕ) → g ≡ Ok (all, more)
         → MetIs g sc' 0 (meet (words [] 0) (states_in sc states) (class_at d ws n (get_or order j 0 % 128)))
-        → Behind sc sc' → length sc' ≡ length sc → Meeting d ws n order base sc₀ m sc' all (count + more) (j + 1)
-    meeting_on h sc' g all more e w b l = go (rw e at w)
+        → Behind sc sc' → Meeting d ws n order base sc₀ m sc' all (count + more) (j + 1)
+    meeting_on h sc' g all more e w b = go (rw e at w)
       where
-        go : MetIs (going.On all more) sc' 0 (meet (words [] 0) (states_in sc states) (class_at d ws n (get_or order j 0 % 128)))
+        go : MetIs (Ok (all, more)) sc' 0 (meet (words [] 0) (states_in sc states) (class_at d ws n (get_or order j 0 % 128)))
             → Meeting d ws n order base sc₀ m sc' all (count + more) (j + 1)
         go r =
             let ys = r.succs in
@@ -95,7 +78,6 @@ module _ {d : Square} {ws : List ℕ} {n : ℕ} {order : List ℕ} {base : ℕ} 
             record {
               below = omega arith;
               kept = r.kept;
-              long = l ∙ s.long;
               behind = b ∙ s.behind;
               sum = omega arith;
               xs = s.xs ++ ys;
@@ -105,45 +87,8 @@ module _ {d : Square} {ws : List ℕ} {n : ℕ} {order : List ℕ} {base : ℕ} 
                   (states_in sc' all) ys r.is;
             }
 
-    pub meeting_stop : j < length order → (sc' : List ℕ) (g : Going) (r : Reason) → g ≡ going.Stopped r
-        → MetIs g sc' 0 (meet (words [] 0) (states_in sc states) (class_at d ws n (get_or order j 0 % 128)))
-        → MetIs (going.Stopped r) sc' base (meets (words [] 0) (states_in sc₀ m) (classes_by d ws n order))
-    meeting_stop h sc' g r e w =
-        s.is ∙ ap (λ ks. onto (words [] 0) s.xs (meets (words [] 0) (states_in sc states) ks)) (ahead h)
-        ∙ meets_stop (words [] 0) s.xs (states_in sc states) (class_at d ws n (get_or order j 0 % 128))
-        (classes_by d ws n (drop (j + 1) order)) r (rw e at w)
-
-    pub meeting_end : length order ≤ j → length order ≤ 96
-        → MetIs (going.On states count) sc base (meets (words [] 0) (states_in sc₀ m) (classes_by d ws n order))
-    meeting_end h few =
-        let y = s.many in
-        let c = s.sum in
-        let b = s.below in
-        record {
-          kept = s.kept;
-          succs = s.xs;
-          is = s.is ∙ meets_end (words [] 0) s.xs (states_in sc states) (classes_by d ws n (drop j order))
-              (ap (classes_by d ws n) (from_end order j h));
-          sum = omega arith;
-          few = omega arith;
-        }
-
-pub met_same : (g : Going) (sc : List ℕ) (a b : ℕ) (x y : Met (List GoalWords)) → a ≡ b → x ≡ y → MetIs g sc a x → MetIs g sc b y
+pub met_same : (g : Result (ℕ × ℕ) Reason) (sc : List ℕ) (a b : ℕ) (x y : Met (List GoalWords)) → a ≡ b → x ≡ y → MetIs g sc a x → MetIs g sc b y
 met_same g sc a b x y e d w = rw (← e, ← d) w
-
--- ---- a state on a symbol
-module _ (ar : List ℕ) {tab : List ℕ} {n : ℕ} {sc : List ℕ} {i f : ℕ} {r : Parts} {out goals order : List ℕ} {dep : Square}
-    (p : Parted tab n sc i f (get_or ar f 0) r out goals dep order) where
-  pub symbol_base : 2 + 2 * r.announced ≤ 1000
-  symbol_base = omega (arith, p.few_outs)
-
-  pub symbol_met : (m : ℕ) (g : Going) (new : List ℕ)
-      → MetIs g new (2 + 2 * r.announced) (meets (words [] 0) (states_in sc m) (classes_by dep goals r.goals (firsts r.classes order)))
-      → SymbolIs g ar tab n sc m i f new
-  symbol_met m g new w =
-      let many : r.announced ≡ length ((words tab n).outputs (state_in sc i) f (get_or ar f 0)) =
-      p.outs ∙ sym (length-map (outputs_w tab (label_code tab (state_in sc i)) f (state_in sc i)) announcement_w) in
-      met_same g new _ _ _ _ (ap (λ x. 2 + 2 * x) many) (ap (meets (words tab n) (states_in sc m)) p.classes) w
 
 -- ---- how many words blocks take
 pub pairs_length : {A : Type 0} (F G : A → ℕ) (xs : List A) → length (gather (λ x. F x ∷ G x ∷ []) xs) ≡ 2 * length xs
@@ -187,7 +132,6 @@ outputs_few tab c f gs h =
 pub record Rowing (ar tab : List ℕ) (n : ℕ) (sc₀ : List ℕ) (m i : ℕ) (sc : List ℕ) (states count f : ℕ) : Type 0 where
   pub below : f ≤ length ar
   pub held : Held ar tab n sc states
-  pub long : length sc ≡ length sc₀
   pub behind : Behind sc₀ sc
   pub inside : i < states
   pub still : state_in sc i ≡ state_in sc₀ i
@@ -199,20 +143,6 @@ pub record Rowing (ar tab : List ℕ) (n : ℕ) (sc₀ : List ℕ) (m i : ℕ) (
       (bs ++ more)
 
 module _ {ar tab : List ℕ} {n : ℕ} {sc₀ : List ℕ} {m i : ℕ} where
-  pub rowing_begin : Held ar tab n sc₀ m → i < m → Rowing ar tab n sc₀ m i sc₀ m 0 0
-  rowing_begin held h = record {
-    below = omega arith;
-    held = held;
-    long = refl;
-    behind = refl;
-    inside = h;
-    still = refl;
-    sum = omega arith;
-    more = [];
-    many = refl;
-    is = λ bs. ap (row (words tab n) i (state_in sc₀ i) 0 ar (states_in sc₀ m)) (sym (append-nil bs));
-  }
-
   module _ {sc : List ℕ} {states count f : ℕ} (s : Rowing ar tab n sc₀ m i sc states count f) (h : f < length ar) where
     here_good : GoodState ar tab n (state_in sc₀ i)
     here_good = rw (← s.still) (held_good s.held s.inside)
@@ -220,9 +150,9 @@ module _ {ar tab : List ℕ} {n : ℕ} {sc₀ : List ℕ} {m i : ℕ} where
     pub rowing_symbol : (c : ℕ) → c ≡ label_code tab (state_in sc₀ i) → OnSymbol ar tab n sc i c f
     rowing_symbol c e = on_symbol s.held s.inside c f (e ∙ ap (label_code tab) (sym s.still)) h
 
-    pub rowing_on : (sc' : List ℕ) (g : Going) (all more : ℕ) → g ≡ going.On all more → SymbolIs g ar tab n sc states i f sc'
-        → Behind sc sc' → length sc' ≡ length sc → Rowing ar tab n sc₀ m i sc' all (count + more) (f + 1)
-    rowing_on sc' g all more e w b l = go (rw (e, s.still) at w)
+    pub rowing_on : (sc' : List ℕ) (g : Result (ℕ × ℕ) Reason) (all more : ℕ) → g ≡ Ok (all, more) → SymbolIs g ar tab n sc states i f sc'
+        → Behind sc sc' → Rowing ar tab n sc₀ m i sc' all (count + more) (f + 1)
+    rowing_on sc' g all more e w b = go (rw (e, s.still) at w)
       where
         outs_few : length (outputs_w tab (label_code tab (state_in sc₀ i)) f (state_in sc₀ i)) ≤ 32
         outs_few = outputs_few tab (label_code tab (state_in sc₀ i)) f (state_in sc₀ i) here_good.few
@@ -257,7 +187,6 @@ module _ {ar tab : List ℕ} {n : ℕ} {sc₀ : List ℕ} {m i : ℕ} where
                     (λ q. rw q.2 (good_next here_good f (get_or ar f 0) (get_elem_some ar f h) q.0 q.1 (found.small q.0 q.1)))
                     (found.from t j);
               };
-              long = l ∙ s.long;
               behind = b ∙ s.behind;
               inside = inn;
               still = sym (states_at sc' all i [] inn) ∙ get_d_ext found.ext i [] (rw a ins) ∙ states_at sc states i [] ins ∙ s.still;
@@ -271,15 +200,8 @@ module _ {ar tab : List ℕ} {n : ℕ} {sc₀ : List ℕ} {m i : ℕ} where
                   (append_assoc bs s.more (block ∷ []));
             }
 
-    pub rowing_stop : (sc' : List ℕ) (g : Going) (r : Reason) → g ≡ going.Stopped r → SymbolIs g ar tab n sc states i f sc'
-        → (bs : List Block) → RowIs (going.Stopped r) ar tab n sc' i bs (row (words tab n) i (state_in sc₀ i) 0 ar (states_in sc₀ m) bs)
-    rowing_stop sc' g r e w bs =
-        s.is bs ∙ ap (λ ns. row (words tab n) i (state_in sc₀ i) f ns (states_in sc states) (bs ++ s.more)) (from ar f h)
-        ∙ row_stop (words tab n) i (state_in sc₀ i) f (get_or ar f 0) (drop (f + 1) ar) (states_in sc states) (bs ++ s.more) r
-        (rw (e, s.still) at w)
-
   pub rowing_end : {sc : List ℕ} {states count f : ℕ} → Rowing ar tab n sc₀ m i sc states count f → length ar ≤ f → length ar ≤ 32
-      → (bs : List Block) → RowIs (going.On states count) ar tab n sc i bs (row (words tab n) i (state_in sc₀ i) 0 ar (states_in sc₀ m) bs)
+      → (bs : List Block) → RowIs (Ok (states, count)) ar tab n sc i bs (row (words tab n) i (state_in sc₀ i) 0 ar (states_in sc₀ m) bs)
   rowing_end {sc} {states} {count} {f} s h few bs =
       let a = s.sum in
       let b = s.below in
@@ -307,7 +229,6 @@ no_state sc = refl
 pub record Running (ar tab : List ℕ) (n : ℕ) (sc₀ sc : List ℕ) (m count i : ℕ) : Type 0 where
   pub below : i ≤ m
   pub held : Held ar tab n sc m
-  pub long : length sc ≡ length sc₀
   pub behind : Behind sc₀ sc
   pub sum : count ≤ row_most * i
   pub blocks : List Block
@@ -335,7 +256,6 @@ module _ {ar tab : List ℕ} {n : ℕ} (sc₀ : List ℕ) where
             kept = kept_more kept (omega arith) n (omega arith);
             good = λ s j. rw (in_one (rw states at j)) (good_start ready);
           };
-          long = refl;
           behind = refl;
           sum = omega arith;
           blocks = [];
@@ -348,7 +268,7 @@ module _ {ar tab : List ℕ} {n : ℕ} (sc₀ : List ℕ) where
 module _ {ar tab : List ℕ} {n : ℕ} {sc₀ : List ℕ} where
   module _ {sc : List ℕ} {m count i : ℕ} (s : Running ar tab n sc₀ sc m count i) where
     module _ (h : i < m) where
-      abbrev Turn : Going → List ℕ → Type 0
+      abbrev Turn : Result (ℕ × ℕ) Reason → List ℕ → Type 0
       Turn g sc' = (bs : List Block) → RowIs g ar tab n sc' i bs (row (words tab n) i (state_in sc i) 0 ar (states_in sc m) bs)
 
       the_state : get_or (states_in sc m) i (words tab n).start ≡ state_in sc i
@@ -360,11 +280,11 @@ module _ {ar tab : List ℕ} {n : ℕ} {sc₀ : List ℕ} where
       few : i < 128
       few = let k = s.held.kept.few in omega arith
 
-      pub running_on : (sc' : List ℕ) (g : Going) (all more : ℕ) → g ≡ going.On all more → Turn g sc' → Behind sc sc'
-          → length sc' ≡ length sc → Running ar tab n sc₀ sc' all (count + more) (i + 1)
-      running_on sc' g all more e w b l = go (rw e at (w s.blocks))
+      pub running_on : (sc' : List ℕ) (g : Result (ℕ × ℕ) Reason) (all more : ℕ) → g ≡ Ok (all, more) → Turn g sc' → Behind sc sc'
+          → Running ar tab n sc₀ sc' all (count + more) (i + 1)
+      running_on sc' g all more e w b = go (rw e at (w s.blocks))
         where
-          go : RowIs (going.On all more) ar tab n sc' i s.blocks (row (words tab n) i (state_in sc i) 0 ar (states_in sc m) s.blocks)
+          go : RowIs (Ok (all, more)) ar tab n sc' i s.blocks (row (words tab n) i (state_in sc i) 0 ar (states_in sc m) s.blocks)
               → Running ar tab n sc₀ sc' all (count + more) (i + 1)
           go r =
               let bs = r.more in
@@ -376,7 +296,6 @@ module _ {ar tab : List ℕ} {n : ℕ} {sc₀ : List ℕ} where
               record {
                 below = omega arith;
                 held = r.held;
-                long = l ∙ s.long;
                 behind = b ∙ s.behind;
                 sum = omega arith;
                 blocks = s.blocks ++ bs;
@@ -385,13 +304,13 @@ module _ {ar tab : List ℕ} {n : ℕ} {sc₀ : List ℕ} where
                     (ap (λ t. row (words tab n) i t 0 ar (states_in sc m) s.blocks) the_state ∙ r.is);
               }
 
-      pub running_stop : (sc' : List ℕ) (g : Going) (r : Reason) → g ≡ going.Stopped r → Turn g sc'
+      pub running_stop : (sc' : List ℕ) (g : Result (ℕ × ℕ) Reason) (r : Reason) → g ≡ Err r → Turn g sc'
           → explored (words tab n) ar ≡ refused r i
       running_stop sc' g r e w =
           s.is ∙ run_stop (words tab n) ar i (states_in sc m) s.blocks inside few r
           (ap (λ t. row (words tab n) i t 0 ar (states_in sc m) s.blocks) the_state ∙ (rw e at (w s.blocks)))
 
-    pub running_end : m ≤ i → ExploredIs (result.Made m count) ar tab n sc (explored (words tab n) ar)
+    pub running_end : m ≤ i → ExploredIs (Ok (m, count)) ar tab n sc (explored (words tab n) ar)
     running_end h =
         let a = s.sum in
         let b = s.below in

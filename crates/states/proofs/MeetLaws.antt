@@ -1,7 +1,7 @@
 -- Meeting classes one after the other, for any construction.
 --   meet_big meet_known meet_full meet_new        the four ways to meet a class
---   onto meets_begin meets_stop meets_on meets_end   classes in turn, after successors met before
---   row_on row_stop row_end, run_on run_stop run_end  symbols in turn; states in turn
+--   onto meets_on meets_end                      classes in turn, after successors met before
+--   row_on, run_on run_stop run_end               symbols in turn; states in turn
 use mathlib.Core.Path.{◌≡◌, refl, ap, sym, ◌∙◌}
 use mathlib.Core.List.{List, [], ◌∷◌, ◌++◌, append_assoc, append-nil}
 use mathlib.Core.Bool.{Bool}
@@ -64,10 +64,6 @@ module _ {S : Type 0} (C : Construction S) where
   abbrev pub onto : List Succ → Met S → Met S
   onto xs m = and_then m (λ ss ys. met ss (xs ++ ys))
 
-  pub meets_begin : (m : Met S) → m ≡ onto [] m
-  meets_begin (stopped r) = refl
-  meets_begin (met ss ys) = refl
-
   module _ (xs : List Succ) (ss : List S) (k : S) (ks : List S) where
     pub meets_stop : (r : Reason) → meet C ss k ≡ stopped r → onto xs (meets C ss (k ∷ ks)) ≡ stopped r
     meets_stop r e = ap (λ m. onto xs (and_then m (λ ss₁ ys. and_then (meets C ss₁ ks) (λ ss₂ zs. met ss₂ (ys ++ zs))))) e
@@ -86,9 +82,6 @@ module _ {S : Type 0} (C : Construction S) where
 
   -- ---- symbols in turn
   module _ (i : ℕ) (s : S) (f n : ℕ) (ns : List ℕ) (ss : List S) (bs : List Block) where
-    pub row_stop : (r : Reason) → meets C ss (C.classes s f n) ≡ stopped r → row C i s f (n ∷ ns) ss bs ≡ refused r i
-    row_stop r e = ap (λ m. then_block i (C.outputs s f n) bs m (λ ss₁ bs₁. row C i s (suc f) ns ss₁ bs₁)) e
-
     pub row_on : (ss' : List S) (xs : List Succ) → meets C ss (C.classes s f n) ≡ met ss' xs
         → row C i s f (n ∷ ns) ss bs ≡ row C i s (suc f) ns ss' (bs ++ (record { out = C.outputs s f n; succs = xs } ∷ []))
     row_on ss' xs e = ap (λ m. then_block i (C.outputs s f n) bs m (λ ss₁ bs₁. row C i s (suc f) ns ss₁ bs₁)) e

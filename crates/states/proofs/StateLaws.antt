@@ -66,9 +66,6 @@ sets_in (v ∷ vs) l i (suc x) h g =
     ∙ sets_in vs (set l i v) (suc i) x (rw (length-set l i v) (omega arith)) (omega arith)
 
 -- ---- words written behind the states
-pub spared_self : (m : ℕ) (sc : List ℕ) → Spared m sc sc
-spared_self m sc = record { long = refl; states = refl; behind = refl }
-
 pub spared_on : {m : ℕ} {a b c : List ℕ} → Spared m a b → Spared m b c → Spared m a c
 spared_on s t = record { long = t.long ∙ s.long; states = t.states ∙ s.states; behind = t.behind ∙ s.behind }
 

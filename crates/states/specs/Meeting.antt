@@ -14,7 +14,9 @@
 --   RowIs          what a state on each symbol answers: that, or why it stops
 --   AllMade        so for all states
 --   ExploredIs     what all states answer
-use Rattle.std.specs.Prelude.{◌≡◌, List, ◌++◌, map, ℕ, ◌+◌, ◌*◌, ◌<◌, ◌≤◌, length, get_or, take, drop}
+use Rattle.kinds.specs.declared.Reason.{Reason}
+use Rattle.kinds.specs.declared.State.{State}
+use Rattle.std.specs.Prelude.{◌≡◌, List, ◌++◌, map, ℕ, ◌+◌, ◌*◌, ◌<◌, ◌≤◌, length, get_or, take, drop, Err, Ok, Result}
 use Rattle.kinds.specs.Lists.{find, concat, or_else}
 use Rattle.kinds.specs.Members.{◌∈◌}
 use Rattle.automaton.specs.Exploring.{Succ, Block, Met, stopped, met, Made, refused, made, meets}
@@ -28,10 +30,6 @@ use Rattle.decoding.specs.WordMachine.{words, place_in, state_in, states_in, use
 use Rattle.decoding.specs.GoodStates.{GoodState}
 use Rattle.states.specs.Parting.{Named}
 use Rattle.states.specs.declared.Class.{Class}
-use Rattle.states.specs.declared.Going.{Going}
-use Rattle.states.specs.declared.Going.TheVariants as going
-use Rattle.states.specs.declared.Explored.{Explored}
-use Rattle.states.specs.declared.Explored.TheVariants as explored
 
 unfoldable pub place_of : List (List GoalWords) → List GoalWords → ℕ
 place_of ss k = or_else (find (same_state_w k) ss 0) (length ss)
@@ -86,12 +84,12 @@ pub record ClassesMeetable (sc : List ℕ) (m : ℕ) (goals : List ℕ) (n : ℕ
   pub named : Named 96 order
   pub low : base ≤ 1000
 
-abbrev pub MetIs : Going → List ℕ → ℕ → Met (List GoalWords) → Type 0
-MetIs (going.On m w) sc base e = ClassesMet m w sc base e
-MetIs (going.Stopped r) sc base e = e ≡ stopped r
+abbrev pub MetIs : Result (ℕ × ℕ) Reason → List ℕ → ℕ → Met (List GoalWords) → Type 0
+MetIs (Ok (m, w)) sc base e = ClassesMet m w sc base e
+MetIs (Err r) sc base e = e ≡ stopped r
 
 -- of state i of the m in sc, on symbol f; scratch is new afterwards
-abbrev pub SymbolIs : Going → List ℕ → List ℕ → ℕ → List ℕ → ℕ → ℕ → ℕ → List ℕ → Type 0
+abbrev pub SymbolIs : Result (ℕ × ℕ) Reason → List ℕ → List ℕ → ℕ → List ℕ → ℕ → ℕ → ℕ → List ℕ → Type 0
 SymbolIs r ar tab n sc m i f new =
     MetIs r new (2 + 2 * length ((words tab n).outputs (state_in sc i) f (get_or ar f 0)))
     (meets (words tab n) (states_in sc m) ((words tab n).classes (state_in sc i) f (get_or ar f 0)))
@@ -105,9 +103,9 @@ pub record RowMade (m w : ℕ) (ar tab : List ℕ) (n : ℕ) (sc : List ℕ) (i 
   pub sum : w ≡ blocks_length more
   pub small : w ≤ row_most
 
-abbrev pub RowIs : Going → List ℕ → List ℕ → ℕ → List ℕ → ℕ → List Block → Made (List GoalWords) → Type 0
-RowIs (going.On m w) ar tab n sc i bs e = RowMade m w ar tab n sc i bs e
-RowIs (going.Stopped r) ar tab n sc i bs e = e ≡ refused r i
+abbrev pub RowIs : Result (ℕ × ℕ) Reason → List ℕ → List ℕ → ℕ → List ℕ → ℕ → List Block → Made (List GoalWords) → Type 0
+RowIs (Ok (m, w)) ar tab n sc i bs e = RowMade m w ar tab n sc i bs e
+RowIs (Err r) ar tab n sc i bs e = e ≡ refused r i
 
 pub record AllMade (m w : ℕ) (ar tab : List ℕ) (n : ℕ) (sc : List ℕ) (e : Made (List GoalWords)) : Type 0 where
   pub held : Held ar tab n sc m
@@ -116,6 +114,6 @@ pub record AllMade (m w : ℕ) (ar tab : List ℕ) (n : ℕ) (sc : List ℕ) (e 
   pub sum : w ≡ blocks_length blocks
   pub small : w ≤ all_most
 
-abbrev pub ExploredIs : Explored → List ℕ → List ℕ → ℕ → List ℕ → Made (List GoalWords) → Type 0
-ExploredIs (explored.Made m w) ar tab n sc e = AllMade m w ar tab n sc e
-ExploredIs (explored.Stopped r i) ar tab n sc e = e ≡ refused r i.0
+abbrev pub ExploredIs : Result (ℕ × ℕ) (Reason × State) → List ℕ → List ℕ → ℕ → List ℕ → Made (List GoalWords) → Type 0
+ExploredIs (Ok (m, w)) ar tab n sc e = AllMade m w ar tab n sc e
+ExploredIs (Err (r, i)) ar tab n sc e = e ≡ refused r i.0

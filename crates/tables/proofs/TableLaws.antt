@@ -1,22 +1,13 @@
 -- One turn of each loop.
-use mathlib.Core.Path.{◌≡◌, refl}
-use mathlib.Core.List.{List, [], ◌∷◌}
+use mathlib.Core.Path.{◌≡◌, refl, ap, sym, ◌∙◌}
+use mathlib.Core.List.{List, [], ◌∷◌, ◌++◌, append-nil}
 use Prim.Native.Nat.{ℕ, zero, suc, ◌+◌, ◌-◌, ◌*◌, ◌/◌, ◌%◌, ◌^◌, ◌≤◌, ◌<◌}
 use native.Mathlib.Omega.{arith}
 use native.Mathlib.Numerals.{add-one}
 use borrow.Author.Tests.{eq-eqb, ne_eqb, lt-ltb, le-ltb, le-leb, lt-leb}
-use lib.ListN.{length, get_or}
+use lib.ListN.{length, get_or, take, drop, drop_of_length-le}
+use lib.Seq.{sets, sets-eq, length-take-le}
 use Rattle.tables.specs.ShapeTables.{word_at, span_from, span_at, seek_from, kids_from, kids_at, node_word, area_words, entry_w, entries_from}
-
-pub in_any : (xs : List ℕ) (i a b : ℕ) → i < length xs → get_or xs i a ≡ get_or xs i b
-in_any [] i a b h = absurd (omega arith)
-in_any (x ∷ xs) zero a b h = refl
-in_any (x ∷ xs) (suc i) a b h = in_any xs i a b (omega arith)
-
-pub past : (xs : List ℕ) (i d : ℕ) → length xs ≤ i → get_or xs i d ≡ d
-past [] i d h = refl
-past (x ∷ xs) zero d h = absurd (omega arith)
-past (x ∷ xs) (suc i) d h = past xs i d (omega arith)
 
 module _ (ar ws : List ℕ) where
   pub span_end : (k at need : ℕ) → k ≤ 0 → span_from ar ws k at need ≡ 0
@@ -106,15 +97,30 @@ module _ (ar ws ss : List ℕ) where
   unfolding entry_w
   entry_in_lem k h l = rw (lt-ltb (k / 16 % 16) (length ss) h, lt-ltb (k % 16) (span_at ar ws (get_or ss (k / 16 % 16) 0)) l) refl
 
-  pub entries_next : (k n : ℕ) → 0 < n → entries_from ar ws ss k n ≡ entry_w ar ws ss k ∷ entries_from ar ws ss (k + 1) (n - 1)
+  pub entries_next : (k n m : ℕ) → n ≡ suc m → entries_from ar ws ss k n ≡ entry_w ar ws ss k ∷ entries_from ar ws ss (k + 1) m
   unfolding entries_from
-  entries_next k zero h = absurd (omega arith)
-  entries_next k (suc n) h = let d : suc n - 1 ≡ n = omega arith in rw d refl
+  entries_next k n m e = rw e refl
 
   pub entries_end : (k n : ℕ) → n ≤ 0 → entries_from ar ws ss k n ≡ []
   unfolding entries_from
   entries_end k zero h = refl
   entries_end k (suc n) h = absurd (omega arith)
+
+  pub entries_length : (k n : ℕ) → length (entries_from ar ws ss k n) ≡ n
+  unfolding entries_from
+  entries_length k zero = refl
+  entries_length k (suc n) = ap suc (entries_length (k + 1) n)
+
+-- a part that is filled, and what stands behind it
+pub part_filled : (l ws : List ℕ) → length ws ≤ length l → sets (take (length ws) l) 0 ws ++ drop (length ws) l ≡ sets l 0 ws
+part_filled l ws h =
+    let n : length ws ≡ 0 + length ws = omega arith in
+    ap (λ p. p ++ drop (length ws) l)
+    (sets-eq ws (take (length ws) l) 0 (omega (arith, length-take-le (length ws) l h))
+    ∙ ap (λ p. ws ++ p) (drop_of_length-le (take (length ws) l) (omega (arith, length-take-le (length ws) l h)))
+    ∙ append-nil ws)
+    ∙ ap (λ m. ws ++ drop m l) n
+    ∙ sym (sets-eq ws l 0 (omega arith))
 
 module _ (ar ws : List ℕ) (st x r : ℕ) where
   pub word_0 : x ≡ 0 → node_word ar ws st x r ≡ seek_from ar ws st r 1 16 0 0

@@ -4,24 +4,20 @@ ghost use Rattle.tables.specs.ShapeTables.{word_at, span_at, seek_from, Seekable
 
 use crate::{AREA_WORDS, TABLE_WORDS};
 
+// The nodes of a shape, at most.
+const NODES: usize = 16;
+
 fn word_at(words: &[u16], i: usize) -> u16
     ensures { result ≡ word_at words.now i }
 {
-    if i < words.len() {
-        return words[i];
-    }
-    65535
+    words.get(i).copied().unwrap_or(65535)
 }
 
 fn children_of(symbols: &[u8], w: u16) -> usize
     ensures value { result ≡ get_or symbols.now w 0 }
     ensures small { result ≤ 255 }
 {
-    let i = w as usize;
-    if i < symbols.len() {
-        return symbols[i] as usize;
-    }
-    0
+    symbols.get(w as usize).map_or(0, |n| *n as usize)
 }
 
 // The nodes of the term at `at`, at most 16.
@@ -31,18 +27,13 @@ fn span_at(symbols: &[u8], words: &[u16], at: usize) -> usize
     ensures few { result ≤ 16 }
 {
     let mut need = 1;
-    let mut here = at;
-    let mut left: usize = 16;
-    while 0 < left {
+    for i in 0..NODES {
         if need == 0 {
-            return here - at;
+            return i;
         }
-        let n = children_of(symbols, word_at(words, here));
-        need = need - 1 + n;
-        here += 1;
-        left -= 1;
+        need = need - 1 + children_of(symbols, word_at(words, at + i));
     }
-    here - at
+    NODES
 }
 
 // Node r of the shape at st: v with `one` added for each sibling passed, and five times it and one more for each step down.
@@ -53,8 +44,7 @@ fn seek(symbols: &[u8], words: &[u16], st: usize, r: usize, one: u32, v: u32) ->
 {
     let mut c = 0;
     let mut here = v;
-    let mut left: usize = 16;
-    while 0 < left {
+    for _ in 0..NODES {
         if r <= c {
             return here;
         }
@@ -66,7 +56,6 @@ fn seek(symbols: &[u8], words: &[u16], st: usize, r: usize, one: u32, v: u32) ->
             c += n;
             here = (here + one) % 65536;
         }
-        left -= 1;
     }
     here
 }
@@ -80,8 +69,7 @@ fn kids_at(symbols: &[u8], words: &[u16], st: usize, r: usize) -> u64
     let end = r + span_at(symbols, words, st + r);
     let mut c = r + 1;
     let mut mask: u64 = 0;
-    let mut left: usize = 16;
-    while 0 < left {
+    for _ in 0..NODES {
         if end <= c {
             return mask;
         }
@@ -89,31 +77,26 @@ fn kids_at(symbols: &[u8], words: &[u16], st: usize, r: usize) -> u64
             mask = (mask + (1u64 << c)) % 65536;
         }
         c += span_at(symbols, words, st + c);
-        left -= 1;
     }
     mask
 }
 
+#[tactic(auto, unfolding(crate::specs::ShapeTables::node_word))]
 fn node_word(symbols: &[u8], words: &[u16], st: usize, x: usize, r: usize) -> u16
     requires { (st ≤ 65535) × (r < 16) }
     ensures { result ≡ node_word symbols.now words.now st x r }
 {
-    if x == 0 {
-        return seek(symbols, words, st, r, 1, 0) as u16;
+    match x {
+        0 => seek(symbols, words, st, r, 1, 0) as u16,
+        1 => seek(symbols, words, st, r, 0, 1) as u16,
+        2 => span_at(symbols, words, st + r) as u16,
+        3 => word_at(words, st + r),
+        _ => kids_at(symbols, words, st, r) as u16,
     }
-    if x == 1 {
-        return seek(symbols, words, st, r, 0, 1) as u16;
-    }
-    if x == 2 {
-        return span_at(symbols, words, st + r) as u16;
-    }
-    if x == 3 {
-        return word_at(words, st + r);
-    }
-    kids_at(symbols, words, st, r) as u16
 }
 
 // Word k of the tables.
+#[tactic(auto, unfolding(crate::specs::ShapeTables::entry_w))]
 fn table_word(symbols: &[u8], words: &[u16], starts: &[u16], k: usize) -> u16
     ensures { result ≡ entry_w symbols.now words.now starts.now k }
 {
@@ -134,9 +117,7 @@ pub fn fill_tables(symbols: &[u8], words: &[u16], starts: &[u16], tab: &mut [u16
     requires { table_words ≤ length tab.old }
     ensures { tab.new ≡ sets tab.old 0 (entries_from symbols.now words.now starts.now 0 table_words) }
 {
-    let mut k = 0;
-    while k < TABLE_WORDS {
-        tab[k] = table_word(symbols, words, starts, k);
-        k += 1;
+    for (k, word) in tab[..TABLE_WORDS].iter_mut().enumerate() {
+        *word = table_word(symbols, words, starts, k);
     }
 }

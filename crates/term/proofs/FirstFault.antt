@@ -1,6 +1,7 @@
 -- The reader refuses a term exactly where it goes wrong first.
 --   fault_of of_fault   from the reader to the fault, and back
 --   fault_is            exactly
+use Rattle.std.specs.Prelude.{Err, Ok, Result}
 use mathlib.Core.Path.{◌≡◌, refl, ap, sym, ◌∙◌}
 use mathlib.Core.Logic.{inl, inr, ◌↔◌}
 use mathlib.Core.List.{List, ◌++◌, append_assoc}
@@ -20,23 +21,19 @@ use Rattle.term.specs.declared.Limits.{Limits}
 use Rattle.term.specs.declared.Met.{Met}
 use Rattle.term.specs.declared.Fault.{Fault}
 use Rattle.term.specs.declared.Fault.TheVariants.{Ends, NoSymbol, Many, Deep}
-use Rattle.term.specs.declared.Count.{Count}
-use Rattle.term.specs.declared.Count.TheVariants.{Kids, Bad}
-use Rattle.term.specs.declared.Reading.{Reading}
-use Rattle.term.specs.declared.Reading.TheVariants.{Whole, Refused}
-use Rattle.term.proofs.LawsReading.{children_blank, children_none, children_symbol, head_out, head_bad, head_many, head_kids, reading_bad, reading_deep, never_whole, whole_in}
+use Rattle.term.proofs.LawsReading.{same_fault, children_blank, children_none, children_symbol, head_out, head_bad, head_many, head_kids, reading_bad, reading_deep, never_whole, whole_in}
 use Rattle.term.proofs.WholeTerm.{whole_term}
 use Rattle.term.proofs.TermWhole.{reads_back}
 use Rattle.term.specs.Faults.{Known, FaultIn, ends, no_symbol, many, deep, under}
 
 module _ (ar ws : List ℕ) (l : Limits) where
   -- ---- one node
-  data Node (at : ℕ) : Count → Type 0 where
-    no_word : length ws ≤ at → Node at (Bad Ends)
-    unknown : at < length ws → length ar ≤ get_or ws at 0 → get_or ws at 0 < l.blanks → Node at (Bad NoSymbol)
-    beyond : at < length ws → Known ar l (get_or ws at 0) → l.stop ≤ at → Node at (Bad Many)
-    a_blank : at < length ws → at < l.stop → l.blanks ≤ get_or ws at 0 → Node at (Kids 0)
-    a_symbol : (n : ℕ) → at < length ws → at < l.stop → get_or ws at 0 < l.blanks → get_elem? ar (get_or ws at 0) ≡ some n → Node at (Kids n)
+  data Node (at : ℕ) : Result ℕ Fault → Type 0 where
+    no_word : length ws ≤ at → Node at (Err Ends)
+    unknown : at < length ws → length ar ≤ get_or ws at 0 → get_or ws at 0 < l.blanks → Node at (Err NoSymbol)
+    beyond : at < length ws → Known ar l (get_or ws at 0) → l.stop ≤ at → Node at (Err Many)
+    a_blank : at < length ws → at < l.stop → l.blanks ≤ get_or ws at 0 → Node at (Ok 0)
+    a_symbol : (n : ℕ) → at < length ws → at < l.stop → get_or ws at 0 < l.blanks → get_elem? ar (get_or ws at 0) ≡ some n → Node at (Ok n)
 
   node_is : (at : ℕ) → Node at (head_of ar ws l at)
   unfolding head_of children_of
@@ -44,7 +41,7 @@ module _ (ar ws : List ℕ) (l : Limits) where
     where
       go : (a : Bool) → ltb at (length ws) ≡ a → (b : Bool) → leb l.blanks (get_or ws at 0) ≡ b → (c : Bool) → ltb (get_or ws at 0) (length ar) ≡ c
           → (d : Bool) → ltb at l.stop ≡ d
-          → Node at (cond a (below l.stop at (cond b (Kids 0) (cond c (Kids (get_or ar (get_or ws at 0) 0)) (Bad NoSymbol)))) (Bad Ends))
+          → Node at (cond a (below l.stop at (cond b (Ok 0) (cond c (Ok (get_or ar (get_or ws at 0) 0)) (Err NoSymbol)))) (Err Ends))
       go false ea b eb c ec d ed = no_word (ltb-false at (length ws) ea)
       go true ea true eb c ec true ed =
           rw ed (a_blank (ltb-true at (length ws) ea) (ltb-true at l.stop ed) (leb-true l.blanks (get_or ws at 0) eb))
@@ -69,13 +66,13 @@ module _ (ar ws : List ℕ) (l : Limits) where
     words : drop from ws ≡ flattens before ++ drop to ws
     size : to ≡ from + spans before
     room : to ≤ l.stop
-    stops : reading ar ws l d to ≡ Refused f p
+    stops : reading ar ws l d to ≡ Err (f, p)
 
-  kids_stopped : (d n : ℕ) (c : Met) (f : Fault) (p : ℕ) → c.end ≤ l.stop → kids_of (reading ar ws l d) n c ≡ Refused f p → Stopped d n c.end f p
+  kids_stopped : (d n : ℕ) (c : Met) (f : Fault) (p : ℕ) → c.end ≤ l.stop → kids_of (reading ar ws l d) n c ≡ Err (f, p) → Stopped d n c.end f p
   kids_stopped d zero c f p h e = never_whole (sym e)
   kids_stopped d (suc n) c f p h e = go (reading ar ws l d c.end) refl e (λ m k. kids_stopped d n (after c m) f p k)
     where
-      join : (m : Met) → reading ar ws l d c.end ≡ Whole m → Stopped d n m.end f p → Stopped d (suc n) c.end f p
+      join : (m : Met) → reading ar ws l d c.end ≡ Ok m → Stopped d n m.end f p → Stopped d (suc n) c.end f p
       join m er s =
           let a = whole_term ar ws l d c.end m er in
           record {
@@ -91,10 +88,10 @@ module _ (ar ws : List ℕ) (l : Limits) where
             stops = s.stops;
           }
 
-      go : (r : Reading) → reading ar ws l d c.end ≡ r → and-on r (λ m. kids_of (reading ar ws l d) n (after c m)) ≡ Refused f p
-          → ((m : Met) → m.end ≤ l.stop → kids_of (reading ar ws l d) n (after c m) ≡ Refused f p → Stopped d n m.end f p)
+      go : (r : Result Met (Fault × ℕ)) → reading ar ws l d c.end ≡ r → and-on r (λ m. kids_of (reading ar ws l d) n (after c m)) ≡ Err (f, p)
+          → ((m : Met) → m.end ≤ l.stop → kids_of (reading ar ws l d) n (after c m) ≡ Err (f, p) → Stopped d n m.end f p)
           → Stopped d (suc n) c.end f p
-      go (Refused g q) er e more = record {
+      go (Err (g, q)) er e more = record {
         before = tnil;
         fewer = omega arith;
         fits = tt;
@@ -106,42 +103,42 @@ module _ (ar ws : List ℕ) (l : Limits) where
         stops =
             er ∙ e;
       }
-      go (Whole m) er e more = join m er (more m (whole_in ar ws l d c.end m er).few e)
+      go (Ok m) er e more = join m er (more m (whole_in ar ws l d c.end m er).few e)
 
-  pub fault_of : (d at : ℕ) (f : Fault) (p : ℕ) → reading ar ws l d at ≡ Refused f p → FaultIn ar ws l d at f p
+  pub fault_of : (d at : ℕ) (f : Fault) (p : ℕ) → reading ar ws l d at ≡ Err (f, p) → FaultIn ar ws l d at f p
   unfolding reading
   fault_of zero at f p e = go (head_of ar ws l at) (node_is at) e
     where
-      go : (c : Count) → Node at c → enter c at (λ n. Refused Deep at) ≡ Refused f p → FaultIn ar ws l zero at f p
-      go c (no_word h) e = let z : Ends ≡ f = cc in let y : at ≡ p = cc in rw (← z, ← y) (ends zero at h)
-      go c (unknown h a b) e = let z : NoSymbol ≡ f = cc in let y : at ≡ p = cc in rw (← z, ← y) (no_symbol zero at h a b)
-      go c (beyond h k s) e = let z : Many ≡ f = cc in let y : at ≡ p = cc in rw (← z, ← y) (many zero at h k s)
-      go c (a_blank h s b) e = let z : Deep ≡ f = cc in let y : at ≡ p = cc in rw (← z, ← y) (deep at h (inl b) s)
-      go c (a_symbol n h s b g) e = let z : Deep ≡ f = cc in let y : at ≡ p = cc in rw (← z, ← y) (deep at h (inr (at_below ar (get_or ws at 0) g)) s)
+      go : (c : Result ℕ Fault) → Node at c → enter c at (λ n. Err (Deep, at)) ≡ Err (f, p) → FaultIn ar ws l zero at f p
+      go c (no_word h) e = let w = same_fault e in let z : Ends ≡ f = w.0 in let y : at ≡ p = w.1 in rw (← z, ← y) (ends zero at h)
+      go c (unknown h a b) e = let w = same_fault e in let z : NoSymbol ≡ f = w.0 in let y : at ≡ p = w.1 in rw (← z, ← y) (no_symbol zero at h a b)
+      go c (beyond h k s) e = let w = same_fault e in let z : Many ≡ f = w.0 in let y : at ≡ p = w.1 in rw (← z, ← y) (many zero at h k s)
+      go c (a_blank h s b) e = let w = same_fault e in let z : Deep ≡ f = w.0 in let y : at ≡ p = w.1 in rw (← z, ← y) (deep at h (inl b) s)
+      go c (a_symbol n h s b g) e = let w = same_fault e in let z : Deep ≡ f = w.0 in let y : at ≡ p = w.1 in rw (← z, ← y) (deep at h (inr (at_below ar (get_or ws at 0) g)) s)
   fault_of (suc d) at f p e = go (head_of ar ws l at) (node_is at) e (λ to. fault_of d to f p)
     where
       inner : (n : ℕ) → at < length ws → at < l.stop → get_or ws at 0 < l.blanks → get_elem? ar (get_or ws at 0) ≡ some n
           → (s : Stopped d n (at + 1) f p) → FaultIn ar ws l d s.to f p → FaultIn ar ws l (suc d) at f p
       inner n h s b g x i = under d at n x.before x.to f p h s b g x.fewer x.fits x.flat x.words x.size x.room i
 
-      go : (c : Count) → Node at c → enter c at (λ n. kids_of (reading ar ws l d) n (alone at)) ≡ Refused f p
-          → ((to : ℕ) → reading ar ws l d to ≡ Refused f p → FaultIn ar ws l d to f p) → FaultIn ar ws l (suc d) at f p
-      go c (no_word h) e ih = let z : Ends ≡ f = cc in let y : at ≡ p = cc in rw (← z, ← y) (ends (suc d) at h)
-      go c (unknown h a b) e ih = let z : NoSymbol ≡ f = cc in let y : at ≡ p = cc in rw (← z, ← y) (no_symbol (suc d) at h a b)
-      go c (beyond h k s) e ih = let z : Many ≡ f = cc in let y : at ≡ p = cc in rw (← z, ← y) (many (suc d) at h k s)
+      go : (c : Result ℕ Fault) → Node at c → enter c at (λ n. kids_of (reading ar ws l d) n (alone at)) ≡ Err (f, p)
+          → ((to : ℕ) → reading ar ws l d to ≡ Err (f, p) → FaultIn ar ws l d to f p) → FaultIn ar ws l (suc d) at f p
+      go c (no_word h) e ih = let w = same_fault e in let z : Ends ≡ f = w.0 in let y : at ≡ p = w.1 in rw (← z, ← y) (ends (suc d) at h)
+      go c (unknown h a b) e ih = let w = same_fault e in let z : NoSymbol ≡ f = w.0 in let y : at ≡ p = w.1 in rw (← z, ← y) (no_symbol (suc d) at h a b)
+      go c (beyond h k s) e ih = let w = same_fault e in let z : Many ≡ f = w.0 in let y : at ≡ p = w.1 in rw (← z, ← y) (many (suc d) at h k s)
       go c (a_blank h s b) e ih = never_whole (sym e)
       go c (a_symbol n h s b g) e ih = let x = kids_stopped d n (alone at) f p (omega arith) e in inner n h s b g x (ih x.to x.stops)
 
   -- ---- to the reader
-  known_children : (w : ℕ) → Known ar l w → (n : ℕ) × (children_of ar l.blanks w ≡ Kids n)
+  known_children : (w : ℕ) → Known ar l w → (n : ℕ) × (children_of ar l.blanks w ≡ Ok n)
   known_children w k = go k (dec_lt w l.blanks)
     where
-      go : Known ar l w → Dec (w < l.blanks) → (n : ℕ) × (children_of ar l.blanks w ≡ Kids n)
+      go : Known ar l w → Dec (w < l.blanks) → (n : ℕ) × (children_of ar l.blanks w ≡ Ok n)
       go k (no h) = (0, children_blank ar l.blanks w (omega arith))
       go (inl b) (yes h) = absurd (omega arith)
       go (inr a) (yes h) = (get_or ar w 0, children_symbol ar l.blanks w h a)
 
-  pub of_fault : {d at : ℕ} {f : Fault} {p : ℕ} → FaultIn ar ws l d at f p → reading ar ws l d at ≡ Refused f p
+  pub of_fault : {d at : ℕ} {f : Fault} {p : ℕ} → FaultIn ar ws l d at f p → reading ar ws l d at ≡ Err (f, p)
   unfolding reading
   of_fault (ends d at h) = reading_bad ar ws l at d (head_out ar ws l at h)
   of_fault (no_symbol d at h a b) = reading_bad ar ws l at d (head_bad ar ws l at h (children_none ar l.blanks (get_or ws at 0) b a))
@@ -151,14 +148,14 @@ module _ (ar ws : List ℕ) (l : Limits) where
       let ih = of_fault x in
       let k = n - suc (count before) in
       let many : n ≡ count before + suc k = omega arith in
-      let head : head_of ar ws l at ≡ Kids n =
+      let head : head_of ar ws l at ≡ Ok n =
       head_kids ar ws l at h (children_symbol ar l.blanks (get_or ws at 0) b (at_below ar (get_or ws at 0) g)
-      ∙ ap Kids (get_d_at ar (get_or ws at 0) 0 g)) s in
+      ∙ ap Ok (get_d_at ar (get_or ws at 0) 0 g)) s in
       ap (λ c. enter c at (λ m. kids_of (reading ar ws l d) m (alone at))) head
       ∙ ap (λ m. kids_of (reading ar ws l d) m (alone at)) many
       ∙ (reads_back ar ws l before d (suc k) (at + 1) 0 (drop next ws) fits flat (rw (← size) room) words).0
       ∙ ap (λ m. kids_of (reading ar ws l d) (suc k) (met m (max 0 (depths before)))) (sym size)
       ∙ ap (λ r. and-on r (λ m. kids_of (reading ar ws l d) k (after (met next (max 0 (depths before))) m))) ih
 
-  pub fault_is : (d at : ℕ) (f : Fault) (p : ℕ) → (reading ar ws l d at ≡ Refused f p) ↔ FaultIn ar ws l d at f p
+  pub fault_is : (d at : ℕ) (f : Fault) (p : ℕ) → (reading ar ws l d at ≡ Err (f, p)) ↔ FaultIn ar ws l d at f p
   fault_is d at f p = (fault_of d at f p, of_fault)

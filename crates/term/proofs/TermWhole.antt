@@ -4,6 +4,8 @@
 --   read_back reads_back      words that are a term's, and others behind them
 --   term_whole                a term that stands there
 --   parse_flatten many_flatten parse_all_lem  parsed
+use Rattle.term.specs.declared.Fault.{Fault}
+use Rattle.std.specs.Prelude.{Ok, Result}
 use mathlib.Core.Path.{◌≡◌, refl, ap, ap₂, sym, ◌∙◌}
 use mathlib.Core.List.{List, [], ◌∷◌, ◌++◌, append_assoc}
 use mathlib.Core.Option.{some}
@@ -20,8 +22,6 @@ use Rattle.term.specs.Terms.{Term, blank, node, Terms, tnil, tcons, count, depth
 use Rattle.term.specs.Reading.{children_of, met, alone, after, enter, next, kids_of, reading}
 use Rattle.term.specs.declared.Limits.{Limits}
 use Rattle.term.specs.declared.Met.{Met}
-use Rattle.term.specs.declared.Reading.{Reading}
-use Rattle.term.specs.declared.Reading.TheVariants.{Whole}
 use Rattle.term.proofs.LawsReading.{children_blank, children_symbol, head_kids}
 use Rattle.term.proofs.WholeTerm.{TermAt}
 
@@ -44,7 +44,7 @@ mutual
 
   pub read_back : (ar ws : List ℕ) (l : Limits) (t : Term) (d at : ℕ) (r : List ℕ) → Fits ar l.blanks t → depth t < d → at + span t ≤ l.stop
       → drop at ws ≡ flatten t ++ r
-      → (reading ar ws l d at ≡ Whole (met_with at t)) × (drop (at + span t) ws ≡ r)
+      → (reading ar ws l d at ≡ Ok (met_with at t)) × (drop (at + span t) ws ≡ r)
   read_back ar ws l (blank w) zero at r p h g e = absurd (omega arith)
   read_back ar ws l (blank w) (suc d) at r p h g e =
       let f = first ws at w r e in
@@ -60,7 +60,7 @@ mutual
       let z : max 0 (depths ts) ≡ depths ts = omega arith in (
         ap (λ c. enter c at (λ n. kids_of (reading ar ws l d) n (alone at))) k
             ∙ ap (λ (n : ℕ). kids_of (reading ar ws l d) n (alone at)) (get_d_at ar s 0 p.1 ∙ sym (add-zero (count ts))) ∙ b.0
-            ∙ ap₂ (λ (n k : ℕ). Whole (met n k)) q z,
+            ∙ ap₂ (λ (n k : ℕ). Ok (met n k)) q z,
         ap (λ (n : ℕ). drop n ws) (sym q) ∙ b.1,
       )
 
@@ -81,17 +81,17 @@ mutual
       let q : at + span t + spans ts ≡ at + (span t + spans ts) = omega arith in
       let z : max (max most (depth t + 1)) (depths ts) ≡ max most (max (suc (depth t)) (depths ts)) = omega arith in (
         ap (λ (x : ℕ). kids_of (reading ar ws l d) x (met at most)) n
-            ∙ ap (λ (x : Reading). next x (λ c. kids_of (reading ar ws l d) (count ts + k) (after (met at most) c))) a.0 ∙ b.0
+            ∙ ap (λ (x : Result Met (Fault × ℕ)). next x (λ c. kids_of (reading ar ws l d) (count ts + k) (after (met at most) c))) a.0 ∙ b.0
             ∙ (λ i. kids_of (reading ar ws l d) k (met (q i) (z i))),
         ap (λ (n : ℕ). drop n ws) (sym q) ∙ b.1,
       )
 
 -- a term that stands at `at` and ends within the limit
-pub term_whole : (ar ws : List ℕ) (l : Limits) (d at : ℕ) (m : Met) → TermAt ar ws l.blanks d at m → m.end ≤ l.stop → reading ar ws l d at ≡ Whole m
+pub term_whole : (ar ws : List ℕ) (l : Limits) (d at : ℕ) (m : Met) → TermAt ar ws l.blanks d at m → m.end ≤ l.stop → reading ar ws l d at ≡ Ok m
 term_whole ar ws l d at m r h =
     let s = r.size in
     (read_back ar ws l r.tree d at (drop m.end ws) r.fits r.flat (omega arith) r.words).0
-    ∙ ap₂ (λ (n k : ℕ). Whole (met n k)) (sym s) (sym r.deep)
+    ∙ ap₂ (λ (n k : ℕ). Ok (met n k)) (sym s) (sym r.deep)
 
 mutual
   pub parse_flatten : (ar : List ℕ) (bl : ℕ) (t : Term) (d : ℕ) (r : List ℕ) → Fits ar bl t → depth t < d

@@ -25,16 +25,3 @@ pub enum Fault {
     Many,
     Deep,
 }
-
-// How many children the node at an index has.
-#[derive(Clone, Copy)]
-pub enum Count {
-    Kids(usize),
-    Bad(Fault),
-}
-
-#[derive(Clone, Copy)]
-pub enum Reading {
-    Whole(Met),
-    Refused(Fault, usize),
-}

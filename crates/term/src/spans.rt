@@ -9,9 +9,7 @@ pub fn spans_are(symbols: &[u8], words: &[u16], spans: &[u16]) -> bool
     if spans.len() != words.len() {
         return false;
     }
-    let mut i = words.len();
-    while 0 < i {
-        i -= 1;
+    for i in (0..words.len()).rev() {
         let k = count(symbols, words[i]);
         let e = skip(spans, i + 1, k);
         if spans[i] as usize != e - i {
@@ -26,13 +24,11 @@ pub fn skip(spans: &[u16], at: usize, k: usize) -> usize
     ensures { result ≡ at + over k (drop at spans.now) }
 {
     let mut here = at;
-    let mut i = 0;
-    while i < k {
+    for _ in 0..k {
         if spans.len() <= here {
             return here;
         }
         here += spans[here] as usize;
-        i += 1;
     }
     here
 }
@@ -41,9 +37,5 @@ pub fn skip(spans: &[u16], at: usize, k: usize) -> usize
 pub fn count(symbols: &[u8], word: u16) -> usize
     ensures { result ≡ get_or symbols.now word 0 }
 {
-    let w = word as usize;
-    if symbols.len() <= w {
-        return 0;
-    }
-    symbols[w] as usize
+    symbols.get(word as usize).map_or(0, |n| *n as usize)
 }

@@ -4,14 +4,7 @@ ghost use Rattle.std.specs.Prelude.{◌≡◌};
 ghost use Rattle.clashing.specs.Clashing.{clashes_of};
 ghost use Rattle.totals.specs.Totalled.{states_by, matches_by, totalled};
 
-use bufferstone::{Counted, Counts, Reason, Record, Size, States, Totals, clashes};
-
-// The numbers of a report's first line.
-#[derive(Clone, Copy)]
-pub enum Total {
-    Of(Totals),
-    Refused(Reason),
-}
+use bufferstone::{Counts, Reason, Record, Score, Shapes, Size, Totals, clashes};
 
 // What made the marks: a walk by a plan of this size that ended with this record, or comparing, which found so many matches.
 #[derive(Clone, Copy)]
@@ -25,40 +18,38 @@ pub fn count(
     counts: Counts,
     made: Made,
     symbols: &[u8],
-    words: &[u16],
-    starts: &[u16],
-    score: &[u16],
-    spans: &[u16],
+    shapes: Shapes<'_>,
+    score: Score<'_>,
     marks: &[u16],
-) -> Total
-    ensures { result ≡ totalled counts made (clashes_of symbols.now words.now starts.now score.now spans.now marks.now) }
+) -> Result<Totals, Reason>
+    ensures { result ≡ totalled counts made (clashes_of symbols.now shapes.entry.words.now shapes.entry.starts.now score.entry.words.now score.entry.spans.now marks.now) }
 {
-    match clashes(symbols, words, starts, score, spans, marks) {
-        Counted::Refused(reason) => Total::Refused(reason),
-        Counted::Number(some) => Total::Of(Totals {
-            nodes: counts.nodes,
-            states: states_of(made),
-            matches: matches_of(made),
-            clashes: some,
-            depth: counts.depth,
-        }),
-    }
+    let clashes = clashes(symbols, shapes, score, marks)?;
+    Ok(Totals {
+        nodes: counts.nodes,
+        states: made.states(),
+        matches: made.matches(),
+        clashes,
+        depth: counts.depth,
+    })
 }
 
-fn states_of(made: Made) -> States
-    ensures { result ≡ states_by made }
-{
-    match made {
-        Made::Walk(size, end) => States::Of(size.states),
-        Made::Comparing(some) => States::NoPlan,
+impl Made {
+    fn states(self) -> Option<usize>
+        ensures { result ≡ states_by self }
+    {
+        match self {
+            Made::Walk(size, _) => Some(size.states),
+            Made::Comparing(_) => None,
+        }
     }
-}
 
-fn matches_of(made: Made) -> usize
-    ensures { result ≡ matches_by made }
-{
-    match made {
-        Made::Walk(size, end) => end.matches,
-        Made::Comparing(some) => some,
+    fn matches(self) -> usize
+        ensures { result ≡ matches_by self }
+    {
+        match self {
+            Made::Walk(_, end) => end.matches,
+            Made::Comparing(some) => some,
+        }
     }
 }

@@ -1,38 +1,34 @@
 -- A step, way by way through the code.
---   step_32 step_number step_few             the refusals that need no look
---   head_counts head_label head_nowhere head_block head_at_lem, head_good head_fits  what an item finds
---   fits_items fits_far fits_near fits_lent, leads_outs leads_nexts, room_log room_items   what is decided before and behind it
---   sight_few sight_head sight_leads sight_room sight_some, Sighted sighted_is sight_outs sight_block sight_new   what a step sees
+--   step_number step_few                     the refusals that need no look
+--   symbol head_good head_fits               what an item finds
+--   Sighted sighted_is sight_outs sight_fits sight_new   what a step sees
 --   step_nothing step_unseen step_done done_waiting done_items   the step
---   Clauses tells_32 tells_34 tells_on       what the code answers and leaves is what the definition says
+--   Clauses tells_34 tells_on       what the code answers and leaves is what the definition says
+use Rattle.std.specs.Prelude.{Err, Ok, Result}
 use mathlib.Core.Path.{◌≡◌, refl, ap, sym, ◌∙◌}
 use mathlib.Core.Bool.{Bool, true, false, ◌&&◌}
 use mathlib.Core.List.{List}
 use mathlib.Core.Option.{Option, none, some}
 use mathlib.Core.Logic.{◌⊎◌, inl, inr, ⊎_elim}
-use Prim.Native.Nat.{ℕ, ◌+◌, ◌*◌, ◌-◌, ◌/◌, ◌^◌, ◌<◌, ◌≤◌}
+use Prim.Native.Nat.{ℕ, ◌+◌, ◌*◌, ◌-◌, ◌^◌, ◌<◌, ◌≤◌}
 use native.Mathlib.Omega.{arith}
 use native.Mathlib.Decide.{dec_le}
 use native.Mathlib.Numerals.{add-one}
-use borrow.Author.Tests.{lt-ltb, le-ltb, le-leb, lt-leb}
+use borrow.Author.Tests.{lt-ltb, le-leb}
 use lib.Dec.{ltb, leb}
 use lib.ListN.{length, get_or, get_elem?, drop, set}
 use lib.Seq.{sets}
 use Rattle.kinds.specs.Lists.{bind, need, all}
 use Rattle.kinds.specs.declared.Reason.{Reason}
-use Rattle.kinds.specs.declared.Reason.TheVariants.{NoSuchItem, OutOfRange}
-use Rattle.kinds.specs.Kinds.{position}
-use Rattle.kinds.proofs.Bools.{test, and_l, and_r, both, and_false, false_true, ltb_is, leb_is, half_leb}
+use Rattle.kinds.specs.declared.Reason.TheVariants.{OutOfRange}
+use Rattle.kinds.proofs.Bools.{test, and_l, and_r, both, and_false, false_true, ltb_is, leb_is}
 use Rattle.kinds.proofs.Options.{none_not, on_bind, on_need, bind_along, need_along}
 use Rattle.kinds.proofs.Places.{get_elem_some}
 use Rattle.following.specs.Following.{target}
 use Rattle.following.proofs.LawsFollowing.{target_in}
-use Rattle.readers.specs.declared.Label.TheVariants as label
-use Rattle.readers.specs.PlanParts.{counts_good, pairs, pair_words, label_word, to_label, block_of}
+use Rattle.readers.specs.PlanParts.{counts_good, pairs, pair_words, label_word, block_of}
 use Rattle.walk.specs.Starting.{Walk, walk_of, counting, refuse_walk, go_on, outcome}
 use Rattle.walk.specs.declared.Record.{Record}
-use Rattle.walk.specs.declared.Walked.{Walked}
-use Rattle.walk.specs.declared.Walked.TheVariants.{On, Refused}
 use Rattle.walk.proofs.LawsStart.{on_is}
 use Rattle.walk.specs.Stepping.{Finding, look, onward, numbered, roomy, moved, tried, or_refuse, stepped}
 use Rattle.queue.specs.Targets.{targets, marked, newly, fine, landed, closed_up}
@@ -40,15 +36,11 @@ use Rattle.walk.specs.ByIndex.{look_head, record_fits, leads_fine, room_left, si
 use Rattle.readers.specs.BlockWords.{pair_list, middle, outs_at, nexts_at, block_fits, block_start}
 use Rattle.readers.proofs.LawsPairs.{fits_in, pair_list_length, pair_list_at, pairs_list, pairs_none}
 use Rattle.walk.proofs.LawsOnward.{onward_length, onward_words}
-use Rattle.readers.proofs.LawsParts.{counts_of_lem, no_label, a_label, block_start_lem, start_fits}
+use Rattle.readers.proofs.LawsParts.{counts_of_lem, block_start_lem, start_fits}
 use Rattle.queue.proofs.LawsTargets.{all_wider, fine_split, fine_fail, fine_small, landed_length, newly_most}
 
 -- ---- the refusals that need no look
 module _ (plan score spans : List ℕ) (i : ℕ) (w : Walk) where
-  pub step_32 : w.count.waiting ≤ i → stepped plan score spans i w ≡ refuse_walk NoSuchItem w
-  unfolding stepped
-  step_32 h = rw (le-ltb _ _ h)
-
   pub step_number : i < w.count.waiting → numbered (length score) w.count ≡ false → stepped plan score spans i w ≡ refuse_walk OutOfRange w
   unfolding stepped tried
   step_number h k = rw (lt-ltb _ _ h, k)
@@ -90,36 +82,8 @@ module _ (plan score spans : List ℕ) (it : ℕ × ℕ) where
           ∙ go x (block_start plan (get_or plan 0 0) (get_or plan 1 0) it.0 f)
 
 -- ---- what an item finds
-module _ (plan score spans : List ℕ) (s at : ℕ) where
-  pub head_counts : counts_good plan ≡ false → look_head plan score spans (s, at) ≡ none
-  unfolding look_head
-  head_counts e = rw e
-
-  module _ (good : counts_good plan ≡ true) where
-    pub head_label : {r : Reason} → to_label (label_word plan (get_or plan 0 0) s) ≡ label.Refused r → look_head plan score spans (s, at) ≡ none
-    unfolding look_head
-    head_label e = rw (good, no_label (label_word plan (get_or plan 0 0) s) e)
-
-    module _ (c : ℕ) (l : to_label (label_word plan (get_or plan 0 0) s) ≡ label.At (position c)) where
-      word : label_word plan (get_or plan 0 0) s ≡ some c
-      word = a_label (label_word plan (get_or plan 0 0) s) l
-
-      pub head_nowhere : target (length score) spans at c ≡ none → look_head plan score spans (s, at) ≡ none
-      unfolding look_head
-      head_nowhere e = rw (good, word, e)
-
-      module _ (x : ℕ) (e : target (length score) spans at c ≡ some x) where
-        symbol : get_elem? score x ≡ some (get_or score x 0)
-        symbol = get_elem_some score x (target_in (length score) spans at c x e).0
-
-        pub head_block : block_start plan (get_or plan 0 0) (get_or plan 1 0) s (get_or score x 0) ≡ none → look_head plan score spans (s, at) ≡ none
-        unfolding look_head
-        head_block d = rw (good, word, e, symbol, d)
-
-        pub head_at_lem : (b : ℕ) → block_start plan (get_or plan 0 0) (get_or plan 1 0) s (get_or score x 0) ≡ some b
-            → look_head plan score spans (s, at) ≡ some (x, b)
-        unfolding look_head
-        head_at_lem b d = rw (good, word, e, symbol, d)
+pub symbol : (score spans : List ℕ) (at c x : ℕ) → target (length score) spans at c ≡ some x → get_elem? score x ≡ some (get_or score x 0)
+symbol score spans at c x e = get_elem_some score x (target_in (length score) spans at c x e).0
 
 module _ (plan score spans : List ℕ) (it : ℕ × ℕ) (x b : ℕ) (e : look_head plan score spans it ≡ some (x, b)) where
   pub head_good : counts_good plan ≡ true
@@ -138,81 +102,8 @@ module _ (plan score spans : List ℕ) (it : ℕ × ℕ) (x b : ℕ) (e : look_h
       let ab : a ≡ b = ap (λ q. q.1) yb in
       rw ab at (start_fits plan (get_or plan 0 0) (get_or plan 1 0) it.0 f ea)
 
--- ---- what the record says
-module _ (items n : ℕ) (r : Record) where
-  pub fits_items : items / 2 < r.waiting → record_fits items n r ≡ false
-  unfolding record_fits
-  fits_items h = rw (lt-leb (2 * r.waiting) items (omega arith))
-
-  module _ (g : r.waiting ≤ items / 2) where
-    pub fits_far : 2 ^ 59 < n → record_fits items n r ≡ leb r.matches (16 * 2 ^ 59)
-    unfolding record_fits
-    fits_far h = rw (le-leb (2 * r.waiting) items (omega arith)) (go (dec_le r.matches (16 * n)))
-      where
-        go : Dec (r.matches ≤ 16 * n) → (leb r.matches (16 * n) && leb r.matches (2 ^ 63)) ≡ leb r.matches (16 * 2 ^ 59)
-        go (yes k) = rw (le-leb r.matches (16 * n) k) refl
-        go (no k) = rw (lt-leb r.matches (16 * n) (omega arith), lt-leb r.matches (16 * 2 ^ 59) (omega arith)) refl
-
-    pub fits_near : n ≤ 2 ^ 59 → record_fits items n r ≡ leb r.matches (16 * n)
-    unfolding record_fits
-    fits_near h = rw (le-leb (2 * r.waiting) items (omega arith)) (go (dec_le r.matches (16 * n)))
-      where
-        go : Dec (r.matches ≤ 16 * n) → (leb r.matches (16 * n) && leb r.matches (2 ^ 63)) ≡ leb r.matches (16 * n)
-        go (yes k) = rw (le-leb r.matches (16 * n) k, le-leb r.matches (2 ^ 63) (omega arith)) refl
-        go (no k) = rw (lt-leb r.matches (16 * n) (omega arith)) refl
-
-  pub fits_lent : record_fits items n r ≡ true → 2 * r.waiting ≤ items
-  unfolding record_fits
-  fits_lent e = leb_is _ _ (and_l _ e)
-
--- ---- what is left to decide
-module _ (plan : List ℕ) (n : ℕ) (spans : List ℕ) (from b marks : ℕ) where
-  pub leads_outs : all (fine (get_or plan 2 0) marks (target n spans from)) (outs_at plan b) ≡ false → leads_fine plan n spans from b marks ≡ false
-  unfolding leads_fine
-  leads_outs e = rw e
-
-  pub leads_nexts : all (fine (get_or plan 2 0) marks (target n spans from)) (outs_at plan b) ≡ true
-      → leads_fine plan n spans from b marks ≡ all (fine (get_or plan 0 0) 65536 (target n spans from)) (nexts_at plan b)
-  unfolding leads_fine
-  leads_nexts e = rw e
-
-module _ (plan : List ℕ) (b items log : ℕ) (r : Record) where
-  pub room_log : log ≤ r.logged → room_left plan b items log r ≡ false
-  unfolding room_left
-  room_log l = rw (le-ltb _ _ l)
-
-  pub room_items : r.logged < log → room_left plan b items log r ≡ leb (r.waiting - 1 + get_or plan (middle plan b) 0) (items / 2)
-  unfolding room_left
-  room_items l = rw (lt-ltb _ _ l) (sym (half_leb (r.waiting - 1 + get_or plan (middle plan b) 0) items))
-
 -- ---- what a step sees
 module _ (plan score spans items : List ℕ) (log marks : ℕ) (r : Record) (i : ℕ) where
-  pub sight_few : record_fits (length items) (length score) r ≡ false → sighted plan score spans items log marks r i ≡ none
-  unfolding sighted
-  sight_few l = rw l
-
-  module _ (g : record_fits (length items) (length score) r ≡ true) where
-    pub sight_head : look_head plan score spans (get_or items (2 * i) 0, get_or items (2 * i + 1) 0) ≡ none
-        → sighted plan score spans items log marks r i ≡ none
-    unfolding sighted
-    sight_head e = rw (g, e)
-
-    module _ (x b : ℕ) (e : look_head plan score spans (get_or items (2 * i) 0, get_or items (2 * i + 1) 0) ≡ some (x, b)) where
-      pub sight_leads : leads_fine plan (length score) spans (get_or items (2 * i + 1) 0) b marks ≡ false
-          → sighted plan score spans items log marks r i ≡ none
-      unfolding sighted
-      sight_leads d = rw (g, e, d)
-
-      module _ (l : leads_fine plan (length score) spans (get_or items (2 * i + 1) 0) b marks ≡ true) where
-        pub sight_room : room_left plan b (length items) log r ≡ false → sighted plan score spans items log marks r i ≡ none
-        unfolding sighted
-        sight_room d = rw (g, e, l, d)
-
-        pub sight_some : room_left plan b (length items) log r ≡ true
-            → sighted plan score spans items log marks r i ≡ some (get_or items (2 * i + 1) 0, x, b)
-        unfolding sighted
-        sight_some d = rw (g, e, l, d)
-
   pub record Sighted (from x b : ℕ) : Type 0 where
     pub fits : 2 * r.waiting ≤ length items
     pub number : numbered (length score) r ≡ true
@@ -223,7 +114,8 @@ module _ (plan score spans items : List ℕ) (log marks : ℕ) (r : Record) (i :
     pub log_room : r.logged < log
     pub room : 2 * (r.waiting - 1 + get_or plan (middle plan b) 0) ≤ length items
 
-  pub sighted_is : {from x b : ℕ} → sighted plan score spans items log marks r i ≡ some (from, x, b) → Sighted from x b
+module _ {plan score spans items : List ℕ} {log marks : ℕ} {r : Record} {i : ℕ} where
+  pub sighted_is : {from x b : ℕ} → sighted plan score spans items log marks r i ≡ some (from, x, b) → Sighted plan score spans items log marks r i from x b
   unfolding sighted record_fits leads_fine room_left
   sighted_is {from} {x} {b} e =
       on_need (leb (2 * r.waiting) (length items) && numbered (length score) r) _ e λ t₁ e₁.
@@ -238,7 +130,7 @@ module _ (plan score spans items : List ℕ) (log marks : ℕ) (r : Record) (i :
           → h.0 ≡ x → h.1 ≡ b → (leb (2 * r.waiting) (length items) && numbered (length score) r) ≡ true
           → (all (fine (get_or plan 2 0) marks (target (length score) spans (get_or items (2 * i + 1) 0))) (outs_at plan h.1) && all
           (fine (get_or plan 0 0) 65536 (target (length score) spans (get_or items (2 * i + 1) 0))) (nexts_at plan h.1)) ≡ true
-          → (ltb r.logged log && leb (2 * (r.waiting - 1 + get_or plan (middle plan h.1) 0)) (length items)) ≡ true → Sighted from x b
+          → (ltb r.logged log && leb (2 * (r.waiting - 1 + get_or plan (middle plan h.1) 0)) (length items)) ≡ true → Sighted plan score spans items log marks r i from x b
       parts h eh ef ex eb t₁ t₃ t₄ = rw (← ef, ← ex, ← eb) (record {
         fits = leb_is _ _ (and_l _ t₁);
         number = and_r (leb (2 * r.waiting) (length items)) t₁;
@@ -250,14 +142,14 @@ module _ (plan score spans items : List ℕ) (log marks : ℕ) (r : Record) (i :
         room = leb_is _ _ (and_r (ltb r.logged log) t₄);
       })
 
-  module _ {from x b : ℕ} (d : Sighted from x b) where
+  module _ {from x b : ℕ} (d : Sighted plan score spans items log marks r i from x b) where
     -- as the marks' writer asks it
     pub sight_outs : all (fine 16 marks (target (length score) spans from)) (outs_at plan b) ≡ true
     sight_outs = all_wider (get_or plan 2 0) 16 marks (target (length score) spans from) (outs_at plan b)
         (counts_of_lem plan (head_good plan score spans (get_or items (2 * i) 0, from) x b d.head)).3 d.outs
 
-    pub sight_block : middle plan b + 1 + 2 * get_or plan (middle plan b) 0 ≤ length plan
-    sight_block = fits_in plan b (head_fits plan score spans (get_or items (2 * i) 0, from) x b d.head)
+    pub sight_fits : block_fits plan b ≡ true
+    sight_fits = head_fits plan score spans (get_or items (2 * i) 0, from) x b d.head
 
     -- a record has room for the bits newly set
     pub sight_new : (ms : List ℕ) → r.matches + newly (landed (target (length score) spans from) (outs_at plan b)) ms ≤ 2 ^ 63 + length plan
@@ -266,7 +158,7 @@ module _ (plan score spans items : List ℕ) (log marks : ℕ) (r : Record) (i :
         let l = newly_most (landed (target (length score) spans from) (outs_at plan b)) ms in
         let m = landed_length (target (length score) spans from) (outs_at plan b) in
         let k = pair_list_length (get_or plan b 0) plan (b + 1) in
-        let f = sight_block in
+        let f = fits_in plan b sight_fits in
         omega arith
 
 -- ---- the step
@@ -424,18 +316,15 @@ module _ (plan score spans items log marks : List ℕ) (r : Record) (i : ℕ) wh
   abbrev W : Walk
   W = walk_of items log marks r
 
-  abbrev pub Clauses : Walked → List ℕ → List ℕ → List ℕ → Type 0
+  abbrev pub Clauses : Result Record Reason → List ℕ → List ℕ → List ℕ → Type 0
   Clauses a items' log' marks' =
       outcome a r items' log' marks' ≡ stepped plan score spans i W
 
-  pub tells_32 : r.waiting ≤ i → Clauses (Refused NoSuchItem) items log marks
-  tells_32 h = sym (step_32 plan score spans i W h)
-
-  pub tells_34 : i < r.waiting → sighted plan score spans items (length log) (length marks) r i ≡ none → Clauses (Refused OutOfRange) items log marks
+  pub tells_34 : i < r.waiting → sighted plan score spans items (length log) (length marks) r i ≡ none → Clauses (Err OutOfRange) items log marks
   tells_34 h e = go (test (numbered (length score) r)) (dec_le (2 * r.waiting) (length items))
     where
       go : (numbered (length score) r ≡ true) ⊎ (numbered (length score) r ≡ false) → Dec (2 * r.waiting ≤ length items)
-          → Clauses (Refused OutOfRange) items log marks
+          → Clauses (Err OutOfRange) items log marks
       go (inl k) (yes g) = sym (step_unseen plan score spans i W h k g e)
       go (inl k) (no g) = sym (step_few plan score spans i W h k (omega arith))
       go (inr k) d = sym (step_number plan score spans i W h k)
@@ -446,8 +335,8 @@ module _ (plan score spans items log marks : List ℕ) (r : Record) (i : ℕ) wh
       → items' ≡ sets up (2 * r.waiting - 2) (pair_words (landed (target (length score) spans from) (nexts_at plan b)))
       → new ≡ newly (landed (target (length score) spans from) (outs_at plan b)) marks
       → marks' ≡ marked (landed (target (length score) spans from) (outs_at plan b)) marks
-      → Clauses (On (counting (r.waiting - 1 + get_or plan (middle plan b) 0) (r.logged + 1) (r.matches + new))) items' (set log r.logged x) marks'
-  tells_on {items'} {up} {marks'} {from} {x} {b} {new} h e eu it ne ma = let d = sighted_is plan score spans items (length log) (length marks) r i e in
+      → Clauses (Ok (counting (r.waiting - 1 + get_or plan (middle plan b) 0) (r.logged + 1) (r.matches + new))) items' (set log r.logged x) marks'
+  tells_on {items'} {up} {marks'} {from} {x} {b} {new} h e eu it ne ma = let d = sighted_is e in
       go from d.is_from d it ne ma
     where
       -- from the item's node
@@ -455,7 +344,7 @@ module _ (plan score spans items log marks : List ℕ) (r : Record) (i : ℕ) wh
           → items' ≡ sets up (2 * r.waiting - 2) (pair_words (landed (target (length score) spans (get_or items (2 * i + 1) 0)) (nexts_at plan b)))
           → new ≡ newly (landed (target (length score) spans (get_or items (2 * i + 1) 0)) (outs_at plan b)) marks
           → marks' ≡ marked (landed (target (length score) spans (get_or items (2 * i + 1) 0)) (outs_at plan b)) marks
-          → Clauses (On (counting (r.waiting - 1 + get_or plan (middle plan b) 0) (r.logged + 1) (r.matches + new))) items' (set log r.logged x) marks'
+          → Clauses (Ok (counting (r.waiting - 1 + get_or plan (middle plan b) 0) (r.logged + 1) (r.matches + new))) items' (set log r.logged x) marks'
       here d it ne ma =
           let lw = sym (done_waiting plan score spans i W h d.number d.fits x b d.head d) in
           let li = ap (λ (l : List ℕ). sets l (2 * r.waiting - 2)
@@ -468,5 +357,5 @@ module _ (plan score spans items log marks : List ℕ) (r : Record) (i : ℕ) wh
           → items' ≡ sets up (2 * r.waiting - 2) (pair_words (landed (target (length score) spans from) (nexts_at plan b)))
           → new ≡ newly (landed (target (length score) spans from) (outs_at plan b)) marks
           → marks' ≡ marked (landed (target (length score) spans from) (outs_at plan b)) marks
-          → Clauses (On (counting (r.waiting - 1 + get_or plan (middle plan b) 0) (r.logged + 1) (r.matches + new))) items' (set log r.logged x) marks'
+          → Clauses (Ok (counting (r.waiting - 1 + get_or plan (middle plan b) 0) (r.logged + 1) (r.matches + new))) items' (set log r.logged x) marks'
       go from z d it ne ma = here (rw z at d) (rw z at it) (rw z at ne) (rw z at ma)

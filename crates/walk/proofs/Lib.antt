@@ -1,4 +1,5 @@
 -- What is known of a walk over words.
+pub mod LawsLent
 pub mod LawsStart
 pub mod LawsStep
 pub mod LawsOnward

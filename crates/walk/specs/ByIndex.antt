@@ -6,7 +6,9 @@
 --   room_left     the log has room for one more, the waiting words for all items after the step
 --   sighted      what a step that is not refused 34 sees: the item's node, the node read, where the block begins
 --   head_of sight_of   answers of the code's parts
-use Rattle.std.specs.Prelude.{◌≡◌, List, Bool, true, ◌&&◌, ℕ, ◌+◌, ◌*◌, ◌-◌, ◌<◌, ◌≤◌, ltb, leb, length, get_or}
+use Rattle.kinds.specs.declared.Node.{Node}
+use Rattle.walk.specs.declared.Seen.{Seen}
+use Rattle.std.specs.Prelude.{◌≡◌, List, Bool, true, ◌&&◌, ℕ, ◌+◌, ◌*◌, ◌-◌, ◌<◌, ◌≤◌, ltb, leb, length, get_or, None, Some, Option as Optional}
 use Rattle.std.proofs.Math.Option.{Option, none, some}
 use Rattle.std.proofs.Math.ListN.{get_elem?}
 use Rattle.kinds.specs.Lists.{bind, need, all}
@@ -14,11 +16,7 @@ use Rattle.following.specs.Following.{target}
 use Rattle.queue.specs.Targets.{fine}
 use Rattle.readers.specs.PlanParts.{counts_good, label_word}
 use Rattle.readers.specs.BlockWords.{middle, outs_at, nexts_at, block_fits, block_start}
-use Rattle.walk.specs.declared.Head.{Head}
-use Rattle.walk.specs.declared.Head.TheVariants as head
 use Rattle.walk.specs.declared.Record.{Record}
-use Rattle.walk.specs.declared.Sight.{Sight}
-use Rattle.walk.specs.declared.Sight.TheVariants as sight
 use Rattle.walk.specs.Stepping.{numbered}
 
 unfoldable pub look_head : List ℕ → List ℕ → List ℕ → ℕ × ℕ → Option (ℕ × ℕ)
@@ -57,10 +55,10 @@ sighted plan score spans items log marks r i =
     (need (room_left plan h.1 (length items) log r)
     (some (from, h.0, h.1)))))
 
-abbrev pub head_of : Head → Option (ℕ × ℕ)
-head_of (head.At x b) = some (x.0, b)
-head_of head.Nothing = none
+abbrev pub head_of : Optional (Node × ℕ) → Option (ℕ × ℕ)
+head_of (Some (x, b)) = some (x.0, b)
+head_of None = none
 
-abbrev pub sight_of : Sight → Option (ℕ × ℕ × ℕ)
-sight_of (sight.Of a) = some (a.from.0, a.node.0, a.block)
-sight_of sight.Nothing = none
+abbrev pub sight_of : Optional Seen → Option (ℕ × ℕ × ℕ)
+sight_of (Some a) = some (a.from.0, a.node.0, a.block)
+sight_of None = none

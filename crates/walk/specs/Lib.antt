@@ -2,3 +2,4 @@
 pub mod Starting
 pub mod Stepping
 pub mod ByIndex
+pub mod Lent

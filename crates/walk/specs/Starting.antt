@@ -8,15 +8,13 @@
 --   started      31 before 30
 --   record_values the record, as values
 --   walked_says  the answer in document 01's numbers
-use Rattle.std.specs.Prelude.{ℕ, ◌*◌, List, [], ◌∷◌, Bool, ◌&&◌, leb, length, replicate}
+use Rattle.std.specs.Prelude.{ℕ, ◌*◌, List, [], ◌∷◌, Bool, ◌&&◌, leb, length, replicate, Err, Ok, Result}
 use Rattle.kinds.specs.Lists.{unless, onto}
 use Rattle.kinds.specs.Reasons.{Says, gives, refuses}
 use Rattle.kinds.specs.declared.Reason.{Reason}
 use Rattle.kinds.specs.declared.Reason.TheVariants.{ShortBuffers, BadScore}
 use Rattle.checks.specs.Again.{score_good}
 use Rattle.walk.specs.declared.Record.{Record}
-use Rattle.walk.specs.declared.Walked.{Walked}
-use Rattle.walk.specs.declared.Walked.TheVariants.{On, Refused}
 
 pub record Walk : Type 0 where
   pub items : List ℕ
@@ -25,7 +23,7 @@ pub record Walk : Type 0 where
   pub count : Record
 
 pub record WalkOutcome : Type 0 where
-  pub answer : Walked
+  pub answer : Result Record Reason
   pub walk : Walk
 
 abbrev pub counting : ℕ → ℕ → ℕ → Record
@@ -35,18 +33,18 @@ abbrev pub walk_of : List ℕ → List ℕ → List ℕ → Record → Walk
 walk_of items log marks count = record { items = items; log = log; marks = marks; count = count }
 
 -- what a call that was handed the record `before` answers and leaves
-abbrev pub record_after : Walked → Record → Record
-record_after (On c) before = c
-record_after (Refused r) before = before
+abbrev pub record_after : Result Record Reason → Record → Record
+record_after (Ok c) before = c
+record_after (Err r) before = before
 
-abbrev pub outcome : Walked → Record → List ℕ → List ℕ → List ℕ → WalkOutcome
+abbrev pub outcome : Result Record Reason → Record → List ℕ → List ℕ → List ℕ → WalkOutcome
 outcome a before items log marks = record { answer = a; walk = walk_of items log marks (record_after a before) }
 
 abbrev pub refuse_walk : Reason → Walk → WalkOutcome
-refuse_walk r w = record { answer = Refused r; walk = w }
+refuse_walk r w = record { answer = Err r; walk = w }
 
 abbrev pub go_on : Walk → WalkOutcome
-go_on w = record { answer = On w.count; walk = w }
+go_on w = record { answer = Ok w.count; walk = w }
 
 abbrev pub begun : ℕ → Walk → Walk
 begun n w = walk_of (onto (0 ∷ 0 ∷ []) w.items) w.log (onto (replicate n 0) w.marks) (counting 1 0 0)
@@ -64,6 +62,6 @@ started ar score spans w =
 abbrev pub record_values : Record → List ℕ
 record_values c = c.waiting ∷ c.logged ∷ c.matches ∷ []
 
-abbrev pub walked_says : Walked → Says
-walked_says (On c) = gives (record_values c)
-walked_says (Refused r) = refuses r 0
+abbrev pub walked_says : Result Record Reason → Says
+walked_says (Ok c) = gives (record_values c)
+walked_says (Err r) = refuses r 0

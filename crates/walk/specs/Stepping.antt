@@ -11,15 +11,14 @@
 --   run       any choices, one after the other
 --   accepted  how many of them are accepted
 --   run_by     by a rule of choice on the number waiting, until none waits
-use Rattle.std.specs.Prelude.{ℕ, zero, suc, ◌+◌, ◌*◌, ◌^◌, List, [], ◌∷◌, ◌++◌, Bool, cond, ◌&&◌, eqb, ltb, leb, length, get_or, take, drop, set}
+use Rattle.kinds.specs.declared.Reason.{Reason}
+use Rattle.std.specs.Prelude.{ℕ, zero, suc, ◌+◌, ◌*◌, ◌^◌, List, [], ◌∷◌, ◌++◌, Bool, cond, ◌&&◌, eqb, ltb, leb, length, get_or, take, drop, set, Err, Ok, Result}
 use Rattle.std.proofs.Math.Option.{Option, none, some}
 use Rattle.std.proofs.Math.ListN.{get_elem?}
 use Rattle.kinds.specs.Lists.{bind, need, all, onto}
 use Rattle.kinds.specs.declared.Reason.TheVariants.{NoSuchItem, OutOfRange}
 use Rattle.following.specs.Following.{target}
 use Rattle.walk.specs.declared.Record.{Record}
-use Rattle.walk.specs.declared.Walked.{Walked}
-use Rattle.walk.specs.declared.Walked.TheVariants.{On, Refused}
 use Rattle.queue.specs.Targets.{targets, marked, newly}
 use Rattle.readers.specs.PlanParts.{counts_good, pairs, pair_words, label_word, block_of}
 use Rattle.walk.specs.Starting.{Walk, WalkOutcome, walk_of, counting, refuse_walk, go_on}
@@ -82,9 +81,9 @@ unfoldable pub run : List ℕ → List ℕ → List ℕ → List ℕ → Walk �
 run plan score spans [] w = w
 run plan score spans (i ∷ is) w = run plan score spans is (stepped plan score spans i w).walk
 
-abbrev pub one : Walked → ℕ
-one (On c) = 1
-one (Refused r) = 0
+abbrev pub one : Result Record Reason → ℕ
+one (Ok c) = 1
+one (Err r) = 0
 
 unfoldable pub accepted : List ℕ → List ℕ → List ℕ → List ℕ → Walk → ℕ
 accepted plan score spans [] w = 0

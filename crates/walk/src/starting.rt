@@ -1,54 +1,46 @@
-ghost use Rattle.std.specs.Prelude.{◌≡◌, ◌≤◌, length, replicate};
-ghost use Rattle.std.proofs.lemmas.List.Edits.{sets};
-ghost use Rattle.walk.specs.Starting.{outcome, started, walk_of, counting};
+ghost use Rattle.std.specs.Prelude.{◌≡◌, ◌≤◌, ◌++◌, drop, length, replicate};
+ghost use Rattle.walk.specs.Starting.{started, counting};
+ghost use Rattle.walk.specs.Lent.{SameBuffers, outcome_in, walk_in};
 
-use crate::{Record, Walked};
+use crate::{Record, Walk};
 use checks::checking::score_good;
-use kinds::Reason;
+use kinds::{Reason, Score};
 
-// State 0 at node 0 waits, and no mark is set.
-pub fn start(
-    symbols: &[u8],
-    score: &[u16],
-    spans: &[u16],
-    waiting: &mut [u16],
-    log: &mut [u16],
-    marks: &mut [u16],
-) -> Walked
-    ensures { outcome result (counting 0 0 0) waiting.new log.new marks.new ≡ started symbols.now score.now spans.now (walk_of waiting.old log.old marks.old (counting 0 0 0)) }
-{
-    let good = score_good(symbols, score, spans);
-    if !good {
-        return Walked::Refused(Reason::BadScore);
+impl Walk<'_> {
+    // State 0 at node 0 waits, and no mark is set.
+    #[tactic(auto, unfolding(crate::specs::Starting::started))]
+    pub fn start(&mut self, symbols: &[u8], score: Score<'_>) -> Result<Record, Reason>
+        ensures same_buffers { SameBuffers self.new self.old }
+        ensures started { outcome_in result (counting 0 0 0) self.new ≡ started symbols.now score.entry.words.now score.entry.spans.now (walk_in self.old (counting 0 0 0)) }
+    {
+        let good = score_good(symbols, score);
+        if !good {
+            return Err(Reason::BadScore);
+        }
+        let n = score.words.len();
+        if self.waiting.len() / 2 < n {
+            return Err(Reason::ShortBuffers);
+        }
+        if self.log.len() < n {
+            return Err(Reason::ShortBuffers);
+        }
+        if self.marks.len() < n {
+            return Err(Reason::ShortBuffers);
+        }
+        clear(self.marks, n);
+        self.waiting[0] = 0;
+        self.waiting[1] = 0;
+        Ok(Record {
+            waiting: 1,
+            logged: 0,
+            matches: 0,
+        })
     }
-    let n = score.len();
-    if waiting.len() / 2 < n {
-        return Walked::Refused(Reason::ShortBuffers);
-    }
-    if log.len() < n {
-        return Walked::Refused(Reason::ShortBuffers);
-    }
-    if marks.len() < n {
-        return Walked::Refused(Reason::ShortBuffers);
-    }
-    clear(marks, n);
-    waiting[0] = 0;
-    waiting[1] = 0;
-    Walked::On(Record {
-        waiting: 1,
-        logged: 0,
-        matches: 0,
-    })
 }
 
-// The first n words are 0.
-fn clear(words: &mut [u16], n: usize)
-    requires { n ≤ length words.old }
-    ensures { words.new ≡ sets words.old 0 (replicate n 0) }
+fn clear(marks: &mut [u16], n: usize)
+    requires { n ≤ length marks.old }
+    ensures { marks.new ≡ replicate n 0 ++ drop n marks.old }
 {
-    let mut i = 0;
-    while i < n {
-        words[i] = 0;
-        i += 1;
-    }
+    marks[..n].fill(0);
 }

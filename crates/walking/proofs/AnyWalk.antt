@@ -9,6 +9,7 @@
 --   ends_read steps_end   none waits exactly if all nodes are logged, which is after as many accepted steps as the score has nodes
 --   log_nodes log_once log_all   the log holds nodes, none twice, and at the end each
 --   same_walk             the walk over words is a walk over positions, item by item, log entry by log entry, bit by bit
+use Rattle.std.specs.Prelude.{Ok}
 use mathlib.Core.Path.{◌≡◌, refl, ap, sym, ◌∙◌, subst}
 use mathlib.Core.List.{List, [], ◌++◌, map}
 use mathlib.Core.Option.{some}
@@ -32,7 +33,6 @@ use Rattle.automaton.proofs.Invariant.{announced}
 use Rattle.automaton.proofs.Steps.{walked_invariant}
 use Rattle.automaton.proofs.Counts.{read_all}
 use Rattle.automaton.proofs.Walks as walks
-use Rattle.walk.specs.declared.Walked.TheVariants.{On}
 use Rattle.walk.specs.Starting.{Walk, WalkOutcome, refuse_walk, begun}
 use Rattle.walk.specs.Stepping.{Finding, look}
 use Rattle.walking.specs.OneFolio.{OneFolio, plan_in, score_in, spans_in, EnoughLent, step_in, walk_in, accepted_in}
@@ -72,10 +72,10 @@ module _ {C : Scored} (F : OneFolio C) where
         go (refuses h d) = d
 
     pub taken : (i : ℕ) → i < (walk_in F choices w).count.waiting
-        → (step_in F i (walk_in F choices w)).answer ≡ On (step_in F i (walk_in F choices w)).walk.count
+        → (step_in F i (walk_in F choices w)).answer ≡ Ok (step_in F i (walk_in F choices w)).walk.count
     taken i l = go (step_is i)
       where
-        go : Stepping F W i → (step_in F i W).answer ≡ On (step_in F i W).walk.count
+        go : Stepping F W i → (step_in F i W).answer ≡ Ok (step_in F i W).walk.count
         go (moves h n d) = rw d
         go (refuses h d) = absurd (omega arith)
 

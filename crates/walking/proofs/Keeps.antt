@@ -8,6 +8,7 @@
 --   step_marks run_marks   so after any choices
 --   start_refusal_keeps    a refused start changes nothing
 --   start_any              whatever record the walk had before
+use Rattle.std.specs.Prelude.{Err, Ok}
 use mathlib.Core.Path.{◌≡◌, refl, ap, sym, ◌∙◌}
 use mathlib.Core.Bool.{Bool, true, false}
 use mathlib.Core.List.{List, [], ◌∷◌}
@@ -28,14 +29,13 @@ use Rattle.kinds.proofs.Options.{on_bind, on_need}
 use Rattle.kinds.proofs.ListLaws.{length_onto, drop_onto}
 use Rattle.checks.specs.Again.{score_good}
 use Rattle.walk.specs.declared.Record.{Record}
-use Rattle.walk.specs.declared.Walked.TheVariants.{On, Refused}
 use Rattle.readers.specs.PlanParts.{pairs, pair_words}
 use Rattle.walk.specs.Starting.{Walk, WalkOutcome, walk_of, refuse_walk, go_on, begun, room_for, started}
 use Rattle.walk.specs.Stepping.{Finding, look, onward, numbered, roomy, moved, tried, stepped, run}
 use Rattle.readers.proofs.LawsPairs.{pair_words_length}
 use Rattle.walking.proofs.MarkLaws.{Marked, marked_length, marked_is}
 
-not_refused {κ} : {Z : Type κ} {c : Record} {r : Reason} → On c ≡ Refused r → Z
+not_refused {κ} : {Z : Type κ} {c : Record} {r : Reason} → Ok c ≡ Err r → Z
 not_refused e = let z : ◌≡◌ {A = ℕ} 0 1 = cc in absurd (omega arith)
 
 -- where there is room, each mark that is announced is there
@@ -71,7 +71,7 @@ module _ (plan score spans : List ℕ) (i : ℕ) (w : Walk) where
       go true e none d = is_34 d (rw (e, d))
       go false e o d = is_32 (ltb_not i w.count.waiting e) (rw e)
 
-  pub step_refusal_keeps : (r : Reason) → (stepped plan score spans i w).answer ≡ Refused r → (stepped plan score spans i w).walk ≡ w
+  pub step_refusal_keeps : (r : Reason) → (stepped plan score spans i w).answer ≡ Err r → (stepped plan score spans i w).walk ≡ w
   step_refusal_keeps r e = go cases
     where
       go : Cases → (stepped plan score spans i w).walk ≡ w
@@ -79,12 +79,12 @@ module _ (plan score spans : List ℕ) (i : ℕ) (w : Walk) where
       go (is_34 d h) = ap (λ (o : WalkOutcome). o.walk) h
       go (is_32 l h) = ap (λ (o : WalkOutcome). o.walk) h
 
-  pub step_counts : (c : Record) → (stepped plan score spans i w).answer ≡ On c → c ≡ (stepped plan score spans i w).walk.count
+  pub step_counts : (c : Record) → (stepped plan score spans i w).answer ≡ Ok c → c ≡ (stepped plan score spans i w).walk.count
   step_counts c e = go cases
     where
       go : Cases → c ≡ (stepped plan score spans i w).walk.count
       go (is_taken v d h) =
-          let z : On c ≡ On v.count = sym e ∙ ap (λ (o : WalkOutcome). o.answer) h in
+          let z : Ok c ≡ Ok v.count = sym e ∙ ap (λ (o : WalkOutcome). o.answer) h in
           let y : c ≡ v.count = cc in
           y ∙ sym (ap (λ (o : WalkOutcome). o.walk.count) h)
       go (is_34 d h) = not_refused (sym e ∙ ap (λ (o : WalkOutcome). o.answer) h)
@@ -132,7 +132,7 @@ module _ (plan score spans : List ℕ) where
   run_marks (i ∷ is) w y b = run_marks is (stepped plan score spans i w).walk y (step_marks i w y b)
 
 module _ (ar score spans : List ℕ) where
-  pub start_refusal_keeps : (w : Walk) (r : Reason) → (started ar score spans w).answer ≡ Refused r → (started ar score spans w).walk ≡ w
+  pub start_refusal_keeps : (w : Walk) (r : Reason) → (started ar score spans w).answer ≡ Err r → (started ar score spans w).walk ≡ w
   unfolding started
   start_refusal_keeps w r e = go (score_good ar score spans) refl (room_for (length score) w) refl
     where
@@ -142,7 +142,7 @@ module _ (ar score spans : List ℕ) where
       go true ea true eb = not_refused (sym (whole ea eb) ∙ e)
         where
           whole : score_good ar score spans ≡ true → room_for (length score) w ≡ true
-              → (started ar score spans w).answer ≡ On (begun (length score) w).count
+              → (started ar score spans w).answer ≡ Ok (begun (length score) w).count
           whole p q = rw (p, q)
 
   -- the record that the walk had before is not looked at

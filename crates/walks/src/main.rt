@@ -4,20 +4,21 @@
 // before every step. Printed are the accepted steps, what waits, what is logged, the refusal of the step after the end, the log where it has at
 // most ten nodes, and the marks. Each walk is made again by lists of the same choices, with a refused one behind every seventh.
 use bufferstone::limits::{
-    FILE_BYTES, MOST_SHAPES, PLAN_WORDS, SCORE_NODES, SCRATCH_WORDS, SHAPES_WORDS, WAITING_WORDS,
+    FILE_BYTES, MOST_SHAPES, PLAN_WORDS, SCORE_NODES, SCRATCH_WORDS, SHAPES_WORDS,
 };
-use bufferstone::{
-    Built, Opened, Reason, Record, Size, Walked, build, equal, number, open, start, step,
-};
+use bufferstone::{Reason, Refusal, Size, Unbuilt, build, equal, number, open};
 use listed::{CHOICES, note, noted, walk_lists};
-use running::files::{PATH_BYTES, argument, has_argument, open_named};
+use running::files::{Name, has_argument, open_named};
+use running::parts::first;
 use running::reading::read_full;
-use running::showing::{show, write};
-use running::texts::{first, put_numbers};
-use running::words::first_words;
+use running::showing::{show_marks, show_spaced};
+use running::tables::Tables;
+use running::texts::numbers_in;
 use std::io;
+use walking::Walk;
 
 mod listed; // the same choices by lists
+mod walking; // a walk and its buffers
 
 fn main(rt: HostRuntime) -> io::Result<()> {
     for i in (1..usize::MAX).step_by(2) {
@@ -35,18 +36,16 @@ fn walk_folio(rt: &HostRuntime, i: usize, j: usize) -> io::Result<()> {
     let mut text = [0u8; 196608];
     let t = read_argument(rt, j, &mut text)?;
     let mut stored = [0u16; PLAN_WORDS];
-    let p = put_numbers(first(&text, t), &mut stored);
-    walk_file(rt, first(&file, n), first_words(&stored, p))
+    let plan = numbers_in(first(&text, t), &mut stored);
+    walk_file(rt, first(&file, n), plan)
 }
 
 // The bytes of the file that argument i names; how many they are, 0 where there is no such file.
 fn read_argument(rt: &HostRuntime, i: usize, bytes: &mut [u8]) -> io::Result<usize> {
-    let mut name = [0u8; PATH_BYTES];
-    let n = argument(rt, i, &mut name).unwrap_or(0);
-    let path = first(&name, n);
-    write(rt, path)?;
-    write(rt, b" ")?;
-    match open_named(rt, path) {
+    let name = Name::argument(rt, i).unwrap_or_default();
+    rt.write_all(name.as_bytes())?;
+    print!(rt; " ")?;
+    match open_named(rt, name.as_bytes()) {
         Ok(mut input) => Ok(read_full(&mut input, bytes)),
         Err(_) => Ok(0),
     }
@@ -58,243 +57,136 @@ fn walk_file(rt: &HostRuntime, file: &[u8], stored: &[u16]) -> io::Result<()> {
     let mut score = [0u16; SCORE_NODES];
     let mut spans = [0u16; SCORE_NODES];
     match open(file, &mut words, &mut starts, &mut score, &mut spans) {
-        Opened::Refused(reason, place) => show(rt, b"refused ", number(reason) as usize),
-        Opened::Folio(c) => {
-            walk_opened(
-                rt,
-                first(file, c.symbols),
-                first_words(&words, c.words),
-                first_words(&starts, c.shapes),
-                first_words(&score, c.nodes),
-                first_words(&spans, c.nodes),
-                stored,
-            )
+        Err(Refusal(reason, _)) => print!(rt; "refused {}", number(reason)),
+        Ok(c) => {
+            let tables = Tables {
+                symbols: first(file, c.symbols),
+                words: first(&words, c.words),
+                starts: first(&starts, c.shapes),
+                score: first(&score, c.nodes),
+                spans: first(&spans, c.nodes),
+            };
+            walk_opened(rt, tables, stored)
         }
     }
 }
 
-fn walk_opened(
-    rt: &HostRuntime,
-    symbols: &[u8],
-    words: &[u16],
-    starts: &[u16],
-    score: &[u16],
-    spans: &[u16],
-    stored: &[u16],
-) -> io::Result<()> {
+fn walk_opened(rt: &HostRuntime, tables: Tables<'_>, stored: &[u16]) -> io::Result<()> {
     let mut plan = [9u16; PLAN_WORDS];
     let mut scratch = [9u16; SCRATCH_WORDS];
-    match build(symbols, words, starts, &mut plan, &mut scratch) {
-        Built::Plan(size) => {
-            let built = first_words(&plan, size.words);
+    match build(tables.symbols, tables.shapes(), &mut plan, &mut scratch) {
+        Ok(size) => {
+            let built = first(&plan, size.words);
             show_plan(rt, size, equal(built, stored))?;
-            walk_ways(rt, symbols, built, score, spans)
+            walk_ways(rt, built, tables)
         }
-        Built::Refused(reason) => show(rt, b"no plan ", number(reason) as usize),
-        Built::Stopped(reason, state) => show(rt, b"no plan ", number(reason) as usize),
+        Err(Unbuilt::Refused(reason) | Unbuilt::Stopped(reason, _)) => {
+            print!(rt; "no plan {}", number(reason))
+        }
     }
 }
 
 fn show_plan(rt: &HostRuntime, size: Size, same: bool) -> io::Result<()> {
     if same {
-        show(rt, b"plan ", size.states)?;
-        show(rt, b" states ", size.words)?;
-        return write(rt, b" words as stored\n");
-    }
-    write(rt, b"plan differs\n")
-}
-
-fn walk_ways(
-    rt: &HostRuntime,
-    symbols: &[u8],
-    plan: &[u16],
-    score: &[u16],
-    spans: &[u16],
-) -> io::Result<()> {
-    let none = [65535u16; SCORE_NODES];
-    let mut firsts = [9u16; SCORE_NODES];
-    let mut lasts = [9u16; SCORE_NODES];
-    let mut others = [9u16; SCORE_NODES];
-    walk_way(rt, symbols, plan, score, spans, &none, &mut firsts, 0)?;
-    walk_way(rt, symbols, plan, score, spans, &firsts, &mut lasts, 1)?;
-    walk_way(rt, symbols, plan, score, spans, &firsts, &mut others, 2)
-}
-
-// By single steps, and again by lists; `before` are the marks of another way.
-fn walk_way(
-    rt: &HostRuntime,
-    symbols: &[u8],
-    plan: &[u16],
-    score: &[u16],
-    spans: &[u16],
-    before: &[u16],
-    marks: &mut [u16],
-    way: usize,
-) -> io::Result<()> {
-    let mut log = [0u16; SCORE_NODES];
-    let mut choices = [65535u16; CHOICES];
-    walk_whole(
-        rt,
-        symbols,
-        plan,
-        score,
-        spans,
-        &mut log,
-        marks,
-        &mut choices,
-        way,
-    )?;
-    if equal(before, marks) {
-        write(rt, b" the same marks\n")?;
+        println!(rt;
+            "plan {} states {} words as stored",
+            size.states, size.words
+        )
     } else {
-        show_marks(rt, marks, score.len())?;
-    }
-    let all = noted(&choices, score.len());
-    walk_lists(rt, symbols, plan, score, spans, all, &log, marks)
-}
-
-fn walk_whole(
-    rt: &HostRuntime,
-    symbols: &[u8],
-    plan: &[u16],
-    score: &[u16],
-    spans: &[u16],
-    log: &mut [u16],
-    marks: &mut [u16],
-    choices: &mut [u16],
-    way: usize,
-) -> io::Result<()> {
-    let mut waiting = [0u16; WAITING_WORDS];
-    match start(symbols, score, spans, &mut waiting, log, marks) {
-        Walked::On(r) => {
-            take_steps(
-                rt,
-                plan,
-                score,
-                spans,
-                &mut waiting,
-                log,
-                marks,
-                r,
-                choices,
-                way,
-            )
-        }
-        Walked::Refused(reason) => show(rt, b"no start ", number(reason) as usize),
+        println!(rt; "plan differs")
     }
 }
 
-// Steps until one is refused, and notes what was chosen.
-fn take_steps(
-    rt: &HostRuntime,
-    plan: &[u16],
-    score: &[u16],
-    spans: &[u16],
-    waiting: &mut [u16],
-    log: &mut [u16],
-    marks: &mut [u16],
-    begun: Record,
-    choices: &mut [u16],
-    way: usize,
-) -> io::Result<()> {
-    let mut record = begun;
-    let mut turn: u32 = 1;
-    for taken in 0..5000 {
-        turn = next(turn);
-        let choice = choose(way, record.waiting, turn);
-        note(choices, taken, choice);
-        match take(rt, plan, score, spans, waiting, log, marks, record, choice)? {
-            Walked::On(r) => {
-                record = r;
-            }
-            Walked::Refused(reason) => {
-                return show_end(rt, taken, record, number(reason), log);
-            }
-        }
-    }
-    Ok(())
-}
-
-// A step, after one with a choice that has to be refused.
-fn take(
-    rt: &HostRuntime,
-    plan: &[u16],
-    score: &[u16],
-    spans: &[u16],
-    waiting: &mut [u16],
-    log: &mut [u16],
-    marks: &mut [u16],
-    record: Record,
-    choice: usize,
-) -> io::Result<Walked> {
-    let past = record.waiting;
-    show_taken(
+// Of the items waiting the first is taken each time, the last, and one that the turn says.
+fn walk_ways(rt: &HostRuntime, plan: &[u16], tables: Tables<'_>) -> io::Result<()> {
+    let none = [65535u16; SCORE_NODES];
+    let firsts = walk_way(rt, plan, tables, &none, |_, _| 0)?;
+    walk_way(
         rt,
-        step(plan, score, spans, waiting, log, marks, record, past),
+        plan,
+        tables,
+        &firsts,
+        |waiting, _| waiting.saturating_sub(1),
     )?;
-    Ok(step(plan, score, spans, waiting, log, marks, record, choice))
+    walk_way(
+        rt,
+        plan,
+        tables,
+        &firsts,
+        |waiting, turn| turn.checked_rem(waiting).unwrap_or(0),
+    )?;
+    Ok(())
 }
 
-fn show_taken(rt: &HostRuntime, answer: Walked) -> io::Result<()> {
-    match answer {
-        Walked::On(r) => show(rt, b" a wrong choice taken, waiting ", r.waiting),
-        Walked::Refused(Reason::NoSuchItem) => Ok(()),
-        Walked::Refused(reason) => show(rt, b" a wrong choice refused ", number(reason) as usize),
-    }
-}
-
-fn next(turn: u32) -> u32 {
-    ((turn % 65537) * 75 + 74) % 65537
-}
-
-fn choose(way: usize, waiting: usize, turn: u32) -> usize {
-    if waiting == 0 {
-        return 0;
-    }
-    if way == 0 {
-        return 0;
-    }
-    if way == 1 {
-        return waiting - 1;
-    }
-    (turn as usize) % waiting
-}
-
-fn show_end(
+// By single steps, and again by lists; the marks. `before` are those of another way.
+fn walk_way<F: Fn(usize, usize) -> usize>(
     rt: &HostRuntime,
-    taken: usize,
-    record: Record,
-    why: u16,
-    log: &[u16],
-) -> io::Result<()> {
-    show(rt, b"steps ", taken)?;
-    show(rt, b" waiting ", record.waiting)?;
-    show(rt, b" logged ", record.logged)?;
-    show(rt, b" then refused ", why as usize)?;
-    if record.logged <= 10 {
-        write(rt, b" log")?;
-        show_log(rt, first_words(log, record.logged))?;
+    plan: &[u16],
+    tables: Tables<'_>,
+    before: &[u16],
+    choose: F,
+) -> io::Result<[u16; SCORE_NODES]>
+    requires { F.IsAlwaysCallable choose }
+{
+    let mut choices = [65535u16; CHOICES];
+    let mut walk = Walk::new(plan, tables);
+    match walk.start() {
+        Ok(()) => take_steps(rt, &mut walk, &mut choices, choose)?,
+        Err(reason) => print!(rt; "no start {}", number(reason))?,
     }
-    Ok(())
+    if equal(before, &walk.marks) {
+        print!(rt; " the same marks\n")?;
+    } else {
+        print!(rt; " marks")?;
+        show_marks(rt, " ", first(&walk.marks, tables.score.len()))?;
+        print!(rt; "\n")?;
+    }
+    walk_lists(rt, &walk, noted(&choices, tables.score.len()))?;
+    Ok(walk.marks)
 }
 
-fn show_log(rt: &HostRuntime, log: &[u16]) -> io::Result<()> {
-    for i in 0..log.len() {
-        show(rt, b" ", log[i] as usize)?;
-    }
-    Ok(())
-}
-
-// The nodes among the first n that have a mark, each with its mark.
-fn show_marks(rt: &HostRuntime, marks: &[u16], n: usize) -> io::Result<()> {
-    write(rt, b" marks")?;
-    for i in 0..marks.len() {
-        if i < n {
-            if marks[i] != 0 {
-                show(rt, b" ", i)?;
-                show(rt, b":", marks[i] as usize)?;
-            }
+// Steps until one is refused, each after one with a choice that has to be refused. What was chosen is noted.
+fn take_steps<F: Fn(usize, usize) -> usize>(
+    rt: &HostRuntime,
+    walk: &mut Walk<'_>,
+    choices: &mut [u16],
+    choose: F,
+) -> io::Result<()>
+    requires { F.IsAlwaysCallable choose }
+{
+    let mut turn: usize = 1;
+    for taken in 0..5000 {
+        turn = ((turn % 65537) * 75 + 74) % 65537;
+        let waiting = walk.record.waiting;
+        let choice = choose(waiting, turn);
+        note(choices, taken, choice);
+        show_wrong(rt, walk.step(waiting), walk.record.waiting)?;
+        if let Err(reason) = walk.step(choice) {
+            return show_end(rt, walk, taken, reason);
         }
     }
-    write(rt, b"\n")
+    Ok(())
+}
+
+// Where a choice past the end was not refused for that.
+fn show_wrong(rt: &HostRuntime, answer: Result<(), Reason>, waiting: usize) -> io::Result<()> {
+    match answer {
+        Ok(()) => print!(rt; " a wrong choice taken, waiting {waiting}"),
+        Err(Reason::NoSuchItem) => Ok(()),
+        Err(reason) => print!(rt; " a wrong choice refused {}", number(reason)),
+    }
+}
+
+fn show_end(rt: &HostRuntime, walk: &Walk<'_>, taken: usize, why: Reason) -> io::Result<()> {
+    let waiting = walk.record.waiting;
+    let logged = walk.record.logged;
+    print!(rt;
+        "steps {taken} waiting {waiting} logged {logged} then refused {}",
+        number(why)
+    )?;
+    if logged <= 10 {
+        print!(rt; " log")?;
+        show_spaced(rt, first(&walk.log, logged))?;
+    }
+    Ok(())
 }

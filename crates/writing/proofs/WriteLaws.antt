@@ -10,7 +10,7 @@ use mathlib.Core.List.{List, [], ◌∷◌, ◌++◌, map}
 use mathlib.Core.Option.{Option, none, some}
 use Prim.Native.Nat.{ℕ, suc, ◌+◌, ◌-◌, ◌*◌, ◌%◌, ◌<◌, ◌≤◌}
 use native.Mathlib.Omega.{arith}
-use native.Mathlib.Nat.{add-zero, zero-add, sub-zero, zero-mul, suc-mul, add-mul, mul-le-mul}
+use native.Mathlib.Nat.{add-zero, zero-add, sub-zero, suc-mul, add-mul, mul-le-mul}
 use native.Mathlib.Numerals.{add-one}
 use lib.ListN.{length, get_or, drop, set, length-set, length-append, length-map, length-drop, drop_of_length-le}
 use lib.Seq.{sets, length-sets, drop-cons}
@@ -50,9 +50,6 @@ pub record Paired (F G : ℕ → ℕ) (xs l₀ l : List ℕ) (at here j : ℕ) :
   pub is : sets l₀ (at + 1) (pairs F G xs) ≡ sets l here (pairs F G (drop j xs))
 
 module _ {F G : ℕ → ℕ} {xs l₀ : List ℕ} {at : ℕ} where
-  pub paired_begin : Paired F G xs l₀ l₀ at (at + 1) 0
-  paired_begin = record { below = omega arith; long = refl; stands = omega arith; is = refl }
-
   module _ {l : List ℕ} {here j : ℕ} (s : Paired F G xs l₀ l at here j) where
     -- where the count stands in l₁ already
     pub paired_room : j < length xs → (l₁ : List ℕ) → l₀ ≡ set l₁ at (length xs) → at + (1 + 2 * length xs) ≤ length l₁
@@ -227,17 +224,6 @@ module _ (tab : List ℕ) (n : ℕ) (sc : List ℕ) (m i : ℕ) (ar : List ℕ) 
         (sets l (S + f) (starts_from here (row_words tab n sc m i f (drop f ar)))) here (concat (row_words tab n sc m i f (drop f ar)))
 
 module _ {tab : List ℕ} {n : ℕ} {sc : List ℕ} {m i : ℕ} {ar : List ℕ} {S at : ℕ} {l₀ : List ℕ} where
-  pub rowed_begin : Rowed tab n sc m i ar S at l₀ l₀ at 0
-  rowed_begin =
-      record {
-        below = omega arith;
-        long = refl;
-        past = omega arith;
-        stands = refl;
-        is =
-            ap (λ k. sets (sets l₀ k (starts_from at (row_words tab n sc m i 0 ar))) at (row_all ar tab n sc m i)) (sym (add-zero S));
-      }
-
   module _ {l : List ℕ} {here f : ℕ} (s : Rowed tab n sc m i ar S at l₀ l here f) where
     pub rowed_room : f < length ar → here + length (block_in ar tab n sc m i f) ≤ at + length (row_all ar tab n sc m i)
     rowed_room h =
@@ -363,15 +349,6 @@ module _ (ar tab : List ℕ) (n : ℕ) (sc : List ℕ) (m : ℕ) where
         ≡ sets (sets (sets l (4 + i) (labels_from i)) (4 + m + i * length ar) (starts_from at (words_from i))) at (concat (words_from i))
 
 module _ {ar tab : List ℕ} {n : ℕ} {sc : List ℕ} {m : ℕ} where
-  pub planned_begin : (l₀ : List ℕ) → Planned ar tab n sc m l₀ l₀ (base ar tab n sc m) 0
-  planned_begin l₀ = record {
-    below = omega arith;
-    long = refl;
-    past = omega arith;
-    stands = refl;
-    is = let e : 4 + m + 0 * length ar ≡ 4 + m = omega (arith, zero-mul (length ar)) in rw e refl;
-  }
-
   module _ {l₀ l : List ℕ} {at i : ℕ} (s : Planned ar tab n sc m l₀ l at i) where
     -- what is left of the rows lies within
     within : i < m → 4 + m + i * length ar + length ar ≤ (base ar tab n sc m)
@@ -491,9 +468,6 @@ module _ {ar tab : List ℕ} {n : ℕ} {sc : List ℕ} {m : ℕ} where
     -- the whole plan has room
     pub plan_room : 4 + m + m * length ar + length (concat (words_from ar tab n sc m 0)) ≤ length plan
     plan_room = let e = plan_sum in omega (arith, w.room)
-
-    pub plan_word : 4 + m + m * length ar + length (concat (words_from ar tab n sc m 0)) ≤ 65535
-    plan_word = let e = plan_sum in omega (arith, w.word)
 
     pub row_writable : {l₀ l : List ℕ} {at i : ℕ} → Planned ar tab n sc m l₀ l at i → i < m → length l₀ ≡ length plan → (c : ℕ)
         → c ≡ label_code tab (state_in sc i)

@@ -1,11 +1,12 @@
+use Prim.Native.Nat.{◌/◌, ◌%◌}
+use mathlib.Core.Path.{◌≡◌, ap, ◌∙◌}
 use native.Mathlib.Omega.{arith}
-use mathlib.Core.Path.{refl}
-use lib.ListN.{length-set}
-use Rattle.binding.proofs.LawsBinding.{word_stored}
+use mathlib.Core.List.{[], ◌∷◌}
+use lib.Seq.{sets}
 use Rattle.binding.proofs.storing.put_word.Goals as goal
 
-pub bounds-file-at-2 : goal.bounds-file-at-2
-bounds-file-at-2 c = simp length-set (omega arith)
-
-pub returns : goal.returns
-returns c = record { file_after = word_stored c.args.file.now c.args.at c.args.word; value = refl }
+pub returns-clause-file_after : goal.returns-clause-file_after
+returns-clause-file_after c =
+    let high : c.args.word / 256 % 256 ≡ c.args.word / 256 = omega (arith, c.ranges.word) in
+    c.put_bytes.ensures.file_after
+    ∙ ap (sets c.args.file.now c.args.at) (c.to_le_bytes.ensures ∙ ap (λ h. c.args.word % 256 ∷ h ∷ []) high)

@@ -1,9 +1,5 @@
 use Rattle.classes.proofs.ClosureLaws.{Row}
-use Prim.Native.Nat.{◌-◌}
 use Rattle.classes.proofs.closure.join_row.Given as goal
 
 abbrev pub invariant-loop-j : goal.invariant-loop-j
 invariant-loop-j l = Row l.n l.k l.i l.initial.dep l.dep l.j
-
-abbrev pub decreases-loop-j : goal.decreases-loop-j
-decreases-loop-j l = l.n - l.j

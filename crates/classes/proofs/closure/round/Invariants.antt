@@ -1,9 +1,5 @@
 use Rattle.classes.specs.Squares.{RowsJoined}
-use Prim.Native.Nat.{◌-◌}
 use Rattle.classes.proofs.closure.round.Given as goal
 
 abbrev pub invariant-loop-i : goal.invariant-loop-i
 invariant-loop-i l = RowsJoined l.n l.k l.initial.dep l.dep l.i
-
-abbrev pub decreases-loop-i : goal.decreases-loop-i
-decreases-loop-i l = l.n - l.i

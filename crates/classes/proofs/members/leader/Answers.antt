@@ -1,28 +1,11 @@
-use Rattle.classes.proofs.ClassLaws.{leads_no, leads_next, leads_end}
-use native.Mathlib.Nat.{sub-zero}
-use lib.ListN.{get_or}
-use mathlib.Core.List.{[]}
-use mathlib.Core.Path.{refl, sym, ◌∙◌}
-use native.Mathlib.Omega.{arith}
+use Rattle.std.proofs.Common.{rules, true, false, ◌≡◌, ◌∙◌, [], get_or}
+use Rattle.std.proofs.lemmas.Iterator.{IsFirst-from_position, YieldsList-from_slice}
+use Rattle.classes.proofs.ClassLaws.{leads_is}
 use Rattle.classes.proofs.members.leader.Goals as goal
-
-pub loop-j-init : goal.loop-j-init
-loop-j-init c = (omega arith, rw (sub-zero c.args.i) refl)
-
-pub returns-then-dep-i : goal.returns-then-dep-i
-returns-then-dep-i c =
-    sym (c.loop-j.invariant.1 ∙ leads_no (get_or c.args.dep.now c.args.i []) c.args.i c.loop-j.j
-    (omega (arith, c.loop-j-test.true, c.requires.0, c.requires.1.cols c.args.i c.requires.0)) c.loop-j-test.true c.if-dep-i.true)
-
-pub loop-j-preserved : goal.loop-j-preserved
-loop-j-preserved c = (
-  omega arith,
-  c.loop-j.invariant.1
-      ∙ leads_next (get_or c.args.dep.now c.args.i []) c.args.i c.loop-j.j
-      (omega (arith, c.loop-j-test.true, c.requires.0, c.requires.1.cols c.args.i c.requires.0)) c.loop-j-test.true c.if-dep-i.false,
-)
 
 pub returns : goal.returns
 returns c =
-    sym (c.loop-j.invariant.1 ∙ leads_end (get_or c.args.dep.now c.args.i []) c.args.i c.loop-j.j (omega (arith, c.requires.0, c.requires.1.cols c.args.i c.requires.0))
-    (omega (arith, c.loop-j.invariant.0, c.loop-j-test.false)))
+    let row = get_or c.args.dep.now c.args.i [] in
+    c.eq.ensures ∙ leads_is row c.args.i c.position.result
+    (IsFirst-from_position _ _ _ (λ b. b ≡ true) (λ b. b ≡ false) c.position.ensures.ran (YieldsList-from_slice row cc)
+    (λ x q k. search rules) (λ x q k. search rules))

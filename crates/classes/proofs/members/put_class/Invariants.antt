@@ -1,7 +1,7 @@
 use Rattle.classes.proofs.ClassLaws.{Left}
 use Rattle.goals.specs.GoalWords.{goals_from, flat}
 use Rattle.goals.specs.WordStages.{picked_w}
-use Prim.Native.Nat.{◌≤◌, ◌+◌, ◌-◌, ◌*◌}
+use Prim.Native.Nat.{◌+◌}
 use lib.Seq.{sets}
 use lib.ListN.{length, get_or}
 use mathlib.Core.List.{[]}
@@ -9,9 +9,6 @@ use mathlib.Core.Path.{◌≡◌}
 use Rattle.classes.proofs.members.put_class.Given as goal
 
 abbrev pub invariant-loop-j : goal.invariant-loop-j
-invariant-loop-j l = (l.j ≤ l.n) × (l.here ≡ 3 * l.j) × (length l.out ≡ length l.initial.out)
-    × (l.next + length (Left (get_or l.dep l.i []) l.ws l.here l.n l.j) ≡ l.to + length (flat (picked_w (get_or l.dep l.i []) (goals_from l.ws 0 l.n))))
-    × (sets l.initial.out l.to (flat (picked_w (get_or l.dep l.i []) (goals_from l.ws 0 l.n))) ≡ sets l.out l.next (Left (get_or l.dep l.i []) l.ws l.here l.n l.j))
-
-abbrev pub decreases-loop-j : goal.decreases-loop-j
-decreases-loop-j l = l.n - l.j
+invariant-loop-j l =
+    (l.next + length (Left (get_or l.dep l.i []) l.ws l.n l.j) ≡ l.to + length (flat (picked_w (get_or l.dep l.i []) (goals_from l.ws 0 l.n))))
+    × (sets l.initial.out l.to (flat (picked_w (get_or l.dep l.i []) (goals_from l.ws 0 l.n))) ≡ sets l.out l.next (Left (get_or l.dep l.i []) l.ws l.n l.j))

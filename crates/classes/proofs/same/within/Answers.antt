@@ -1,26 +1,17 @@
-use Rattle.classes.proofs.SameLaws.{among_is, within_on, within_off, within_end}
+use Rattle.std.proofs.Common.{rules, ◌≡◌, ◌+◌, ◌*◌, ◌∙◌, refl, true, false, ℕ}
+use native.Mathlib.Nat.{sub-zero}
+use Rattle.std.specs.List.{range_with_len}
+use Rattle.std.proofs.lemmas.Iterator.{cases_from_all, YieldsList-from_range}
 use Rattle.goals.specs.GoalWords.{goal_at, goals_from}
-use mathlib.Core.Path.{refl, sym, ◌∙◌}
-use native.Mathlib.Omega.{arith}
+use Rattle.goals.specs.WordStages.{among_w}
+use Rattle.classes.proofs.SameLaws.{all_is, within_all}
 use Rattle.classes.proofs.same.within.Goals as goal
-
-pub loop-left-init : goal.loop-left-init
-loop-left-init c = (refl, refl)
-
-pub loop-left-preserved : goal.loop-left-preserved
-loop-left-preserved c =
-    let hs = goals_from c.args.vs.now c.args.at c.args.k in (
-      c.loop-left.invariant.0 ∙ within_on hs c.args.ws.now c.loop-left.here c.loop-left.left c.loop-left-test.true
-          (among_is hs (goal_at c.args.ws.now c.loop-left.here) c.among.ensures c.goal_at.ensures c.if-among.true),
-      omega arith,
-    )
-
-pub returns-else-among : goal.returns-else-among
-returns-else-among c =
-    let hs = goals_from c.args.vs.now c.args.at c.args.k in
-    sym (c.loop-left.invariant.0 ∙ within_off hs c.args.ws.now c.loop-left.here c.loop-left.left c.loop-left-test.true
-    (among_is hs (goal_at c.args.ws.now c.loop-left.here) c.among.ensures c.goal_at.ensures c.if-among.false))
 
 pub returns : goal.returns
 returns c =
-    sym (c.loop-left.invariant.0 ∙ within_end (goals_from c.args.vs.now c.args.at c.args.k) c.args.ws.now c.loop-left.here c.loop-left.left c.loop-left-test.false)
+    let hs = goals_from c.args.vs.now c.args.at c.args.k in
+    let is = λ (j : ℕ). among_w (goal_at c.args.ws.now (c.args.from + 3 * j)) hs in
+    all_is is c.all.result (range_with_len 0 c.args.n)
+    (cases_from_all _ _ _ (λ j. is j ≡ true) (λ j. is j ≡ false) c.all.ensures.ran (YieldsList-from_range 0 c.args.n c.args.n refl (sub-zero _))
+    (λ x q k. search rules) (λ x q k. search rules))
+    ∙ within_all c.args.ws.now c.args.from hs c.args.n

@@ -5,12 +5,12 @@ use Rattle.goals.specs.Sharing.{is_at}
 use mathlib.Core.Path.{ap, sym, ◌∙◌}
 use Rattle.classes.proofs.square.depends.Goals as goal
 
-pub returns-in-At : goal.returns-in-At
-returns-in-At c =
+pub returns-in-Some : goal.returns-in-Some
+returns-in-Some c =
     sym (sym (shared_is (owed_by c.args.tab.now (as_words c.args.g)) (owed_by c.args.tab.now (as_words c.args.h)))
-    ∙ ap is_at (sym c.share.ensures ∙ c.in-At.is))
+    ∙ ap is_at (sym c.share.ensures ∙ c.in-Some.is))
 
-pub returns-in-Nothing : goal.returns-in-Nothing
-returns-in-Nothing c =
+pub returns-in-None : goal.returns-in-None
+returns-in-None c =
     sym (sym (shared_is (owed_by c.args.tab.now (as_words c.args.g)) (owed_by c.args.tab.now (as_words c.args.h)))
-    ∙ ap is_at (sym c.share.ensures ∙ c.in-Nothing.is))
+    ∙ ap is_at (sym c.share.ensures ∙ c.in-None.is))

@@ -1,25 +1,13 @@
-use Rattle.counting.proofs.CountLaws.{total_next, total_end}
-use lib.ListN.{get_or}
-use lib.Count.{ones-le}
-use native.Mathlib.Omega.{arith}
+use mathlib.Core.Path.{◌∙◌}
+use lib.Count.{ones}
+use Rattle.std.proofs.Common.{rules}
+use Rattle.std.proofs.lemmas.Iterator.{YieldsList-from_slice, YieldsList-from_map}
+use Rattle.std.proofs.lemmas.Iterator.Consumers.{sum_by_from_yields_List}
+use Rattle.counting.proofs.CountLaws.{total_ones}
 use Rattle.counting.proofs.marks.ones_of.Goals as goal
 
-pub loop-i-init : goal.loop-i-init
-loop-i-init c = omega arith
-
-pub overflow_cast-sum : goal.overflow_cast-sum
-overflow_cast-sum c =
-    omega (arith, ones-le 16 (get_or c.args.marks.now c.loop-i.i 0) (c.type_inv.marks c.loop-i.i).fits)
-
-pub overflow_add-sum : goal.overflow_add-sum
-overflow_add-sum c =
-    omega (arith, ones-le 16 (get_or c.args.marks.now c.loop-i.i 0) (c.type_inv.marks c.loop-i.i).fits)
-
-pub loop-i-preserved : goal.loop-i-preserved
-loop-i-preserved c =
-    let m = get_or c.args.marks.now c.loop-i.i 0 in
-    let fits = c.type_inv.marks c.loop-i.i in
-    omega (arith, ones-le 16 m fits.fits, total_next c.args.marks.now c.loop-i.i c.loop-i-test.true fits.fits)
-
 pub returns : goal.returns
-returns c = omega (arith, total_end c.args.marks.now c.loop-i.i c.loop-i-test.false)
+returns c =
+    sum_by_from_yields_List ones c.args.marks.now c.map.result _ c.sum.ensures.ran
+    (YieldsList-from_map _ ones (YieldsList-from_slice c.args.marks.now cc) c.map.ensures.closure (λ x r q k. search rules))
+    ∙ total_ones c.args.marks.now (λ i. (c.type_inv.marks i).fits)

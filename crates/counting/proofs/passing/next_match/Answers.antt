@@ -7,23 +7,6 @@ use Rattle.counting.proofs.passing.next_match.Goals as goal
 pub loop-k-init : goal.loop-k-init
 loop-k-init c = (c.requires.1, refl)
 
-pub overflow_cast-result : goal.overflow_cast-result
-overflow_cast-result c =
-    omega (
-      arith,
-      low_in c.args.marks.now c.loop-k.k (c.type_inv.marks (c.loop-k.k / 16)).fits
-          c.if-rest-ne0.true,
-    )
-
-pub overflow_add-result : goal.overflow_add-result
-overflow_add-result c =
-    omega (
-      arith,
-      low_in c.args.marks.now c.loop-k.k (c.type_inv.marks (c.loop-k.k / 16)).fits
-          c.if-rest-ne0.true,
-      c.loop-k-test.true,
-    )
-
 pub returns-then-rest-ne0 : goal.returns-then-rest-ne0
 returns-then-rest-ne0 c =
     let fits = (c.type_inv.marks (c.loop-k.k / 16)).fits in

@@ -10,11 +10,11 @@ returns-then-code-eq0 t c = sym (descend_root _ _ _ c.if-code-eq0.true)
 pub descend-requires : goal.descend-requires
 descend-requires t c = omega arith
 
-pub returns-in-At : goal.returns-in-At
-returns-in-At t c = c.child.ensures
+pub returns-in-Some : goal.returns-in-Some
+returns-in-Some t c = c.child.ensures
     ∙ sym (descend_child _ _ _ c.if-code-eq0.false (omega arith)
-    (sym c.descend.ensures ∙ ap node_of c.in-At.is))
+    (sym c.descend.ensures ∙ ap node_of c.in-Some.is))
 
-pub returns-in-Nowhere : goal.returns-in-Nowhere
-returns-in-Nowhere t c = sym (descend_none _ _ _ c.if-code-eq0.false (omega arith)
-    (sym c.descend.ensures ∙ ap node_of c.in-Nowhere.is))
+pub returns-in-None : goal.returns-in-None
+returns-in-None t c = sym (descend_none _ _ _ c.if-code-eq0.false (omega arith)
+    (sym c.descend.ensures ∙ ap node_of c.in-None.is))

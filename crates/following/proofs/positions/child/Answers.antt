@@ -1,49 +1,32 @@
-use Rattle.following.proofs.LawsFollowing.{child_zero, child_out, child_in, sibling_out, sibling_empty, sibling_past, sibling_here, sibling_next}
+use Rattle.following.proofs.LawsFollowing.{child_out, child_in, siblings_out, siblings_empty, siblings_past, siblings_here, siblings_next}
 use mathlib.Core.Path.{sym, ◌∙◌}
 use native.Mathlib.Omega.{arith}
 use Rattle.following.proofs.positions.child.Goals as goal
-
-pub returns-then-i-eq0 : goal.returns-then-i-eq0
-returns-then-i-eq0 c = sym (child_zero _ _ _ c.if-i-eq0.true)
+use Rattle.following.proofs.positions.child.Goals.{then-size-eq0-via-then-size-eq0, then-size-eq0-via-else-size-eq0+then-end-here}
 
 pub returns-then-spans-at : goal.returns-then-spans-at
-returns-then-spans-at c = sym (child_out _ _ _ c.if-i-eq0.false c.if-spans-at.true)
+returns-then-spans-at c = sym (child_out _ _ _ c.if-spans-at.true)
 
-pub overflow_cast-end : goal.overflow_cast-end
-overflow_cast-end c = omega (arith, c.type_inv.spans c.args.at)
-
-pub overflow_add-end : goal.overflow_add-end
-overflow_add-end c = omega (arith, c.type_inv.spans c.args.at)
-
-pub loop-here-init : goal.loop-here-init
-loop-here-init c = child_in _ _ _ c.if-i-eq0.false c.if-spans-at.false
+pub loop-left-init : goal.loop-left-init
+loop-left-init c = child_in _ _ _ c.if-spans-at.false
 
 pub returns-then-spans-here : goal.returns-then-spans-here
-returns-then-spans-here c = sym (c.loop-here.invariant ∙ sibling_out _ _ _ _ c.if-spans-here.true)
-
-pub overflow_cast-size : goal.overflow_cast-size
-overflow_cast-size c = omega (arith, c.type_inv.spans c.loop-here.here)
+returns-then-spans-here c = sym (c.loop-left.invariant ∙ siblings_out _ _ _ _ c.if-spans-here.true)
 
 pub returns-then-size-eq0 : goal.returns-then-size-eq0
-returns-then-size-eq0 c = sym (c.loop-here.invariant ∙ sibling_empty _ _ _ _ c.if-spans-here.false c.if-size-eq0.true)
-
-pub overflow_add-here-in-loop-here : goal.overflow_add-here-in-loop-here
-overflow_add-here-in-loop-here c = omega (arith, c.type_inv.spans c.loop-here.here)
-
-pub returns-then-end-here : goal.returns-then-end-here
-returns-then-end-here c = sym (c.loop-here.invariant
-    ∙ sibling_past _ _ _ _ c.if-spans-here.false c.if-size-eq0.false c.if-end-here.true)
+returns-then-size-eq0 c =
+    elim c.then-size-eq0.branch [
+      | then-size-eq0-via-then-size-eq0 w ↦ sym (c.loop-left.invariant ∙ siblings_empty _ _ _ _ c.if-spans-here.false w.if-size-eq0.true)
+      | then-size-eq0-via-else-size-eq0+then-end-here w ↦
+          sym (c.loop-left.invariant ∙ siblings_past _ _ _ _ c.if-spans-here.false w.if-size-eq0.false w.if-end-here.true)
+    ]
 
 pub returns-then-left-eq0 : goal.returns-then-left-eq0
-returns-then-left-eq0 c = sym (c.loop-here.invariant
-    ∙ sibling_here _ _ _ _ c.if-spans-here.false c.if-size-eq0.false c.if-end-here.false c.if-left-eq0.true)
+returns-then-left-eq0 c =
+    sym (c.loop-left.invariant
+    ∙ siblings_here _ _ c.loop-left.left _ c.if-spans-here.false c.if-size-eq0.false c.if-end-here.false (omega arith))
 
-pub overflow_add-here-in-loop-here-2 : goal.overflow_add-here-in-loop-here-2
-overflow_add-here-in-loop-here-2 c = omega (arith, c.type_inv.spans c.loop-here.here)
-
-pub loop-here-smaller : goal.loop-here-smaller
-loop-here-smaller c = omega arith
-
-pub loop-here-preserved : goal.loop-here-preserved
-loop-here-preserved c = c.loop-here.invariant
-    ∙ sibling_next _ _ _ _ c.if-spans-here.false c.if-size-eq0.false c.if-end-here.false c.if-left-eq0.false
+pub loop-left-preserved : goal.loop-left-preserved
+loop-left-preserved c =
+    c.loop-left.invariant
+    ∙ siblings_next _ _ c.loop-left.left _ c.if-spans-here.false c.if-size-eq0.false c.if-end-here.false (omega arith)

@@ -2,17 +2,19 @@ use Rattle.goals.proofs.GoalLaws.{has_next, has_here, has_end, first_next, first
 use mathlib.Core.Path.{sym, ◌∙◌}
 use Rattle.goals.proofs.obligations.common.Goals as goal
 
-pub loop-j-preserved : goal.loop-j-preserved
-loop-j-preserved c = c.loop-j.invariant ∙ has_next _ _ _ c.loop-j-test.true c.if-b-j.false
+pub loop-y-preserved : goal.loop-y-preserved
+loop-y-preserved c = (c.loop-y.invariant.0, c.loop-y.invariant.1 ∙ has_next _ _ _ c.loop-y-test.true c.if-y-x.false)
 
 pub outer-preserved : goal.outer-preserved
-outer-preserved c = c.outer.invariant
-    ∙ first_next _ _ _ c.if-a-i.false (c.loop-j.invariant ∙ has_end _ _ _ c.loop-j-test.false)
+outer-preserved c = (
+  c.loop-y.invariant.0,
+  c.outer.invariant.1 ∙ first_next _ _ _ c.outer-test.true (c.loop-y.invariant.1 ∙ has_end _ _ _ c.loop-y-test.false),
+)
 
-pub returns-then-a-i : goal.returns-then-a-i
-returns-then-a-i c = sym (c.outer.invariant ∙ first_end _ _ _ c.if-a-i.true)
+pub returns-after-outer : goal.returns-after-outer
+returns-after-outer c = c.outer.invariant.0 ∙ sym (c.outer.invariant.1 ∙ first_end _ _ _ c.outer-test.false)
 
-pub returns-then-b-j : goal.returns-then-b-j
-returns-then-b-j c =
-    sym (c.outer.invariant ∙ first_here _ _ _ c.if-a-i.false
-    (c.loop-j.invariant ∙ has_here _ _ _ c.loop-j-test.true c.if-b-j.true))
+pub returns-then-y-x : goal.returns-then-y-x
+returns-then-y-x c =
+    sym (c.outer.invariant.1 ∙ first_here _ _ _ c.outer-test.true
+    (c.loop-y.invariant.1 ∙ has_here _ _ _ c.loop-y-test.true c.if-y-x.true))

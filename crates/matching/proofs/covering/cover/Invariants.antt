@@ -1,11 +1,8 @@
-use mathlib.Core.Path.{◌≡◌}
+use Rattle.matching.specs.Falling.{covered}
 use Rattle.matching.proofs.LawsCovering.{Covering}
+use Rattle.matching.proofs.LawsLaying.{left}
 use lib.ListN.{length}
-use Prim.Native.Nat.{◌-◌}
 use Rattle.matching.proofs.covering.cover.Given as goal
 
-abbrev pub invariant-loop-i : goal.invariant-loop-i
-invariant-loop-i l = (length l.nodes ≡ length l.initial.nodes) × Covering l.blank l.spans l.shape l.initial.x l.nodes l.n l.x l.i
-
-abbrev pub decreases-loop-i : goal.decreases-loop-i
-decreases-loop-i l = length l.shape - l.i
+abbrev pub invariant-loop-word : goal.invariant-loop-word
+invariant-loop-word l = Covering l.blank (length l.shape) (covered l.blank l.spans l.shape l.fn.node.0) (left l.word-iterator) l.nodes l.n

@@ -1,12 +1,18 @@
-use Rattle.matching.proofs.LawsFalling.{stands_blank, stands_out, stands_is}
-use mathlib.Core.Path.{sym}
+use native.Mathlib.Omega.{arith}
+use Rattle.std.proofs.lemmas.Grind.{common_steps}
+use Rattle.std.proofs.lemmas.Option.{gets}
+use Rattle.std.proofs.lemmas.Bool.Decides.{nat_tests}
+use Rattle.matching.specs.Falling.{stands}
 use Rattle.matching.proofs.falling.stands.Goals as goal
 
 pub returns-then-blank-word : goal.returns-then-blank-word
-returns-then-blank-word c = sym (stands_blank _ _ _ _ c.if-blank-word.true)
+unfolding stands
+returns-then-blank-word c = grind (arith, nat_tests, common_steps, gets)
 
-pub returns-then-score-x : goal.returns-then-score-x
-returns-then-score-x c = sym (stands_out _ _ _ _ c.if-blank-word.false c.if-score-x.true)
+pub returns-then-x-score : goal.returns-then-x-score
+unfolding stands
+returns-then-x-score c = grind (arith, nat_tests, common_steps, gets)
 
-pub returns : goal.returns
-returns c = sym (stands_is _ _ _ _ c.if-blank-word.false c.if-score-x.false)
+pub returns-else-x-score : goal.returns-else-x-score
+unfolding stands
+returns-else-x-score c = grind (arith, nat_tests, common_steps, gets)

@@ -1,12 +1,10 @@
-use Rattle.matching.proofs.LawsShapes.{part_none, part_out, part_is}
-use mathlib.Core.Path.{sym}
+use native.Mathlib.Omega.{arith}
+use Rattle.std.proofs.lemmas.Grind.{common_steps}
+use Rattle.std.proofs.lemmas.Option.{gets}
+use Rattle.std.proofs.lemmas.Bool.Decides.{nat_tests}
+use Rattle.matching.specs.Shapes.{part}
 use Rattle.matching.proofs.shapes.part.Goals as goal
 
-pub returns-then-end-from : goal.returns-then-end-from
-returns-then-end-from c = sym (part_none _ _ _ c.if-end-from.true)
-
-pub returns-then-words-end : goal.returns-then-words-end
-returns-then-words-end c = sym (part_out _ _ _ c.if-end-from.false c.if-words-end.true)
-
 pub returns : goal.returns
-returns c = sym (part_is _ _ _ c.if-end-from.false c.if-words-end.false)
+unfolding part
+returns c = grind (arith, nat_tests, common_steps, gets)

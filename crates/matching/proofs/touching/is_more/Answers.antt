@@ -1,12 +1,15 @@
-use Rattle.matching.proofs.LawsFalling.{shared_is, shared_out, shared_blank}
-use mathlib.Core.Path.{sym}
+use native.Mathlib.Omega.{arith}
+use Rattle.std.proofs.lemmas.Grind.{common_steps}
+use Rattle.std.proofs.lemmas.Option.{gets}
+use Rattle.std.proofs.lemmas.Bool.Decides.{nat_tests}
+use Rattle.matching.specs.Falling.{falling}
+use Rattle.matching.specs.Counts.{is_shared}
 use Rattle.matching.proofs.touching.is_more.Goals as goal
 
-pub returns-then-blank-word : goal.returns-then-blank-word
-returns-then-blank-word c = sym (shared_blank _ _ _ _ c.if-blank-word.true)
+pub returns-then-x-counts : goal.returns-then-x-counts
+unfolding falling is_shared
+returns-then-x-counts c = grind (arith, nat_tests, common_steps, gets)
 
-pub returns-then-counts-x : goal.returns-then-counts-x
-returns-then-counts-x c = sym (shared_out _ _ _ _ c.if-blank-word.false c.if-counts-x.true)
-
-pub returns : goal.returns
-returns c = sym (shared_is _ _ _ _ c.if-blank-word.false)
+pub returns-else-x-counts : goal.returns-else-x-counts
+unfolding falling is_shared
+returns-else-x-counts c = grind (arith, nat_tests, common_steps, gets)

@@ -1,22 +1,14 @@
-use mathlib.Core.Path.{refl, sym, ◌∙◌}
-use native.Mathlib.Omega.{arith}
-use borrow.Author.Tests.{not-true, not-false}
+use Rattle.std.proofs.Common.{◌∙◌, rules}
+use Rattle.std.proofs.lemmas.Iterator.{YieldsList-from_slice}
+use Rattle.std.proofs.lemmas.Iterator.Search.{all_from_yields_List}
+use lib.ListN.{length}
+use Rattle.following.specs.Following.{target}
+use Rattle.queue.specs.Targets.{fine}
 use Rattle.queue.proofs.LawsTargets as law
 use Rattle.queue.proofs.aiming.fine_pairs.Goals as goal
 
-pub loop-left-init : goal.loop-left-init
-loop-left-init c = (c.requires, refl)
-
-pub returns-then-not-good : goal.returns-then-not-good
-returns-then-not-good c = sym (c.loop-left.invariant.1
-    ∙ law.all_bad _ _ _ _ c.loop-left-test.true (sym c.fine_pair-good.ensures ∙ not-true _ c.if-not-good.true-raw))
-
-pub loop-left-preserved : goal.loop-left-preserved
-loop-left-preserved c = (
-  omega arith,
-  c.loop-left.invariant.1
-      ∙ law.all_next _ _ _ _ c.loop-left-test.true (sym c.fine_pair-good.ensures ∙ not-false _ c.if-not-good.false-raw),
-)
-
 pub returns : goal.returns
-returns c = sym (c.loop-left.invariant.1 ∙ law.all_end _ _ _ _ c.loop-left-test.false)
+returns c =
+    let ok = fine c.args.limit c.args.room (target (length c.args.score.words.now) c.args.score.spans.now c.args.from.0) in
+    all_from_yields_List (λ x. ok (law.couple x)) _ _ _ c.all.ensures.ran (YieldsList-from_slice c.as_chunks.result.0.now cc) (λ x b q k. search rules)
+    ∙ law.all_pairs _ _ _ c.as_chunks.ensures.front c.requires ok

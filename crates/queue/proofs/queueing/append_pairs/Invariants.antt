@@ -1,6 +1,6 @@
 use mathlib.Core.Path.{◌≡◌}
-use Prim.Native.Nat.{◌+◌, ◌*◌, ◌≤◌}
-use lib.ListN.{length}
+use Prim.Native.Nat.{◌+◌, ◌*◌}
+use lib.ListN.{length, drop}
 use lib.Seq.{sets}
 use Rattle.following.specs.Following.{target}
 use Rattle.readers.specs.PlanParts.{pair_words}
@@ -8,10 +8,8 @@ use Rattle.queue.specs.Targets.{landed}
 use Rattle.readers.specs.BlockWords.{pair_list}
 use Rattle.queue.proofs.queueing.append_pairs.Given as goal
 
-abbrev pub invariant-loop-left : goal.invariant-loop-left
-invariant-loop-left l = (l.here + 2 * l.left ≤ length l.plan) × (l.there + 2 * l.left ≤ length l.items) × (length l.items ≡ length l.initial.items)
-    × (sets l.initial.items l.end (pair_words (landed (target l.nodes l.spans l.from.0) (pair_list l.plan l.at l.count))) ≡ sets l.items l.there
-    (pair_words (landed (target l.nodes l.spans l.from.0) (pair_list l.plan l.here l.left))))
-
-abbrev pub decreases-loop-left : goal.decreases-loop-left
-decreases-loop-left l = l.left
+abbrev pub invariant-loop-i : goal.invariant-loop-i
+invariant-loop-i l =
+    let to = target (length l.score.words.now) l.score.spans.now l.from.0 in
+    let pairs = pair_list l.plan l.at l.count in
+    sets l.initial.items l.end (pair_words (landed to pairs)) ≡ sets l.items (l.end + 2 * l.i) (pair_words (landed to (drop l.i pairs)))

@@ -1,59 +1,33 @@
-use mathlib.Core.Path.{refl, sym, ◌∙◌}
+use mathlib.Core.Path.{sym, ◌∙◌}
 use native.Mathlib.Omega.{arith}
 use lib.ListN.{length-set}
 use Rattle.queue.proofs.LawsTargets as law
 use Rattle.queue.proofs.queueing.mark_pairs.Goals as goal
 
-pub loop-left-init : goal.loop-left-init
-loop-left-init c =
-    (c.requires.0, refl, c.requires.1, refl, omega arith, omega arith, omega arith)
-
-pub offset_bounds-marks-x : goal.offset_bounds-marks-x
-offset_bounds-marks-x c = omega (arith, c.aim-x.ensures, law.first_room _ _ _ _ _ _ c.loop-left-test.true c.loop-left.invariant.2)
-
 pub bounds-marks-x : goal.bounds-marks-x
-bounds-marks-x c = omega (
-  arith,
-  c.aim-x.ensures,
-  law.first_room _ _ _ _ _ _ c.loop-left-test.true
-      c.loop-left.invariant.2,
-)
+bounds-marks-x c =
+    let next = law.next_pair _ _ _ c.as_chunks.ensures.front c.requires.0 c.loop-shape-test.true in
+    omega (arith, c.aim-x.ensures, law.first_room _ _ _ next c.loop-shape.invariant.fine_left)
 
 pub clear_bit-new-requires : goal.clear_bit-new-requires
-clear_bit-new-requires c = law.first_number _ _ _ _ _ _ c.loop-left-test.true
-    c.loop-left.invariant.2
-
-pub overflow_add-new : goal.overflow_add-new
-overflow_add-new c = omega (arith, c.clear_bit-new.ensures)
+clear_bit-new-requires c =
+    law.first_number _ _ _ (law.next_pair _ _ _ c.as_chunks.ensures.front c.requires.0 c.loop-shape-test.true) c.loop-shape.invariant.fine_left
 
 pub with_bit-requires : goal.with_bit-requires
 with_bit-requires c =
-    law.first_number _ _ _ _ _ _ c.loop-left-test.true c.loop-left.invariant.2
+    law.first_number _ _ _ (law.next_pair _ _ _ c.as_chunks.ensures.front c.requires.0 c.loop-shape-test.true) c.loop-shape.invariant.fine_left
 
-pub offset_bounds-marks-x-in-loop-left : goal.offset_bounds-marks-x-in-loop-left
-offset_bounds-marks-x-in-loop-left c =
-    omega (arith, c.aim-x.ensures, law.first_room _ _ _ _ _ _ c.loop-left-test.true c.loop-left.invariant.2)
-
-pub bounds-marks-x-in-loop-left : goal.bounds-marks-x-in-loop-left
-bounds-marks-x-in-loop-left c =
-    omega (arith, c.aim-x.ensures, law.first_room _ _ _ _ _ _ c.loop-left-test.true c.loop-left.invariant.2)
-
-pub loop-left-preserved : goal.loop-left-preserved
-loop-left-preserved c = (
-  omega arith,
-  simp length-set c.loop-left.invariant.1,
-  law.all_tail _ _ _ _ c.loop-left-test.true c.loop-left.invariant.2,
-  c.loop-left.invariant.3 ∙ law.marks_next _ _ _ _ _ _ _ c.loop-left-test.true c.aim-x.ensures c.with_bit.ensures,
-  law.newly_next _ _ _ _ _ _ _ _ _ _ c.loop-left.invariant.4 c.loop-left-test.true c.aim-x.ensures c.clear_bit-new.ensures c.with_bit.ensures,
-  omega (arith, c.clear_bit-new.ensures),
-  c.loop-left.invariant.6,
-)
-
-pub shape_of-marks : goal.shape_of-marks
-shape_of-marks c = c.loop-left.invariant.1
+pub loop-shape-preserved : goal.loop-shape-preserved
+loop-shape-preserved c =
+    let next = law.next_pair _ _ _ c.as_chunks.ensures.front c.requires.0 c.loop-shape-test.true in
+    record {
+      fine_left = simp length-set (law.all_tail _ next c.loop-shape.invariant.fine_left);
+      marks_left = c.loop-shape.invariant.marks_left ∙ law.marks_next _ next _ _ _ c.aim-x.ensures c.with_bit.ensures;
+      new_left = law.newly_next _ next _ _ _ _ _ _ c.loop-shape.invariant.new_left c.aim-x.ensures c.clear_bit-new.ensures c.with_bit.ensures;
+      few = omega (arith, c.clear_bit-new.ensures);
+    }
 
 pub returns : goal.returns
-returns c = (
-  law.newly_end _ _ _ _ _ _ _ c.loop-left.invariant.4 c.loop-left-test.false,
-  sym (c.loop-left.invariant.3 ∙ law.marks_end _ _ _ _ _ c.loop-left-test.false),
-)
+returns c =
+    let none_left = law.last_pair _ _ _ c.as_chunks.ensures.front c.requires.0 c.loop-shape-test.false in
+    (law.newly_end _ none_left _ _ _ c.loop-shape.invariant.new_left, sym (c.loop-shape.invariant.marks_left ∙ law.marks_end _ none_left _))

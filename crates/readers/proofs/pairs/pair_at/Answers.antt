@@ -1,6 +1,5 @@
 use mathlib.Core.Path.{refl, ap, sym, ◌∙◌}
 use Prim.Native.Nat.{ℕ, ◌+◌}
-use borrow.Author.Tests.{not-true, not-false}
 use lib.ListN.{get_or}
 use Rattle.readers.proofs.LawsParts as law
 use Rattle.readers.proofs.pairs.pair_at.Goals as goal
@@ -19,11 +18,11 @@ returns-then-not-good c =
     sym (law.pair_code c.args.plan.now (c.args.at + 1) c.args.limit (get_or c.args.plan.now c.args.at 0)
     c.args.i _ _ c.if-n-i.false refl
     (ap (λ (k : ℕ). get_or c.args.plan.now k 0) (law.second c.args.at c.args.i)) c.if-limit-number.false
-    (sym c.is_good-good.ensures ∙ not-true _ c.if-not-good.true-raw))
+    (sym c.is_good-good.ensures ∙ c.if-not-good.true))
 
 pub returns : goal.returns
 returns c =
     sym (law.pair_some c.args.plan.now (c.args.at + 1) c.args.limit (get_or c.args.plan.now c.args.at 0)
     c.args.i _ _ c.if-n-i.false refl
     (ap (λ (k : ℕ). get_or c.args.plan.now k 0) (law.second c.args.at c.args.i)) c.if-limit-number.false
-    (sym c.is_good-good.ensures ∙ not-false _ c.if-not-good.false-raw))
+    (sym c.is_good-good.ensures ∙ c.if-not-good.false))

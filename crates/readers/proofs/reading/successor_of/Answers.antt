@@ -3,10 +3,10 @@ use Rattle.readers.specs.PlanParts.{successor_of, to_successor}
 use Rattle.readers.specs.BlockWords.{pair_of}
 use Rattle.readers.proofs.reading.successor_of.Goals as goal
 
-pub returns-in-Nothing : goal.returns-in-Nothing
+pub returns-in-None : goal.returns-in-None
 unfolding successor_of
-returns-in-Nothing c = ap to_successor (sym (ap pair_of c.in-Nothing.is) ∙ c.find_pair.ensures)
+returns-in-None c = ap to_successor (sym (ap pair_of c.in-None.is) ∙ c.find_pair.ensures)
 
-pub returns-in-Of : goal.returns-in-Of
+pub returns-in-Some : goal.returns-in-Some
 unfolding successor_of
-returns-in-Of c = ap to_successor (sym (ap pair_of c.in-Of.is) ∙ c.find_pair.ensures)
+returns-in-Some c = ap to_successor (sym (ap pair_of c.in-Some.is) ∙ c.find_pair.ensures)

@@ -1,19 +1,15 @@
-use Rattle.replacing.proofs.LawsLinks.{look_begin, look_here, look_next, look_end}
-use native.Mathlib.Omega.{arith}
+use mathlib.Core.Path.{refl, ◌∙◌}
+use native.Mathlib.Nat.{sub-zero}
+use Prim.Native.Nat.{◌+◌}
+use Rattle.std.proofs.Common.{rules}
+use Rattle.std.proofs.lemmas.Iterator.{YieldsList-from_range}
+use Rattle.std.proofs.lemmas.Iterator.Search.{any_from_yields_List}
+use Rattle.replacing.specs.Putting.{bears}
+use Rattle.replacing.proofs.LawsLinks.{finished_any}
 use Rattle.replacing.proofs.finished.is_finished.Goals as goal
 
-pub loop-y-init : goal.loop-y-init
-loop-y-init c = look_begin _ _ _ _
-
-pub bears-here-requires : goal.bears-here-requires
-bears-here-requires c =
-    (omega (arith, c.requires.0, c.loop-y-test.true), omega (arith, c.requires.1, c.loop-y-test.true))
-
-pub returns-then-here : goal.returns-then-here
-returns-then-here c = look_here c.loop-y.invariant c.loop-y-test.true c.bears-here.ensures c.if-here.true
-
-pub loop-y-preserved : goal.loop-y-preserved
-loop-y-preserved c = look_next c.loop-y.invariant c.loop-y-test.true c.bears-here.ensures c.if-here.false
-
 pub returns : goal.returns
-returns c = look_end c.loop-y.invariant c.loop-y-test.false
+returns c =
+    any_from_yields_List (bears c.args.score.words.now c.args.score.spans.now c.args.node.0 c.args.finished.0) c.any.new.self _ _ c.any.ensures.ran
+    (YieldsList-from_range 0 (c.args.node.0 + 1) (c.args.node.0 + 1) refl (sub-zero (c.args.node.0 + 1))) (λ y b q k. search rules)
+    ∙ finished_any _ _ _ _

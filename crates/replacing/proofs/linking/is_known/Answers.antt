@@ -1,11 +1,17 @@
-use Rattle.replacing.proofs.LawsLinks.{known_symbol, known_none, known_name}
+use native.Mathlib.Omega.{arith}
+use Rattle.std.proofs.lemmas.Grind.{common_steps}
+use Rattle.std.proofs.lemmas.Bool.Decides.{nat_tests}
+use Rattle.replacing.specs.Putting.{is_known}
 use Rattle.replacing.proofs.linking.is_known.Goals as goal
 
 pub returns-then-w-symbols : goal.returns-then-w-symbols
-returns-then-w-symbols c = known_symbol _ c.args.n _ c.if-w-symbols.true
+unfolding is_known
+returns-then-w-symbols c = grind (arith, nat_tests, common_steps)
 
-pub returns-then-w-lt-FIRST_NAME : goal.returns-then-w-lt-FIRST_NAME
-returns-then-w-lt-FIRST_NAME c = known_none _ c.args.n _ c.if-w-symbols.false c.if-w-lt-FIRST_NAME.true
+pub returns-then-w-ge-FIRST_NAME : goal.returns-then-w-ge-FIRST_NAME
+unfolding is_known
+returns-then-w-ge-FIRST_NAME c = grind (arith, nat_tests, common_steps)
 
-pub returns : goal.returns
-returns c = known_name _ _ _ c.if-w-symbols.false c.if-w-lt-FIRST_NAME.false
+pub returns-else-w-ge-FIRST_NAME : goal.returns-else-w-ge-FIRST_NAME
+unfolding is_known
+returns-else-w-ge-FIRST_NAME c = grind (arith, nat_tests, common_steps)

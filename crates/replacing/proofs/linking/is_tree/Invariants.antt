@@ -1,10 +1,5 @@
 use Rattle.replacing.proofs.LawsLinks.{Wanting}
-use lib.ListN.{length}
-use Prim.Native.Nat.{◌-◌}
 use Rattle.replacing.proofs.linking.is_tree.Given as goal
 
 abbrev pub invariant-loop-i : goal.invariant-loop-i
 invariant-loop-i l = Wanting l.symbols l.n l.link l.wanted l.i
-
-abbrev pub decreases-loop-i : goal.decreases-loop-i
-decreases-loop-i l = length l.link - l.i

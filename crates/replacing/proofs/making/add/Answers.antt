@@ -5,5 +5,4 @@ pub returns-then-made-at : goal.returns-then-made-at
 returns-then-made-at c = add_full _ _ _ c.requires c.if-made-at.true
 
 pub returns : goal.returns
-returns c =
-    add_room _ _ _ c.requires c.if-made-at.false c.copy.ensures
+returns c = add_room _ _ _ c.requires c.if-made-at.false c.copy_from_slice.ensures.after

@@ -1,11 +1,6 @@
 use Rattle.replacing.proofs.LawsAdding.{Filling}
 use Rattle.replacing.specs.Putting.{piece_of}
-use lib.ListN.{length}
-use Prim.Native.Nat.{◌-◌}
 use Rattle.replacing.proofs.making.fill.Given as goal
 
-abbrev pub invariant-loop-i : goal.invariant-loop-i
-invariant-loop-i l = Filling (piece_of l.score l.spans l.nodes) l.link l.initial.made l.from l.i l.at l.made
-
-abbrev pub decreases-loop-i : goal.decreases-loop-i
-decreases-loop-i l = length l.link - l.i
+abbrev pub invariant-loop-word : goal.invariant-loop-word
+invariant-loop-word l = Filling (piece_of l.change.score.words.now l.change.score.spans.now l.change.nodes.now) l.change.link.now l.initial.made l.from l.word-index l.at l.made

@@ -1,15 +1,11 @@
-use Rattle.replacing.proofs.LawsAdding.{under_out, under_is}
 use native.Mathlib.Omega.{arith}
+use Rattle.std.proofs.lemmas.Bool.Decides.{nat_tests}
+use Rattle.std.proofs.lemmas.Grind.{common_steps}
+use Rattle.replacing.proofs.LawsAdding.{under_out, under_is}
 use Rattle.replacing.proofs.making.under.Goals as goal
 
-pub returns-then-spans-y : goal.returns-then-spans-y
-returns-then-spans-y c = under_out _ _ _ c.if-spans-y.true
+pub returns-in-None : goal.returns-in-None
+returns-in-None c = under_out _ _ _ (grind (arith, nat_tests, common_steps))
 
-pub overflow_cast-spans : goal.overflow_cast-spans
-overflow_cast-spans c = omega (arith, (c.shared_slice_known-2-1.given c.args.y).fits)
-
-pub overflow_add-y : goal.overflow_add-y
-overflow_add-y c = omega (arith, (c.shared_slice_known-2-1.given c.args.y).fits)
-
-pub returns : goal.returns
-returns c = under_is _ _ _ c.part.ensures
+pub returns-in-Some : goal.returns-in-Some
+returns-in-Some c = under_is _ _ _ (grind (arith, nat_tests, common_steps)) c.part.ensures

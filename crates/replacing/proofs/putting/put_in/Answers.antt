@@ -1,22 +1,14 @@
+use native.Mathlib.Omega.{arith}
 use Rattle.replacing.proofs.LawsPutting.{in_none, in_tree}
 use Rattle.kinds.proofs.Bools.{of_not, of_not_false}
 use mathlib.Core.Path.{sym, ◌∙◌}
-use native.Mathlib.Omega.{arith}
 use Rattle.replacing.proofs.putting.put_in.Goals as goal
-
-pub cover-n-requires : goal.cover-n-requires
-cover-n-requires c =
-    omega (arith, c.requires.0)
-
-pub is_tree-tree-requires : goal.is_tree-tree-requires
-is_tree-tree-requires c =
-    omega (arith, c.cover-n.ensures.few, c.requires.0)
 
 pub returns-then-not-tree : goal.returns-then-not-tree
 returns-then-not-tree c = in_none _ _ _ _ _ _ _ c.cover-n.ensures.count (sym c.is_tree-tree.ensures ∙ of_not _ c.if-not-tree.true-raw)
 
-pub slice_bounds-write-end : goal.slice_bounds-write-end
-slice_bounds-write-end c =
+pub slice_bounds-change-end : goal.slice_bounds-change-end
+slice_bounds-change-end c =
     omega (arith, c.cover-n.ensures.few, c.requires.0)
 
 pub write-requires : goal.write-requires

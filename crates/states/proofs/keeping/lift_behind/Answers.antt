@@ -1,13 +1,9 @@
 use Rattle.states.proofs.BehindLaws.{class_room, class_goals, class_lifted}
-use native.Mathlib.Omega.{arith}
 use Rattle.states.proofs.keeping.lift_behind.Goals as goal
 
 pub put_class-requires : goal.put_class-requires
 put_class-requires c =
     record { squared = c.requires.squared; row = c.requires.row; room = class_room c.requires c.place_in-at.ensures }
-
-pub overflow_sub-k : goal.overflow_sub-k
-overflow_sub-k c = omega (arith, c.put_class.ensures.0)
 
 pub lift_class-top-requires : goal.lift_class-top-requires
 lift_class-top-requires c =

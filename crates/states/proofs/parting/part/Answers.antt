@@ -2,10 +2,6 @@ use Rattle.states.proofs.PartLaws.{state_stored, derivable, derived, parted}
 use native.Mathlib.Omega.{arith}
 use Rattle.states.proofs.parting.part.Goals as goal
 
-pub overflow_cast-k-2 : goal.overflow_cast-k-2
-overflow_cast-k-2 c =
-    omega (arith, c.type_inv.symbols c.args.symbol.0)
-
 pub outputs-announced-requires : goal.outputs-announced-requires
 outputs-announced-requires c =
     (state_stored c.requires.0 c.place_in-at.ensures, omega (arith, c.requires.0.count, c.requires.1.outs))

@@ -1,11 +1,7 @@
-use Rattle.tables.specs.ShapeTables.{span_from}
 use mathlib.Core.Path.{◌≡◌}
-use Prim.Native.Nat.{◌≤◌, ◌+◌, ◌*◌}
+use Prim.Native.Nat.{◌≤◌, ◌+◌, ◌-◌, ◌*◌}
+use Rattle.tables.specs.ShapeTables.{span_at, span_from}
 use Rattle.tables.proofs.filling.span_at.Given as goal
 
-abbrev pub invariant-loop-left : goal.invariant-loop-left
-invariant-loop-left l = (l.here + l.left ≡ l.at + 16) × (l.at ≤ l.here) × (l.need + 255 * l.left ≤ 255 * 16 + 1)
-    × (l.at + span_from l.symbols l.words 16 l.at 1 ≡ l.here + span_from l.symbols l.words l.left l.here l.need)
-
-abbrev pub decreases-loop-left : goal.decreases-loop-left
-decreases-loop-left l = l.left
+abbrev pub invariant-loop-i : goal.invariant-loop-i
+invariant-loop-i l = (l.need + 255 * (16 - l.i) ≤ 255 * 16 + 1) × (span_at l.symbols l.words l.at ≡ l.i + span_from l.symbols l.words (16 - l.i) (l.at + l.i) l.need)

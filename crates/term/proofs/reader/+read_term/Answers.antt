@@ -1,44 +1,40 @@
 use native.Mathlib.Omega.{arith}
-use mathlib.Core.Path.{sym, ◌∙◌}
+use Rattle.std.specs.Prelude.{Err}
+use Rattle.std.proofs.lemmas.Result.{err_from_is_err_and}
+use mathlib.Core.Path.{ap, sym, ◌∙◌}
 use Rattle.term.specs.Reading.{met}
 use Rattle.term.proofs.WholeTerm.{whole_term}
 use Rattle.term.proofs.LawsReading.{reading_bad, reading_deep, reading_into, kids_stop, kids_next, kids_done, head_in}
 use Rattle.term.proofs.reader.+read_term.Goals as goal
 
-pub returns-in-Bad : goal.returns-in-Bad
-returns-in-Bad t c = sym (reading_bad _ _ _ _ _ (sym c.head.ensures ∙ c.in-Bad.is))
+pub returns-in-Err : goal.returns-in-Err
+returns-in-Err t c = sym (reading_bad _ _ _ _ _ (sym c.head.ensures ∙ c.in-Err.is))
 
 pub returns-then-left-eq0 : goal.returns-then-left-eq0
-returns-then-left-eq0 t c = sym (reading_deep _ _ _ _ _ (sym c.head.ensures ∙ c.in-Kids.is)
+returns-then-left-eq0 t c = sym (reading_deep _ _ _ _ _ (sym c.head.ensures ∙ c.in-Ok.is)
     c.if-left-eq0.true)
 
 pub overflow_add-here : goal.overflow_add-here
-overflow_add-here t c = omega (arith, head_in _ _ _ _ _ (sym c.head.ensures ∙ c.in-Kids.is))
+overflow_add-here t c = omega (arith, head_in _ _ _ _ _ (sym c.head.ensures ∙ c.in-Ok.is))
 
-pub loop-k-init : goal.loop-k-init
-loop-k-init t c = (
-  omega arith,
-  reading_into _ _ _ _ _ (sym c.head.ensures ∙ c.in-Kids.is) c.if-left-eq0.false,
-)
+pub loop-init : goal.loop-init
+loop-init t c = reading_into _ _ _ _ _ (sym c.head.ensures ∙ c.in-Ok.is) c.if-left-eq0.false
 
-pub read_term-requires : goal.read_term-requires
-read_term-requires t c = omega arith
-
-pub overflow_add-m : goal.overflow_add-m
-overflow_add-m t c = let a = whole_term _ _ _ _ _ _ (sym c.read_term.ensures ∙ c.in-Whole.is) in
+pub overflow_add-child : goal.overflow_add-child
+overflow_add-child t c = let a = whole_term _ _ _ _ _ _ (sym c.read_term.ensures ∙ c.in_ok-child.was) in
     omega (arith, a.flat, a.deep)
 
-pub returns-in-Refused : goal.returns-in-Refused
-returns-in-Refused t c =
-    sym (c.loop-k.invariant.1 ∙ kids_stop _ _ _ (met c.loop-k.here c.loop-k.depth) c.loop-k-test.true
-    (sym c.read_term.ensures ∙ c.in-Refused.is))
+pub returns-in_err-child : goal.returns-in_err-child
+returns-in_err-child t c =
+    let p = err_from_is_err_and c.from_residual.result c.from_residual.ensures.1 in
+    p.1 ∙ ap Err p.2
+    ∙ sym (c.loop.invariant ∙ kids_stop _ _ _ (met c.loop.here c.loop.depth) c.loop-test.true
+    (sym c.read_term.ensures ∙ c.in_err-child.was))
 
-pub loop-k-preserved : goal.loop-k-preserved
-loop-k-preserved t c = (
-  omega arith,
-  c.loop-k.invariant.1 ∙ kids_next _ _ _ (met c.loop-k.here c.loop-k.depth) c.loop-k-test.true
-      (sym c.read_term.ensures ∙ c.in-Whole.is) c.greater-depth.ensures,
-)
+pub loop-preserved : goal.loop-preserved
+loop-preserved t c =
+    c.loop.invariant ∙ kids_next _ _ _ (met c.loop.here c.loop.depth) c.loop-test.true
+    (sym c.read_term.ensures ∙ c.in_ok-child.was) c.max-depth.ensures
 
 pub returns : goal.returns
-returns t c = sym (c.loop-k.invariant.1 ∙ kids_done _ _ _ (met c.loop-k.here c.loop-k.depth) c.loop-k-test.false)
+returns t c = sym (c.loop.invariant ∙ kids_done _ _ _ (met c.loop.here c.loop.depth) c.loop-test.false)

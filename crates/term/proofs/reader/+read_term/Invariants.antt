@@ -1,4 +1,4 @@
-use Prim.Native.Nat.{◌≤◌, ◌-◌}
+use Prim.Native.Nat.{◌-◌}
 use mathlib.Core.Path.{◌≡◌}
 use Rattle.term.specs.Reading.{reading, kids_of, met}
 use Rattle.term.proofs.reader.+read_term.Given as goal
@@ -6,8 +6,5 @@ use Rattle.term.proofs.reader.+read_term.Given as goal
 abbrev pub decreases-read_term : goal.decreases-read_term
 decreases-read_term l = l.left
 
-abbrev pub invariant-loop-k : goal.invariant-loop-k
-invariant-loop-k l = (l.k ≤ l.n) × (reading l.symbols l.words l.limits l.left l.at ≡ kids_of (reading l.symbols l.words l.limits (l.left - 1)) (l.n - l.k) (met l.here l.depth))
-
-abbrev pub decreases-loop-k : goal.decreases-loop-k
-decreases-loop-k l = l.n - l.k
+abbrev pub invariant-loop : goal.invariant-loop
+invariant-loop l = reading l.symbols l.words l.limits l.left l.at ≡ kids_of (reading l.symbols l.words l.limits (l.left - 1)) (l.n - l.counter) (met l.here l.depth)

@@ -1,6 +1,5 @@
 use Rattle.states.proofs.BehindLaws.{lifted_spared, lifted_kept, lifted_place}
 use Rattle.writing.proofs.WriteLaws.{two_stores, place_small}
-use lib.ListN.{length-set}
 use lib.Seq.{sets}
 use mathlib.Core.List.{[], ◌∷◌}
 use mathlib.Core.Path.{ap₂, ◌∙◌}
@@ -21,10 +20,6 @@ overflow_cast-plan c =
       place_small (lifted_kept c.requires.class c.lift_behind-class.ensures) _ _
           c.find_state.ensures,
     )
-
-pub bounds-plan-at-2 : goal.bounds-plan-at-2
-bounds-plan-at-2 c =
-    omega (arith, c.requires.room, length-set c.args.plan.now c.args.at c.find_state.result)
 
 pub returns : goal.returns
 returns c =
