@@ -3,7 +3,6 @@ ghost use Rattle.term.specs.Reading.{limits};
 ghost use Rattle.checks.specs.Again.{piece_at, subtree_at};
 
 use crate::Asked;
-use kinds::Refusal;
 use kinds::limits::{BLANK, NO_BLANK, SCORE_LEVELS, SCORE_NODES, SHAPE_LEVELS, SHAPE_NODES};
 use sections::finding::test_symbols;
 use term::Limits;

@@ -1,8 +1,5 @@
 #![tactic(auto)]
 
-use kinds::Reason;
-use term::Met;
-
 pub mod reading; // a folio's shapes and its score: 7 to 17
 
 // What whole shapes were met with: how many they are, and the depth of the deepest.

@@ -8,7 +8,7 @@ use kinds::{Reason, Refusal};
 use term::reader::read_term;
 use term::{Fault, Limits, Met};
 
-// Reads shapes back to back, words from `blanks` on being blanks, and writes each one's start once it is whole.
+// Reads shapes back to back, words from `blanks` on being blanks, and writes each one's start once it is whole. A refusal is at a word.
 pub fn read_shapes(
     symbols: &[u8],
     blanks: usize,
@@ -59,7 +59,7 @@ fn shape_reason(fault: Fault) -> Reason
     }
 }
 
-// Whether the words are one whole tree without blanks.
+// Whether the words are one whole tree without blanks; a refusal is at a word.
 #[tactic(auto, unfolding(crate::specs::Tables::score_of))]
 pub fn read_score(symbols: &[u8], words: &[u16]) -> Result<Met, Refusal>
     ensures { result ≡ score_of symbols.now words.now }

@@ -1,6 +1,4 @@
 #![tactic(auto)]
 
-use kinds::Reason;
-
 pub mod marks; // how many matches the marks hold
 pub mod passing; // from match to match

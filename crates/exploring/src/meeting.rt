@@ -40,7 +40,7 @@ pub fn explore(setting: Setting, scratch: &mut [u16]) -> Result<(usize, usize), 
     Ok((m, words))
 }
 
-// One of m states on each symbol in turn.
+// One of m states on each symbol in turn. From here on an answer is how many states there are now, and how many words the blocks made take.
 fn explore_state(
     setting: Setting,
     scratch: &mut [u16],

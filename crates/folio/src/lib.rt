@@ -1,7 +1,5 @@
 #![tactic(auto)]
 
-use kinds::Reason;
-
 pub mod opening; // the call that opens a folio
 mod storing; // what opening writes
 

@@ -21,12 +21,7 @@ pub fn open(
 ) -> Result<Counts, Refusal>
     ensures { out result (lent words.new starts.new score.new spans.new) ≡ opened file.now (lent words.old starts.old score.old spans.old) }
 {
-    let p = match find_sections(file) {
-        Err(Refusal(reason, place)) => {
-            return Err(Refusal(reason, place));
-        }
-        Ok(p) => p,
-    };
+    let p = find_sections(file)?;
     let s = p.shapes;
     let t = p.score;
     let e = p.end;

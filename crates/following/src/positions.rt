@@ -14,15 +14,11 @@ pub fn follow(spans: &[u16], nodes: usize, from: Node, by: Position) -> Option<N
     if !by.is_good() {
         return None;
     }
-    match descend(spans, from.0 as usize, by.0) {
-        None => None,
-        Some(x) => {
-            if nodes <= x || NUMBERED_NODES <= x {
-                return None;
-            }
-            Some(Node(x as u16))
-        }
+    let x = descend(spans, from.0 as usize, by.0)?;
+    if nodes <= x || NUMBERED_NODES <= x {
+        return None;
     }
+    Some(Node(x as u16))
 }
 
 // By the code's higher digits, and from there to a child by its last.
@@ -32,10 +28,8 @@ fn descend(spans: &[u16], at: usize, code: u16) -> Option<usize>
     if code == 0 {
         return Some(at);
     }
-    match descend(spans, at, code / 5) {
-        Some(x) => child(spans, x, code % 5),
-        None => None,
-    }
+    let x = descend(spans, at, code / 5)?;
+    child(spans, x, code % 5)
 }
 
 // Child i, from 1, of a node: over its earlier siblings' spans.

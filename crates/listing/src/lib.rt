@@ -1,6 +1,5 @@
 #![tactic(auto)]
 
-use kinds::Reason;
 use walk::Record;
 
 pub mod taking; // the choices of a list, in order

@@ -1,7 +1,5 @@
 #![tactic(auto)]
 
-use kinds::{Position, Reason, Shape, State};
-
 pub mod parts; // header, labels and block starts of a plan
 mod pairs; // the pairs of a block
 pub mod reading; // labels, announcements and successors for other callers

@@ -101,15 +101,11 @@ fn find_pair(
     if !good {
         return None;
     }
-    match block_start(words, states, symbols, state, symbol) {
-        None => None,
-        Some(b) => {
-            if nexts {
-                return pair_at(words, middle(words, b), states, i);
-            }
-            pair_at(words, b, words[2], i)
-        }
+    let b = block_start(words, states, symbols, state, symbol)?;
+    if nexts {
+        return pair_at(words, middle(words, b), states, i);
     }
+    pair_at(words, b, words[2], i)
 }
 
 // The counts are the header's, and in range.

@@ -16,6 +16,8 @@ pub struct Change<'a> {
     pub link: &'a [u16],
 }
 
+// Where the words that were added end; none if there is no room for them.
+
 // The new score: the words before the node, the replacement with each named blank's subtree, the words behind the node's subtree.
 pub fn make(change: Change<'_>, made: &mut [u16]) -> Option<usize>
     requires { (change.node.0 < length change.score.words.now) × (change.node.0 < length change.score.spans.now) }

@@ -1,7 +1,5 @@
 #![tactic(auto)]
 
-use kinds::Reason;
-
 pub mod lines; // the lines of the report
 mod text; // their pieces
 
@@ -9,6 +7,7 @@ mod text; // their pieces
 #[derive(Clone, Copy)]
 pub struct Totals {
     pub nodes: usize,
+    // Of the plan that led to the marks, if one did.
     pub states: Option<usize>,
     pub matches: usize,
     pub clashes: usize,

@@ -8,6 +8,8 @@ use crate::text::{put_digits, put_dotted, put_field, put_path, put_states, put_t
 use kinds::limits::{LINE_BYTES, NUMBER_DIGITS, PATH_NUMBERS};
 use kinds::{Node, Reason, Shape, number};
 
+// Each of these answers how many bytes its line has.
+
 // The line of a match: its node, its shape and the node's path; 34 for a node that the spans do not have.
 pub fn put_line(spans: &[u16], node: Node, shape: Shape, out: &mut [u8]) -> Result<usize, Reason>
     ensures { out_of result out.new ≡ line_out spans.now node.0 shape.0 out.old }

@@ -3,7 +3,7 @@
 // comparing every shape at each node in `simple`; the other one, with its buffers, is not in it when it is compiled.
 pub mod asking; // the arguments
 pub mod engines; // what makes the marks
-mod failing; // messages on standard error
+mod failing; // what ends a run
 mod finding; // reading, opening and counting
 mod holding; // the output
 mod names; // names from standard input

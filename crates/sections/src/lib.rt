@@ -1,7 +1,5 @@
 #![tactic(auto)]
 
-use kinds::Reason;
-
 pub mod finding; // where a folio's sections are: 1 to 6
 
 // Where the shapes, the score and the trailer begin, in bytes; symbols begin at 0.

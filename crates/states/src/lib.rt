@@ -1,6 +1,6 @@
 #![tactic(auto)]
 
-use kinds::{Position, Reason, State, Symbol};
+use kinds::{Position, State, Symbol};
 
 pub mod keeping; // the states met, in scratch, and the class that is looked up among them
 pub mod parting; // a state on a symbol, parted into classes

@@ -31,20 +31,12 @@ pub fn part(
     let k = setting.symbols[symbol.0 as usize] as u16;
     let at = place_in(i);
     let n = scratch[i] as usize;
-    let announced = outputs(setting.tab, scratch, at, n, root, symbol, out);
-    let d = derive(
-        setting.tab,
-        scratch,
-        at,
-        n,
-        setting.shapes,
-        root,
-        symbol,
-        k,
-        goals,
-    ) / 3;
-    dependency(setting.tab, goals, d, dep);
-    let classes = class_order(setting.tab, goals, d, dep, order);
+    let tab = setting.tab;
+    let announced = outputs(tab, scratch, at, n, root, symbol, out);
+    let shapes = setting.shapes;
+    let d = derive(tab, scratch, at, n, shapes, root, symbol, k, goals) / 3;
+    dependency(tab, goals, d, dep);
+    let classes = class_order(tab, goals, d, dep, order);
     Parts {
         announced,
         goals: d,

@@ -1,6 +1,6 @@
 #![tactic(auto)]
 
-use kinds::{Node, Reason};
+use kinds::Node;
 
 pub mod starting; // a walk begins
 pub mod stepping; // one step of it

@@ -10,11 +10,11 @@ returns-then-code-eq0 t c = sym (descend_root _ _ _ c.if-code-eq0.true)
 pub descend-requires : goal.descend-requires
 descend-requires t c = omega arith
 
-pub returns-in-Some : goal.returns-in-Some
-returns-in-Some t c = c.child.ensures
+pub returns : goal.returns
+returns t c = c.child.ensures
     ∙ sym (descend_child _ _ _ c.if-code-eq0.false (omega arith)
-    (sym c.descend.ensures ∙ ap node_of c.in-Some.is))
+    (sym c.descend.ensures ∙ ap node_of c.in_ok-x.was))
 
-pub returns-in-None : goal.returns-in-None
-returns-in-None t c = sym (descend_none _ _ _ c.if-code-eq0.false (omega arith)
-    (sym c.descend.ensures ∙ ap node_of c.in-None.is))
+pub returns-in_err-x : goal.returns-in_err-x
+returns-in_err-x t c = ap node_of c.from_residual.ensures
+    ∙ sym (descend_none _ _ _ c.if-code-eq0.false (omega arith) (sym c.descend.ensures ∙ ap node_of c.in_err-x.was))

@@ -20,16 +20,16 @@ overflow_add-here t c = omega (arith, head_in _ _ _ _ _ (sym c.head.ensures ∙ 
 pub loop-init : goal.loop-init
 loop-init t c = reading_into _ _ _ _ _ (sym c.head.ensures ∙ c.in-Ok.is) c.if-left-eq0.false
 
-pub overflow_add-child : goal.overflow_add-child
-overflow_add-child t c = let a = whole_term _ _ _ _ _ _ (sym c.read_term.ensures ∙ c.in_ok-child.was) in
-    omega (arith, a.flat, a.deep)
-
 pub returns-in_err-child : goal.returns-in_err-child
 returns-in_err-child t c =
     let p = err_from_is_err_and c.from_residual.result c.from_residual.ensures.1 in
     p.1 ∙ ap Err p.2
     ∙ sym (c.loop.invariant ∙ kids_stop _ _ _ (met c.loop.here c.loop.depth) c.loop-test.true
     (sym c.read_term.ensures ∙ c.in_err-child.was))
+
+pub overflow_add-child : goal.overflow_add-child
+overflow_add-child t c = let a = whole_term _ _ _ _ _ _ (sym c.read_term.ensures ∙ c.in_ok-child.was) in
+    omega (arith, a.flat, a.deep)
 
 pub loop-preserved : goal.loop-preserved
 loop-preserved t c =
