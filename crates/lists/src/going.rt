@@ -130,6 +130,7 @@ impl Going {
         put(first_mut(&mut self.marks, nodes), node, mark);
     }
 
+    // Each call lends the tables and the buffers anew: a function that answers a struct of parts of `self` is not covered.
     pub fn step(&mut self, choice: usize) -> Result<(), Reason> {
         let nodes = self.nodes;
         let record = self.record;

@@ -54,6 +54,7 @@ pub fn read_full(input: &mut impl Read, bytes: &mut [u8]) -> usize
     ensures { result ≤ length bytes.new }
 {
     let mut n: usize = 0;
+    // A while: a read says how far it came.
     while n < bytes.len() {
         match input.read(&mut bytes[n..]) {
             Ok(more) if 0 < more => n += more,

@@ -31,6 +31,7 @@ impl<'a> Walk<'a> {
         }
     }
 
+    // Each call lends the buffers anew: a function that answers a struct of parts of `self` is not covered.
     pub fn start(&mut self) -> Result<(), Reason> {
         let tables = self.tables;
         let mut walk = bufferstone::Walk {
