@@ -21,5 +21,11 @@ pub fn is_match(shapes: Shapes<'_>, score: Score<'_>, shape: Shape, node: Node) 
     ensures { result ≡ matched shapes.entry.words.now shapes.entry.starts.now score.entry.words.now score.entry.spans.now (match_at node.0 shape.0) }
 {
     let known = (shape.0 as usize) < shapes.starts.len();
-    known && matches_at(words_of(shapes, shape), BLANK, score, node)
+    known
+        && matches_at(
+            words_of(shapes.words, shapes.starts, shape),
+            BLANK,
+            score,
+            node,
+        )
 }

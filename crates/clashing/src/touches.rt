@@ -17,7 +17,13 @@ pub fn touch_all(shapes: Shapes<'_>, spans: &[u16], marks: &[u16], counts: &mut 
     ensures { counts.new ≡ raises (gather (nodes_of shapes.entry.words.now shapes.entry.starts.now spans.now) (found_in marks.now)) counts.old }
 {
     for (node, shape) in Matches::new(marks) {
-        touch(words_of(shapes, shape), BLANK, spans, node, counts);
+        touch(
+            words_of(shapes.words, shapes.starts, shape),
+            BLANK,
+            spans,
+            node,
+            counts,
+        );
     }
 }
 
@@ -35,5 +41,11 @@ pub fn count_all(shapes: Shapes<'_>, spans: &[u16], marks: &[u16], counts: &[u16
 fn shares(shapes: Shapes<'_>, spans: &[u16], shape: Shape, node: Node, counts: &[u16]) -> bool
     ensures { result ≡ is_shared counts.now (nodes_of shapes.entry.words.now shapes.entry.starts.now spans.now (match_at node.0 shape.0)) }
 {
-    is_shared(words_of(shapes, shape), BLANK, spans, node, counts)
+    is_shared(
+        words_of(shapes.words, shapes.starts, shape),
+        BLANK,
+        spans,
+        node,
+        counts,
+    )
 }

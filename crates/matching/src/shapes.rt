@@ -1,25 +1,26 @@
 ghost use Rattle.std.specs.Prelude.{◌≡◌, ◌<◌};
 ghost use Rattle.matching.specs.Shapes.{end_of, part, shape_at};
 
-use kinds::{Shape, Shapes};
+use kinds::Shape;
 
 // A shape's words: from its start to the next one's, or to the end.
-pub fn words_of<'a>(shapes: Shapes<'a>, shape: Shape) -> &'a [u16]
-    ensures { result.now ≡ shape_at shapes.entry.words.now shapes.entry.starts.now shape.0 }
+// Both tables by themselves: the words answered may be kept longer than the starts are lent.
+pub fn words_of<'a>(words: &'a [u16], starts: &[u16], shape: Shape) -> &'a [u16]
+    ensures { result.now ≡ shape_at words.now starts.now shape.0 }
 {
     let j = shape.0 as usize;
-    match shapes.starts.get(j) {
+    match starts.get(j) {
         None => &[],
-        Some(start) => part(shapes.words, *start as usize, end_of(shapes, j)),
+        Some(start) => part(words, *start as usize, end_of(words, starts, j)),
     }
 }
 
-fn end_of(shapes: Shapes<'_>, j: usize) -> usize
+fn end_of(words: &[u16], starts: &[u16], j: usize) -> usize
     requires { j < 65536 }
-    ensures { result ≡ end_of shapes.entry.words.now shapes.entry.starts.now j }
+    ensures { result ≡ end_of words.now starts.now j }
 {
-    let next = shapes.starts.get(j + 1);
-    next.map_or(shapes.words.len(), |end| *end as usize)
+    let next = starts.get(j + 1);
+    next.map_or(words.len(), |end| *end as usize)
 }
 
 // The words from an index to another; none where there is no such part.

@@ -1,4 +1,4 @@
-ghost use Rattle.std.specs.Prelude.{◌≡◌, true, false, ◌+◌, length};
+ghost use Rattle.std.specs.Prelude.{◌≡◌, true, false, ◌+◌};
 ghost use Rattle.kinds.specs.Lists.{or_else};
 ghost use Rattle.kinds.specs.Lists.{all};
 ghost use Rattle.following.specs.Following.{target};
@@ -6,12 +6,13 @@ ghost use Rattle.queue.specs.Targets.{fine, PairsIn};
 ghost use Rattle.readers.specs.BlockWords.{pair_list};
 
 use following::positions::follow;
-use kinds::{Node, Position, Score};
+use kinds::{Node, Position};
 
 // Whether each of the pairs has a number below the limit and leads to a node below room.
 pub fn fine_pairs(
     plan: &[u16],
-    score: Score<'_>,
+    nodes: usize,
+    spans: &[u16],
     from: Node,
     at: usize,
     count: usize,
@@ -19,40 +20,41 @@ pub fn fine_pairs(
     room: usize,
 ) -> bool
     requires { PairsIn plan.now at count }
-    ensures { result ≡ all (fine limit room (target (length score.entry.words.now) score.entry.spans.now from.0)) (pair_list plan.now at count) }
+    ensures { result ≡ all (fine limit room (target nodes spans.now from.0)) (pair_list plan.now at count) }
 {
     let (pairs, _) = plan[at..at + 2 * count].as_chunks::<2>();
     pairs.iter().all(|&[number, code]| {
         let by = Position(code);
-        fine_pair(score, from, number, by, limit, room)
+        fine_pair(nodes, spans, from, number, by, limit, room)
     })
 }
 
 #[tactic(auto, unfolding(crate::specs::Targets::fine))]
 fn fine_pair(
-    score: Score<'_>,
+    nodes: usize,
+    spans: &[u16],
     from: Node,
     number: u16,
     by: Position,
     limit: u16,
     room: usize,
 ) -> bool
-    ensures { result ≡ fine limit room (target (length score.entry.words.now) score.entry.spans.now from.0) (number, by.0) }
+    ensures { result ≡ fine limit room (target nodes spans.now from.0) (number, by.0) }
 {
     if limit <= number {
         return false;
     }
-    match follow(score.spans, score.words.len(), from, by) {
+    match follow(spans, nodes, from, by) {
         Some(x) => (x.0 as usize) < room,
         None => false,
     }
 }
 
 // The number of the node that a position leads to, 0 where there is none.
-pub fn aim(score: Score<'_>, from: Node, by: Position) -> u16
-    ensures { result ≡ or_else (target (length score.entry.words.now) score.entry.spans.now from.0 by.0) 0 }
+pub fn aim(nodes: usize, spans: &[u16], from: Node, by: Position) -> u16
+    ensures { result ≡ or_else (target nodes spans.now from.0 by.0) 0 }
 {
-    match follow(score.spans, score.words.len(), from, by) {
+    match follow(spans, nodes, from, by) {
         Some(x) => x.0,
         None => 0,
     }

@@ -7,24 +7,25 @@ ghost use Rattle.queue.specs.Targets.{marked, newly, landed, closed_up, Leading,
 ghost use Rattle.readers.specs.BlockWords.{pair_list};
 
 use crate::aiming::aim;
-use kinds::{Node, Position, Score};
+use kinds::{Node, Position};
 
 // Sets the bit of each announcement, and counts those that were clear.
 pub fn mark_pairs(
     plan: &[u16],
-    score: Score<'_>,
+    nodes: usize,
+    spans: &[u16],
     marks: &mut [u16],
     from: Node,
     at: usize,
     count: usize,
 ) -> usize
-    requires { Leading plan.now at count (target (length score.words.now) score.spans.now from.0) marks.old }
-    ensures { (result ≡ newly (landed (target (length score.entry.words.now) score.entry.spans.now from.0) (pair_list plan.now at count)) marks.old) × (marks.new ≡ marked (landed (target (length score.entry.words.now) score.entry.spans.now from.0) (pair_list plan.now at count)) marks.old) }
+    requires { Leading plan.now at count (target nodes spans.now from.0) marks.old }
+    ensures { (result ≡ newly (landed (target nodes spans.now from.0) (pair_list plan.now at count)) marks.old) × (marks.new ≡ marked (landed (target nodes spans.now from.0) (pair_list plan.now at count)) marks.old) }
 {
     let (pairs, _) = plan[at..at + 2 * count].as_chunks::<2>();
     let mut new: usize = 0;
     for &[shape, code] in pairs {
-        let x = aim(score, from, Position(code)) as usize;
+        let x = aim(nodes, spans, from, Position(code)) as usize;
         let mark = &mut marks[x];
         new += clear_bit(*mark, shape);
         *mark = with_bit(*mark, shape);
@@ -61,7 +62,8 @@ pub fn close_up(items: &mut [u16], at: usize, end: usize)
 // Appends each successor as an item, from word `end` on.
 pub fn append_pairs(
     plan: &[u16],
-    score: Score<'_>,
+    nodes: usize,
+    spans: &[u16],
     items: &mut [u16],
     from: Node,
     at: usize,
@@ -69,12 +71,12 @@ pub fn append_pairs(
     end: usize,
 )
     requires { Appended plan.now at count items.old end }
-    ensures { items.new ≡ sets items.old end (pair_words (landed (target (length score.entry.words.now) score.entry.spans.now from.0) (pair_list plan.now at count))) }
+    ensures { items.new ≡ sets items.old end (pair_words (landed (target nodes spans.now from.0) (pair_list plan.now at count))) }
 {
     let (pairs, _) = plan[at..at + 2 * count].as_chunks::<2>();
     for (i, &[state, code]) in pairs.iter().enumerate() {
         let there = end + 2 * i;
         items[there] = state;
-        items[there + 1] = aim(score, from, Position(code));
+        items[there + 1] = aim(nodes, spans, from, Position(code));
     }
 }

@@ -40,7 +40,14 @@ pub fn put(
     if is_finished(score, node, finished) {
         return Err(Reason::IsFinished);
     }
-    put_in(symbols, words_of(shapes, shape), score, node, link, new)
+    put_in(
+        symbols,
+        words_of(shapes.words, shapes.starts, shape),
+        score,
+        node,
+        link,
+        new,
+    )
 }
 
 // The same, where the shape matches and may be replaced.

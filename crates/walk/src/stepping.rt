@@ -89,10 +89,12 @@ impl Walk<'_> {
         let node = at.node;
         let from = at.from;
         self.log[logged] = node.0;
-        let new = mark_pairs(plan, score, self.marks, from, b + 1, outs);
+        let nodes = score.words.len();
+        let spans = score.spans;
+        let new = mark_pairs(plan, nodes, spans, self.marks, from, b + 1, outs);
         close_up(self.waiting, 2 * choice, 2 * count);
         let end = 2 * count - 2;
-        append_pairs(plan, score, self.waiting, from, mid + 1, nexts, end);
+        append_pairs(plan, nodes, spans, self.waiting, from, mid + 1, nexts, end);
         let marked = record.matches + new;
         Ok(Record {
             waiting: waits,
@@ -141,8 +143,10 @@ fn leads_fine(plan: &[u16], score: Score<'_>, from: Node, b: usize, marks: usize
     let shapes = plan[2];
     let states = plan[0];
     let numbered = NUMBERED_NODES;
-    fine_pairs(plan, score, from, b + 1, outs, shapes, marks)
-        && fine_pairs(plan, score, from, mid + 1, nexts, states, numbered)
+    let nodes = score.words.len();
+    let spans = score.spans;
+    fine_pairs(plan, nodes, spans, from, b + 1, outs, shapes, marks)
+        && fine_pairs(plan, nodes, spans, from, mid + 1, nexts, states, numbered)
 }
 
 // The log has room for one more, the waiting words for all items after the step.

@@ -10,7 +10,7 @@ use Rattle.queue.proofs.queueing.mark_pairs.Given as goal
 
 abbrev pub invariant-loop-shape : goal.invariant-loop-shape
 invariant-loop-shape l =
-    let to = target (length l.score.words.now) l.score.spans.now l.from.0 in
+    let to = target l.nodes l.spans l.from.0 in
     let pairs = pair_list l.plan l.at l.count in
     let left = drop l.shape-index pairs in
     record {
