@@ -4,8 +4,8 @@
 -- the words answered are equal: which of two equal parts of a table is lent is the one thing that no contract can say.
 use mathlib.Core.Path.{◌≡◌, ap, sym, ◌∙◌}
 use Rattle.folio.specs.Opening.{OpenOutcome}
-use Rattle.walk.specs.Starting.{WalkOutcome}
-use Rattle.listing.specs.Listing.{ListOutcome}
+use Rattle.walk.specs.Starting.{Walk, WalkOutcome, counting, record_after}
+use Rattle.listing.specs.Listing.{ListOutcome, record_in}
 use Rattle.report.specs.Lines.{LineOutcome}
 use Rattle.folio.proofs.opening.open.Reads as open-folio
 use Rattle.checks.proofs.showing.subtree.Reads as subtree
@@ -45,7 +45,7 @@ use Rattle.views.specs.contracts.viewing.lengths_in as lengths-in
 use Rattle.views.specs.contracts.viewing.successor_in as successor-in
 use Rattle.views.specs.contracts.viewing.view as view
 use Rattle.readers.specs.PlanParts.{label_of, lengths_of, announcement_of, successor_of}
-use Rattle.promises.proofs.Calls.{Allows, of_clause}
+use Rattle.promises.proofs.Calls.{Allows, Found, of_clause}
 use seplogic.Ra.Ura.{Ura}
 use base.Logic.{ent, via}
 use types.Logic.{Logic}
@@ -136,36 +136,26 @@ pub build_determined : (κs : _) (a : _) (r r' : _) (e e' : _) → build.Learnt 
 build_determined κs a r r' e e' h h' = let x = h ∙ sym h' in
     (ap (λ (o : BuildOutcome). o.answer) x, ap (λ (o : BuildOutcome). o.plan) x, ap (λ (o : BuildOutcome). o.scratch) x)
 
-same_walk : (o o' : WalkOutcome) → o ≡ o' → (o.answer ≡ o'.answer) × (o.walk.items ≡ o'.walk.items) × (o.walk.log ≡ o'.walk.log)
-    × (o.walk.marks ≡ o'.walk.marks)
-same_walk o o' x = (
-  ap (λ (y : WalkOutcome). y.answer) x,
-  ap (λ (y : WalkOutcome). y.walk.items) x,
-  ap (λ (y : WalkOutcome). y.walk.log) x,
-  ap (λ (y : WalkOutcome). y.walk.marks) x,
-)
-
 same_line : (o o' : LineOutcome) → o ≡ o' → (o.answer ≡ o'.answer) × (o.out ≡ o'.out)
 same_line o o' x = (ap (λ (y : LineOutcome). y.answer) x, ap (λ (y : LineOutcome). y.out) x)
 
-pub start_determined : (κs : _) (a : _) (r r' : _) (e e' : _) → start.Learnt κs a r e → start.Learnt κs a r' e' → (r ≡ r')
-    × (e.0.now.waiting.now ≡ e'.0.now.waiting.now) × (e.0.now.log.now ≡ e'.0.now.log.now)
-    × (e.0.now.marks.now ≡ e'.0.now.marks.now)
-start_determined κs a r r' e e' h h' = same_walk _ _ (h.1 ∙ sym h'.1)
+-- what is found in a walk's buffers, after either
+found_walk : {o o' : WalkOutcome} {w w' : Walk} → o ≡ o' → w ≡ o.walk → w' ≡ o'.walk → (o.answer ≡ o'.answer) × (w ≡ w')
+found_walk x f f' = (ap (λ (y : WalkOutcome). y.answer) x, f ∙ ap (λ (y : WalkOutcome). y.walk) x ∙ sym f')
 
-pub step_determined : (κs : _) (a : _) (r r' : _) (e e' : _) → step.Learnt κs a r e → step.Learnt κs a r' e' → (r ≡ r')
-    × (e.0.now.waiting.now ≡ e'.0.now.waiting.now) × (e.0.now.log.now ≡ e'.0.now.log.now)
-    × (e.0.now.marks.now ≡ e'.0.now.marks.now)
-step_determined κs a r r' e e' h h' = same_walk _ _ (h.1 ∙ sym h'.1)
+pub start_determined : (κs : _) (a : _) (r r' : _) (e e' : _) → start.Learnt κs a r e → start.Learnt κs a r' e' → (w w' : Walk)
+    → Found a.0.now e.0.now (record_after r (counting 0 0 0)) w → Found a.0.now e'.0.now (record_after r' (counting 0 0 0)) w' → (r ≡ r') × (w ≡ w')
+start_determined κs a r r' e e' h h' w w' f f' = found_walk (h.1 ∙ sym h'.1) (f h.0) (f' h'.0)
 
-pub steps_determined : (κs : _) (a : _) (r r' : _) (e e' : _) → steps.Learnt κs a r e → steps.Learnt κs a r' e' → (r ≡ r')
-    × (e.0.now.waiting.now ≡ e'.0.now.waiting.now) × (e.0.now.log.now ≡ e'.0.now.log.now)
-    × (e.0.now.marks.now ≡ e'.0.now.marks.now)
-steps_determined κs a r r' e e' h h' = let x = h.1 ∙ sym h'.1 in (
+pub step_determined : (κs : _) (a : _) (r r' : _) (e e' : _) → step.Learnt κs a r e → step.Learnt κs a r' e' → (w w' : Walk)
+    → Found a.0.now e.0.now (record_after r a.1.1.1.0) w → Found a.0.now e'.0.now (record_after r' a.1.1.1.0) w' → (r ≡ r') × (w ≡ w')
+step_determined κs a r r' e e' h h' w w' f f' = found_walk (h.1 ∙ sym h'.1) (f h.0) (f' h'.0)
+
+pub steps_determined : (κs : _) (a : _) (r r' : _) (e e' : _) → steps.Learnt κs a r e → steps.Learnt κs a r' e' → (w w' : Walk)
+    → Found a.0.now e.0.now (record_in r) w → Found a.0.now e'.0.now (record_in r') w' → (r ≡ r') × (w ≡ w')
+steps_determined κs a r r' e e' h h' w w' f f' = let x = h.1 ∙ sym h'.1 in (
   ap (λ (o : ListOutcome). o.answer) x,
-  ap (λ (o : ListOutcome). o.walk.items) x,
-  ap (λ (o : ListOutcome). o.walk.log) x,
-  ap (λ (o : ListOutcome). o.walk.marks) x,
+  f h.0 ∙ ap (λ (o : ListOutcome). o.walk) x ∙ sym (f' h'.0),
 )
 
 pub compare_determined : (κs : _) (a : _) (r r' : _) (e e' : _) → compare.Learnt κs a r e → compare.Learnt κs a r' e' → (r ≡ r')
