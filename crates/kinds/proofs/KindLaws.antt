@@ -3,18 +3,16 @@
 --   no_zero, zero_next zero_stop zero_end  is a code in use: no 0 among its digits, from the last one on
 --   digits_next digits_end                        how many digits, from the last one on
 --   padded_start padded_next padded_end padded_room   a code, with zeros put after it one by one
---   pairs_before                                  document order by padded codes and lengths
+--   pads_less pads_more pads_same           document order by padded codes
 use mathlib.Core.Path.{◌≡◌, refl, ap, sym, ◌∙◌}
-use mathlib.Core.Bool.{Bool, true, false, cond, ◌&&◌, ◌||◌}
+use mathlib.Core.Bool.{Bool, true, false, ◌&&◌, ◌||◌}
 use mathlib.Core.List.{[], ◌∷◌}
 use Prim.Native.Nat.{ℕ, suc, ◌+◌, ◌-◌, ◌*◌, ◌/◌, ◌%◌, ◌^◌, ◌≤◌, ◌<◌}
 use native.Mathlib.Omega.{arith}
 use native.Mathlib.Nat.{mul_assoc, mul-one, pow-succ', mul-le-mul_left}
-use borrow.Author.Tests.{lt-ltb, le-ltb, le-leb, lt-leb}
+use borrow.Author.Tests.{eq-eqb, ne_eqb, lt-ltb, le-ltb, le-leb, lt-leb}
 use lib.Dec.{eqb, ltb}
 use Rattle.std.specs.Prelude.{Some, None}
-use Rattle.std.specs.Ordering.{is_some_and, is_lt, partial_ordering_then, nat_cmp}
-use Rattle.std.specs.declared.cmp.Ordering.TheVariants.{Less, Equal, Greater}
 use lib.ListN.{length, length-append}
 use Rattle.kinds.specs.Lists.{all}
 use Rattle.kinds.specs.Positions.{before, decode, pad_to, largest, code_good}
@@ -89,25 +87,21 @@ padded_room c n k e =
     omega (arith, m, l, e)
 
 -- ---- document order
--- what `<` says of two pairs of numbers, by the tests of their parts
-pairs_less : (less same less₂ same₂ : Bool)
-    → is_some_and is_lt (partial_ordering_then (Some (cond less Less (cond same Equal Greater))) (Some (cond less₂ Less (cond same₂ Equal Greater))))
-    ≡ (less || (same && less₂))
-pairs_less true same less₂ same₂ = refl
-pairs_less false false less₂ same₂ = refl
-pairs_less false true true same₂ = refl
-pairs_less false true false true = refl
-pairs_less false true false false = refl
-
 module _ (a b : ℕ) where
   by_pads : before (decode a) (decode b) ≡
       (ltb (pad_to 7 (decode a)) (pad_to 7 (decode b)) ||
       (eqb (pad_to 7 (decode a)) (pad_to 7 (decode b)) && ltb (length (decode a)) (length (decode b))))
   by_pads = before_pad 7 (decode a) (decode b) (decode_digits 7 a) (decode_digits 7 b) (decode_short 7 a) (decode_short 7 b)
 
-  pub pairs_before : {p q l m : ℕ} → p ≡ pad_to 7 (decode a) → q ≡ pad_to 7 (decode b) → l ≡ length (decode a) → m ≡ length (decode b)
-      → is_some_and is_lt (partial_ordering_then (Some (nat_cmp p q)) (Some (nat_cmp l m))) ≡ before (decode a) (decode b)
-  pairs_before {p} {q} {l} {m} ep eq el em =
-      pairs_less (ltb p q) (eqb p q) (ltb l m) (eqb l m)
-      ∙ (λ i. ltb (ep i) (eq i) || (eqb (ep i) (eq i) && ltb (el i) (em i)))
-      ∙ sym by_pads
+  pub pads_less : pad_to 7 (decode a) < pad_to 7 (decode b) → before (decode a) (decode b) ≡ true
+  pads_less h = by_pads ∙ rw (lt-ltb (pad_to 7 (decode a)) (pad_to 7 (decode b)) h)
+
+  pub pads_more : pad_to 7 (decode b) < pad_to 7 (decode a) → before (decode a) (decode b) ≡ false
+  pads_more h = by_pads ∙ rw (
+    le-ltb (pad_to 7 (decode a)) (pad_to 7 (decode b)) (omega arith),
+    ne_eqb (pad_to 7 (decode a)) (pad_to 7 (decode b))
+        (λ e. omega arith),
+  )
+
+  pub pads_same : pad_to 7 (decode a) ≡ pad_to 7 (decode b) → before (decode a) (decode b) ≡ ltb (length (decode a)) (length (decode b))
+  pads_same h = by_pads ∙ rw (le-ltb (pad_to 7 (decode a)) (pad_to 7 (decode b)) (omega arith), eq-eqb (pad_to 7 (decode a)) (pad_to 7 (decode b)) h)

@@ -113,7 +113,9 @@ impl Position {
     pub fn before(self, other: Position) -> bool
         ensures { result ≡ comes_before self other }
     {
-        (padded(self), self.length()) < (padded(other), other.length())
+        let mine = padded(self);
+        let others = padded(other);
+        mine < others || mine == others && self.length() < other.length()
     }
 }
 
