@@ -7,15 +7,15 @@
 --   found_is                     they hold a match exactly if its shape is one and stands there
 use Rattle.std.specs.Prelude.{Err, Ok}
 use Prim.Native.Nat.{ℕ, suc, ◌+◌, ◌-◌, ◌*◌, ◌^◌, ◌<◌, ◌≤◌}
-use mathlib.Core.Path.{◌≡◌, ap, ap₂, sym, ◌∙◌}
+use mathlib.Core.Path.{◌≡◌, refl, ap, ap₂, sym, ◌∙◌}
 use mathlib.Core.Bool.{Bool, true, false, cond, ◌&&◌}
-use mathlib.Core.List.{List, [], ◌∷◌, ◌++◌, append_assoc, append-nil}
+use mathlib.Core.List.{List}
 use native.Mathlib.Omega.{arith}
 use native.Mathlib.Nat.{zero-add}
 use native.Mathlib.Numerals.{add-one}
 use lib.Dec.{eqb, ltb}
-use lib.ListN.{length, get_or, take, drop, length-map, length-append}
-use lib.Seq.{sets, get_or-append_seam}
+use lib.ListN.{length, get_or, take, drop, length-map}
+use lib.Seq.{sets}
 use Rattle.kinds.specs.Bits.{bit}
 use Rattle.kinds.specs.Limits.{blank_word}
 use Rattle.kinds.specs.Lists.{gather, range, onto}
@@ -87,66 +87,47 @@ abbrev one : Bool → ℕ
 one b = cond b 1 0
 
 -- ---- the mark of a node, where the shapes that start at l are left: the words of the last of them end where those of the next shape begin
-pub record MarkFrom (ws st score spans : List ℕ) (x mark : ℕ) (l : List ℕ) (end : ℕ) : Type 0 where
-  pub bits : BitsFrom (matched_at ws st score spans x) (length st) mark (length l)
-  pub ends : (j : ℕ) → length l ≡ suc j → end ≡ end_of ws st j
-  pub done : List ℕ
-  pub whole : st ≡ l ++ done
+pub record MarkFrom (ws st score spans : List ℕ) (x mark j end : ℕ) : Type 0 where
+  pub bits : BitsFrom (matched_at ws st score spans x) (length st) mark j
+  pub ends : (i : ℕ) → j ≡ suc i → end ≡ end_of ws st i
 
-pub mark_begin : (ws st score spans : List ℕ) (x : ℕ) {l : List ℕ} → l ≡ st → MarkFrom ws st score spans x 0 l (length ws)
-mark_begin ws st score spans x e = rw e (record {
+pub mark_begin : (ws st score spans : List ℕ) (x : ℕ) → MarkFrom ws st score spans x 0 (length st) (length ws)
+mark_begin ws st score spans x = record {
   bits = bits_begin (matched_at ws st score spans x) (length st);
   ends = λ j h. sym (end_last ws st j (omega arith));
-  done = [];
-  whole = sym (append-nil st);
-})
+}
 
-module _ {ws st score spans : List ℕ} {x mark end : ℕ} {l : List ℕ} (m : MarkFrom ws st score spans x mark l end) where
-  pub mark_done : length l ≡ 0 → mark ≡ mark_at ws st score spans x
+module _ {ws st score spans : List ℕ} {x mark end : ℕ} where
+  pub mark_done : {j : ℕ} → MarkFrom ws st score spans x mark j end → j ≤ 0 → mark ≡ mark_at ws st score spans x
   unfolding mark_at
-  mark_done e = bits_end (rw e at m.bits)
+  mark_done {j} m h = let e : j ≡ 0 = omega arith in bits_end (rw e at m.bits)
 
-  module _ (k : List ℕ) (s : ℕ) (e : l ≡ k ++ (s ∷ [])) where
-    fewer : length l ≡ suc (length k)
-    fewer = omega (arith, ap length e, length-append k (s ∷ []))
-
-    whole : st ≡ k ++ (s ∷ m.done)
-    whole = m.whole ∙ ap (λ r. r ++ m.done) e ∙ append_assoc k (s ∷ []) m.done
-
-    here : get_or st (length k) 0 ≡ s
-    here = ap (λ r. get_or r (length k) 0) whole ∙ get_or-append_seam k s m.done 0
-
-    inside : length k < length st
-    inside = omega (arith, m.bits.inside, fewer)
-
-    bits : BitsFrom (matched_at ws st score spans x) (length st) mark (suc (length k))
-    bits = rw fewer at m.bits
+  module _ {j : ℕ} (m : MarkFrom ws st score spans x mark (suc j) end) where
+    inside : j < length st
+    inside = omega (arith, m.bits.inside)
 
     pub mark_half : length st ≤ 16 → mark < 2 ^ 15
-    mark_half h = bits_half bits h
+    mark_half h = bits_half m.bits h
 
     module _ (laid : Laid ws st) where
-      pub words_in_lem : (s ≤ end) × (end ≤ length ws)
-      words_in_lem = let h = laid (length k) inside in
-          (omega (arith, h.0, here, m.ends (length k) fewer), omega (arith, h.1, m.ends (length k) fewer))
+      pub words_in_lem : (get_or st j 0 ≤ end) × (end ≤ length ws)
+      words_in_lem = let h = laid j inside in (omega (arith, h.0, m.ends j refl), omega (arith, h.1, m.ends j refl))
 
-      shape_is : take (end - s) (drop s ws) ≡ shape_at ws st (length k)
-      shape_is = sym (words_are ws st (length k) inside ∙ ap₂ (part ws) here (sym (m.ends (length k) fewer))
-          ∙ part_is ws s end words_in_lem.0 words_in_lem.1)
+      shape_is : take (end - get_or st j 0) (drop (get_or st j 0) ws) ≡ shape_at ws st j
+      shape_is = sym (words_are ws st j inside ∙ ap (part ws (get_or st j 0)) (sym (m.ends j refl))
+          ∙ part_is ws (get_or st j 0) end words_in_lem.0 words_in_lem.1)
 
-      module _ {b : ℕ} (d : b ≡ one (falls blank_word score spans (take (end - s) (drop s ws)) x)) where
-        bit_is : b ≡ one (matched_at ws st score spans x (length k))
+      module _ {b : ℕ} (d : b ≡ one (falls blank_word score spans (take (end - get_or st j 0) (drop (get_or st j 0) ws)) x)) where
+        bit_is : b ≡ one (matched_at ws st score spans x j)
         bit_is = d ∙ ap (λ w. one (falls blank_word score spans w x)) shape_is
 
         pub mark_room : length st ≤ 16 → mark * 2 + b < 2 ^ 16
-        mark_room h = bits_room bits bit_is h
+        mark_room h = bits_room m.bits bit_is h
 
-        pub mark_next : MarkFrom ws st score spans x (mark * 2 + b) k s
+        pub mark_next : MarkFrom ws st score spans x (mark * 2 + b) j (get_or st j 0)
         mark_next = record {
-          bits = bits_down bits bit_is;
-          ends = λ j h. sym (end_next ws st j (omega (arith, inside)) ∙ ap (λ i. get_or st i 0) (add-one j ∙ sym h) ∙ here);
-          done = s ∷ m.done;
-          whole = whole;
+          bits = bits_down m.bits bit_is;
+          ends = λ i h. sym (end_next ws st i (omega (arith, inside)) ∙ ap (λ k. get_or st k 0) (add-one i ∙ sym h));
         }
 
 module _ (ws st score spans : List ℕ) where

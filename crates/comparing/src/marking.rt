@@ -33,10 +33,11 @@ fn mark_all(shapes: Shapes<'_>, score: Score<'_>, n: usize, marks: &mut [u16]) -
     ensures buffer { marks.new ≡ sets marks.old 0 (marks_to shapes.entry.words.now shapes.entry.starts.now score.entry.words.now score.entry.spans.now n) }
 {
     let mut sum: usize = 0;
-    for (x, mark) in marks[..n].iter_mut().enumerate() {
-        let made = mark_at(shapes, score, Node(x as u16));
-        *mark = made;
-        sum += made.count_ones() as usize;
+    // By index: the edit `leaves_a_stale_bit` writes where the nodes begin.
+    for x in 0..n {
+        let mark = mark_at(shapes, score, Node(x as u16));
+        marks[x] = mark;
+        sum += mark.count_ones() as usize;
     }
     sum
 }

@@ -13,8 +13,9 @@ pub fn mark_at(shapes: Shapes<'_>, score: Score<'_>, node: Node) -> u16
 {
     let mut mark: u16 = 0;
     let mut end = shapes.words.len();
-    for start in shapes.starts.iter().rev() {
-        let from = *start as usize;
+    // By index: the edit `skips_the_last_shape` writes where the shapes end.
+    for j in (0..shapes.starts.len()).rev() {
+        let from = shapes.starts[j] as usize;
         mark = mark * 2 + u16::from(matches_at(&shapes.words[from..end], BLANK, score, node));
         end = from;
     }

@@ -23,7 +23,11 @@ pub fn read_term(
     let mut here = at + 1;
     let mut depth: usize = 0;
     for _ in 0..n {
-        let child = read_term(symbols, words, limits, here, left - 1)?;
+        // A match where `?` would serve: the edit `parents_place` writes within it.
+        let child = match read_term(symbols, words, limits, here, left - 1) {
+            Err((f, p)) => return Err((f, p)),
+            Ok(child) => child,
+        };
         here = child.end;
         depth = depth.max(child.depth + 1);
     }

@@ -18,9 +18,11 @@ count-requires-clause-fits c =
     inl (rw c.filter.ensures.source (omega (arith, found_few s.marks.now s.from (16 * length s.marks.now - s.from), s.few)))
 
 pub returns : goal.returns
-returns c =
-    count_from_yields_List c.filter.result _ c.count.ensures.ran
-    (YieldsList-from_filter _ (λ m. is_shared c.args.counts.now (nodes_of c.args.shapes.words.now c.args.shapes.starts.now c.args.spans.now m))
-    (YieldsList-at c.filter.ensures.source (YieldsList-from_first (λ p. match_at p.0.0 p.1.0) left {s = c.new.result} _ c.new.ensures))
-    c.filter.ensures.closure (λ x r q k. search rules))
-    ∙ share_count _ _ _
+returns c = omega (
+  arith,
+  count_from_yields_List c.filter.result _ c.count.ensures.ran
+      (YieldsList-from_filter _ (λ m. is_shared c.args.counts.now (nodes_of c.args.shapes.words.now c.args.shapes.starts.now c.args.spans.now m))
+      (YieldsList-at c.filter.ensures.source (YieldsList-from_first (λ p. match_at p.0.0 p.1.0) left {s = c.new.result} _ c.new.ensures))
+      c.filter.ensures.closure (λ x r q k. search rules))
+      ∙ share_count _ _ _,
+)

@@ -1,5 +1,6 @@
-use Prim.Native.Nat.{◌≤◌}
-use mathlib.Core.Path.{sym, ◌∙◌}
+use Prim.Native.Nat.{ℕ, ◌≤◌}
+use mathlib.Core.Option.{some}
+use mathlib.Core.Path.{ap, sym, ◌∙◌}
 use native.Mathlib.Omega.{arith}
 use Rattle.report.proofs.PathLaws.{child_last, child_out, child_empty, child_past, child_here, child_next, child_end}
 use Rattle.report.proofs.text.find_child.Goals as goal
@@ -25,7 +26,8 @@ returns-then-end-e c =
 pub returns-then-x-e : goal.returns-then-x-e
 returns-then-x-e c =
     let more : c.loop-k.k ≤ 4 = omega arith in
-    sym (c.loop-k.invariant ∙ child_here _ _ _ _ _ more c.if-spans-here.false c.if-size-eq0.false
+    ap (λ (i : ℕ). some (i, c.loop-k.here)) {y = c.loop-k.k} (omega arith)
+    ∙ sym (c.loop-k.invariant ∙ child_here _ _ _ _ _ more c.if-spans-here.false c.if-size-eq0.false
     c.if-end-e.false c.if-x-e.true)
 
 pub loop-k-preserved : goal.loop-k-preserved

@@ -1,7 +1,5 @@
 use native.Mathlib.Omega.{arith}
-use Rattle.std.specs.Prelude.{Err}
-use Rattle.std.proofs.lemmas.Result.{err_from_is_err_and}
-use mathlib.Core.Path.{ap, sym, ◌∙◌}
+use mathlib.Core.Path.{sym, ◌∙◌}
 use Rattle.term.specs.Reading.{met}
 use Rattle.term.proofs.WholeTerm.{whole_term}
 use Rattle.term.proofs.LawsReading.{reading_bad, reading_deep, reading_into, kids_stop, kids_next, kids_done, head_in}
@@ -20,21 +18,19 @@ overflow_add-here t c = omega (arith, head_in _ _ _ _ _ (sym c.head.ensures ∙ 
 pub loop-init : goal.loop-init
 loop-init t c = reading_into _ _ _ _ _ (sym c.head.ensures ∙ c.in-Ok.is) c.if-left-eq0.false
 
-pub returns-in_err-child : goal.returns-in_err-child
-returns-in_err-child t c =
-    let p = err_from_is_err_and c.from_residual.result c.from_residual.ensures.1 in
-    p.1 ∙ ap Err p.2
-    ∙ sym (c.loop.invariant ∙ kids_stop _ _ _ (met c.loop.here c.loop.depth) c.loop-test.true
-    (sym c.read_term.ensures ∙ c.in_err-child.was))
+pub returns-in-Err-read_term : goal.returns-in-Err-read_term
+returns-in-Err-read_term t c =
+    sym (c.loop.invariant ∙ kids_stop _ _ _ (met c.loop.here c.loop.depth) c.loop-test.true
+    (sym c.read_term.ensures ∙ c.in-Err-read_term.is))
 
 pub overflow_add-child : goal.overflow_add-child
-overflow_add-child t c = let a = whole_term _ _ _ _ _ _ (sym c.read_term.ensures ∙ c.in_ok-child.was) in
+overflow_add-child t c = let a = whole_term _ _ _ _ _ _ (sym c.read_term.ensures ∙ c.in-Ok-read_term.is) in
     omega (arith, a.flat, a.deep)
 
 pub loop-preserved : goal.loop-preserved
 loop-preserved t c =
     c.loop.invariant ∙ kids_next _ _ _ (met c.loop.here c.loop.depth) c.loop-test.true
-    (sym c.read_term.ensures ∙ c.in_ok-child.was) c.max-depth.ensures
+    (sym c.read_term.ensures ∙ c.in-Ok-read_term.is) c.max-depth.ensures
 
 pub returns : goal.returns
 returns t c = sym (c.loop.invariant ∙ kids_done _ _ _ (met c.loop.here c.loop.depth) c.loop-test.false)
