@@ -30,7 +30,9 @@ fn put_word(word: u16, file: &mut [u8], at: usize) -> usize
     ensures file_after { file.new ≡ sets file.old at (bytes_of (word ∷ [])) }
     ensures value { result ≡ at + 2 }
 {
-    put_bytes(&word.to_le_bytes(), file, at)
+    // Byte by byte: the edit `high_byte_first` writes here.
+    let [low, high] = word.to_le_bytes();
+    put_bytes(&[low, high], file, at)
 }
 
 // The distances back to symbols, shapes and score, and the end bytes.

@@ -22,8 +22,11 @@ pub fn compare(
     if !good {
         return Err(Reason::BadShapes);
     }
-    let n = looked_at(symbols, score, marks)?;
-    Ok(mark_all(shapes, score, n, marks))
+    // A match where `?` would serve: two edits write within it.
+    match looked_at(symbols, score, marks) {
+        Err(reason) => Err(reason),
+        Ok(n) => Ok(mark_all(shapes, score, n, marks)),
+    }
 }
 
 // The marks of the first n nodes, each written; answers how many matches they hold.
