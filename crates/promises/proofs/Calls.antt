@@ -22,11 +22,8 @@ use denote.Triple.Spec.{Spec, exits}
 use Rattle.kinds.specs.Members.{Below}
 use Rattle.kinds.specs.Kinds.{child_says}
 use Rattle.folio.specs.Opening.{lent, opened_says}
-use Rattle.walk.specs.declared.Record.{Record}
-use Rattle.walk.specs.declared.Walk.{Walk}
-use Rattle.walk.specs.Lent.{SameBuffers, walk_in}
-use Rattle.walk.specs.Starting.{counting, record_after, walked_says}
-use Rattle.walk.specs.Starting as plain
+use Rattle.walk.specs.Lent.{Stands, walk_in}
+use Rattle.walk.specs.Starting.{Walk, counting, record_after, walked_says}
 use Rattle.listing.specs.Listing.{record_in, listed_says}
 use Rattle.counting.specs.Counting.{counted_says}
 use Rattle.readers.specs.BlockWords.{middle}
@@ -80,31 +77,27 @@ pub build_call : (κs : _) (a : _) (r : _) (e : _) → build.Learnt κs a r e
 build_call κs a r e h = subst (BuildRow a.0.now a.1.0.words.now a.1.0.starts.now a.1.1.0.now a.1.1.1.0.now)
     (ap build_told (sym h)) (demand_1.building _ _ _ _ _).0
 
--- What stands afterwards in the buffers that a walk was lent: `left` are the references that the call leaves, and what is read through them is said of
--- the buffers lent where they are the same ones, which is for the contract to say.
-abbrev pub Found : Walk → Walk → Record → plain.Walk → Type 0
-Found lent left r w = SameBuffers left lent → w ≡ walk_in left r
-
+-- ---- a walk's calls are said of what stands in the buffers lent (`Stands`), which the contract ties to what is read through the references that the call leaves
 pub start_call : (κs : _) (a : _) (r : _) (e : _) → start.Learnt κs a r e → Below 65536 a.1.1.0.words.now
-    → (w : plain.Walk) → Found a.0.now e.0.now (record_after r (counting 0 0 0)) w
+    → (w : Walk) → Stands a.0.now e.0.now (record_after r (counting 0 0 0)) w
     → StartRow a.1.0.now a.1.1.0.words.now a.1.1.0.spans.now (walk_in a.0.now (counting 0 0 0)) (told (walked_says r) w)
-start_call κs a r e h small w found =
+start_call κs a r e h small w stands =
     subst (StartRow a.1.0.now a.1.1.0.words.now a.1.1.0.spans.now (walk_in a.0.now (counting 0 0 0)))
-    (ap walk_told (sym h.1) ∙ ap (told (walked_says r)) (sym (found h.0))) (demand_1.starting _ _ _ _ small).0
+    (ap walk_told (sym h.1) ∙ ap (told (walked_says r)) (sym (stands h.0))) (demand_1.starting _ _ _ _ small).0
 
 pub step_call : (κs : _) (a : _) (r : _) (e : _) → step.Learnt κs a r e
-    → (w : plain.Walk) → Found a.0.now e.0.now (record_after r a.1.1.1.0) w
+    → (w : Walk) → Stands a.0.now e.0.now (record_after r a.1.1.1.0) w
     → StepRow a.1.0.now a.1.1.0.words.now a.1.1.0.spans.now a.1.1.1.1.0 (walk_in a.0.now a.1.1.1.0) (told (walked_says r) w)
-step_call κs a r e h w found =
+step_call κs a r e h w stands =
     subst (StepRow a.1.0.now a.1.1.0.words.now a.1.1.0.spans.now a.1.1.1.1.0 (walk_in a.0.now a.1.1.1.0))
-    (ap walk_told (sym h.1) ∙ ap (told (walked_says r)) (sym (found h.0))) (demand_1.stepping _ _ _ _ _).0
+    (ap walk_told (sym h.1) ∙ ap (told (walked_says r)) (sym (stands h.0))) (demand_1.stepping _ _ _ _ _).0
 
 pub steps_call : (κs : _) (a : _) (r : _) (e : _) → steps.Learnt κs a r e
-    → (w : plain.Walk) → Found a.0.now e.0.now (record_in r) w
+    → (w : Walk) → Stands a.0.now e.0.now (record_in r) w
     → ListRow a.1.0.now a.1.1.0.words.now a.1.1.0.spans.now a.1.1.1.1.0.now (walk_in a.0.now a.1.1.1.0) (told (listed_says r) w)
-steps_call κs a r e h w found =
+steps_call κs a r e h w stands =
     subst (ListRow a.1.0.now a.1.1.0.words.now a.1.1.0.spans.now a.1.1.1.1.0.now (walk_in a.0.now a.1.1.1.0))
-    (ap list_told (sym h.1) ∙ ap (told (listed_says r)) (sym (found h.0))) (demand_1.listing _ _ _ _ _).0
+    (ap list_told (sym h.1) ∙ ap (told (listed_says r)) (sym (stands h.0))) (demand_1.listing _ _ _ _ _).0
 
 pub matches_call : (κs : _) (a : _) (r : _) (e : _) → matches.Learnt κs a r e → Below 65536 a.1.0.words.now
     → CountRow a.0.now a.1.0.words.now a.1.0.spans.now a.1.1.0.now (counted_says r)

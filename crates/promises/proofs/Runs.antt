@@ -24,7 +24,7 @@ use Rattle.folio.specs.Opening.{Lent, OpenOutcome, lent, out, opened}
 use Rattle.folio.specs.declared.Counts.{Counts}
 use Rattle.plan.specs.Building.{BuildOutcome, out as built-out, build_of}
 use Rattle.plan.specs.declared.Size.{Size}
-use Rattle.walk.specs.Lent.{walk_in}
+use Rattle.walk.specs.Lent.{Stands, walk_in}
 use Rattle.walk.specs.Starting.{Walk, WalkOutcome, counting, record_after, started}
 use Rattle.walk.specs.Stepping.{stepped, run}
 use Rattle.walk.specs.declared.Record.{Record}
@@ -41,7 +41,6 @@ use Rattle.comparing.specs.Comparing.{out_of, compared}
 use Rattle.replacing.specs.Putting.{PutOutcome, put_out, put_of}
 use Rattle.comparing.proofs.marking.compare.Reads as compare
 use Rattle.replacing.proofs.putting.put.Reads as put
-use Rattle.promises.proofs.Calls.{Found}
 use Rattle.promises.specs.OneFile.{OpenFile, OneFile, nodes_in, spans_in, shapes_in, score_in, lent_in, after}
 use Rattle.promises.specs.SoFar.{SoFar, Keeps}
 use Rattle.promises.specs.Demand2.{Demand2}
@@ -62,11 +61,11 @@ use Rattle.promises.proofs.Put.{put_holds}
 module _ (plan score spans : List ℕ) where
   pub data Stepped (i : ℕ) (w v : Walk) : Type 0 where
     by_step : (κs : _) (a : _) (r : _) (e : _) → step.Learnt κs a r e → a.1.0.now ≡ plan → a.1.1.0.words.now ≡ score → a.1.1.0.spans.now ≡ spans
-        → walk_in a.0.now a.1.1.1.0 ≡ w → a.1.1.1.1.0 ≡ i → Found a.0.now e.0.now (record_after r a.1.1.1.0) v → Stepped i w v
+        → walk_in a.0.now a.1.1.1.0 ≡ w → a.1.1.1.1.0 ≡ i → Stands a.0.now e.0.now (record_after r a.1.1.1.0) v → Stepped i w v
 
   pub data Listed (choices : List ℕ) (w : Walk) : ℕ → Walk → Type 0 where
     by_steps : {v : Walk} (κs : _) (a : _) (r : _) (e : _) → steps.Learnt κs a r e → a.1.0.now ≡ plan → a.1.1.0.words.now ≡ score → a.1.1.0.spans.now ≡ spans
-        → walk_in a.0.now a.1.1.1.0 ≡ w → a.1.1.1.1.0.now ≡ choices → Found a.0.now e.0.now (record_in r) v → Listed choices w (accepted_in r) v
+        → walk_in a.0.now a.1.1.1.0 ≡ w → a.1.1.1.1.0.now ≡ choices → Stands a.0.now e.0.now (record_in r) v → Listed choices w (accepted_in r) v
 
   pub data Walked : Walk → List ℕ → Walk → Type 0 where
     none : {w : Walk} → Walked w [] w
@@ -80,16 +79,16 @@ module _ (plan score spans : List ℕ) where
       ap₂ (λ x y. f x y t j w) ep es ∙ ap₂ (λ x y. f plan score x j y) et ew ∙ ap (λ x. f plan score spans x v) ei
 
   one_step : {i : ℕ} {w v : Walk} → Stepped i w v → v ≡ (stepped plan score spans i w).walk
-  one_step (by_step κs a r e h ep es et ew ei found) = found h.0 ∙ ap (λ (o : WalkOutcome). o.walk) (h.1 ∙ same_over stepped ep es et ew ei)
+  one_step (by_step κs a r e h ep es et ew ei stands) = stands h.0 ∙ ap (λ (o : WalkOutcome). o.walk) (h.1 ∙ same_over stepped ep es et ew ei)
 
   one_call : {choices : List ℕ} {w v : Walk} {k : ℕ} → Listed choices w k v → v ≡ run plan score spans (take k choices) w
-  one_call {choices} {w} (by_steps κs a r e h ep es et ew ec found) =
-      found h.0
+  one_call {choices} {w} (by_steps κs a r e h ep es et ew ec stands) =
+      stands h.0
       ∙ subst (λ (o : ListOutcome). o.walk ≡ run plan score spans (take (accepted_in o.answer) choices) w) (sym (h.1 ∙ same_over listed ep es et ew ec))
       (one_list plan score spans choices w).walk_is
 
   listed_walk : {choices : List ℕ} {w v : Walk} {k : ℕ} → Listed choices w k v → v ≡ (listed plan score spans choices w).walk
-  listed_walk (by_steps κs a r e h ep es et ew ec found) = found h.0 ∙ ap (λ (o : ListOutcome). o.walk) (h.1 ∙ same_over listed ep es et ew ec)
+  listed_walk (by_steps κs a r e h ep es et ew ec stands) = stands h.0 ∙ ap (λ (o : ListOutcome). o.walk) (h.1 ∙ same_over listed ep es et ew ec)
 
   pub steps_run : {w u : Walk} {is : List ℕ} → Walked w is u → u ≡ run plan score spans is w
   unfolding run
@@ -118,12 +117,12 @@ module _ (score spans : List ℕ) where
       (subst (λ v. HandedOn score spans v u) (listed_walk plan score spans l) (calls_handed more))
 
   module _ (κs : _) (a : _) (first : Record) (e : _) (starts : start.Learnt κs a (Ok first) e) (of-score : a.1.1.0.words.now ≡ score)
-      (of-spans : a.1.1.0.spans.now ≡ spans) (start_left : Walk) (found : Found a.0.now e.0.now first start_left) where
+      (of-spans : a.1.1.0.spans.now ≡ spans) (start_left : Walk) (stands : Stands a.0.now e.0.now first start_left) where
     abbrev start_lent : Walk
     start_lent = walk_in a.0.now (counting 0 0 0)
 
     begins : started a.1.0.now score spans start_lent ≡ record { answer = Ok first; walk = start_left }
-    begins = ap₂ (λ l m. started a.1.0.now l m start_lent) (sym of-score) (sym of-spans) ∙ sym starts.1 ∙ ap (λ v. record { answer = Ok first; walk = v }) (sym (found starts.0))
+    begins = ap₂ (λ l m. started a.1.0.now l m start_lent) (sym of-score) (sym of-spans) ∙ sym starts.1 ∙ ap (λ v. record { answer = Ok first; walk = v }) (sym (stands starts.0))
 
     module _ {u : Walk} (h : Handed start_left u) where
       from_start : HandedOn score spans (started a.1.0.now score spans start_lent).walk u
@@ -205,7 +204,7 @@ module _ {file : List ℕ} (bytes : Below 256 file)
       (κs : _) (as' : _) (first : Record) (es : _) (starts : start.Learnt κs as' (Ok first) es)
       (s-symbols : as'.1.0.now ≡ take counts.symbols file) (s-score : as'.1.1.0.words.now ≡ take counts.nodes left.score)
       (s-spans : as'.1.1.0.spans.now ≡ take counts.nodes left.spans)
-      (start_left : Walk) (found : Found as'.0.now es.0.now first start_left)
+      (start_left : Walk) (stands : Stands as'.0.now es.0.now first start_left)
       (behind : List ℕ) where
     abbrev pub begun : Walk
     begun = walk_in as'.0.now (counting 0 0 0)
@@ -232,7 +231,7 @@ module _ {file : List ℕ} (bytes : Below 256 file)
         same_start begun (sym s-symbols)
         (ap (take counts.nodes) (is_left (λ l. l.score)) ∙ sym s-score)
         (ap (take counts.nodes) (is_left (λ l. l.spans)) ∙ sym s-spans)
-        ∙ sym starts.1 ∙ ap (λ v. record { answer = Ok first; walk = v }) (sym (found starts.0))
+        ∙ sym starts.1 ∙ ap (λ v. record { answer = Ok first; walk = v }) (sym (stands starts.0))
 
     abbrev pub one_file : OneFile open_file
     one_file = record {
