@@ -22,7 +22,7 @@ use denote.Triple.Spec.{Spec, exits}
 use Rattle.kinds.specs.Members.{Below}
 use Rattle.kinds.specs.Kinds.{child_says}
 use Rattle.folio.specs.Opening.{lent, opened_says}
-use Rattle.walk.specs.Lent.{Stands, walk_in}
+use Rattle.walk.specs.Lent.{walk_in}
 use Rattle.walk.specs.Starting.{Walk, counting, record_after, walked_says}
 use Rattle.listing.specs.Listing.{record_in, listed_says}
 use Rattle.counting.specs.Counting.{counted_says}
@@ -61,6 +61,7 @@ use Rattle.report.proofs.lines.put_line.Reads as put-line
 use Rattle.report.proofs.lines.put_refusal.Reads as put-refusal
 use Rattle.kinds.proofs.Position.child.Reads as child
 use Rattle.following.proofs.positions.follow.Reads as follow
+use Rattle.promises.specs.LentWalk.{Stands}
 use Rattle.promises.specs.Told.{told}
 use Rattle.promises.specs.Found.{FoundRow, part_says, pair_values, Standing, LabelFound, BlockFound, AnnouncementFound, SuccessorFound, ChildFound, Reaches}
 use Rattle.promises.specs.Demand1.{OpenRow, open_told, BuildRow, build_told, StartRow, CountRow, ClashRow, CompareRow, compare_told, PutRow, put_told, StepRow, walk_told, ListRow, list_told, LineRow, MatchRow, line_told}
@@ -83,21 +84,21 @@ pub start_call : (κs : _) (a : _) (r : _) (e : _) → start.Learnt κs a r e �
     → StartRow a.1.0.now a.1.1.0.words.now a.1.1.0.spans.now (walk_in a.0.now (counting 0 0 0)) (told (walked_says r) w)
 start_call κs a r e h small w stands =
     subst (StartRow a.1.0.now a.1.1.0.words.now a.1.1.0.spans.now (walk_in a.0.now (counting 0 0 0)))
-    (ap walk_told (sym h.1) ∙ ap (told (walked_says r)) (sym (stands h.0))) (demand_1.starting _ _ _ _ small).0
+    (ap walk_told (sym h.1) ∙ ap (told (walked_says r)) (sym (stands h.0.waiting h.0.log h.0.marks))) (demand_1.starting _ _ _ _ small).0
 
 pub step_call : (κs : _) (a : _) (r : _) (e : _) → step.Learnt κs a r e
     → (w : Walk) → Stands a.0.now e.0.now (record_after r a.1.1.1.0) w
     → StepRow a.1.0.now a.1.1.0.words.now a.1.1.0.spans.now a.1.1.1.1.0 (walk_in a.0.now a.1.1.1.0) (told (walked_says r) w)
 step_call κs a r e h w stands =
     subst (StepRow a.1.0.now a.1.1.0.words.now a.1.1.0.spans.now a.1.1.1.1.0 (walk_in a.0.now a.1.1.1.0))
-    (ap walk_told (sym h.1) ∙ ap (told (walked_says r)) (sym (stands h.0))) (demand_1.stepping _ _ _ _ _).0
+    (ap walk_told (sym h.1) ∙ ap (told (walked_says r)) (sym (stands h.0.waiting h.0.log h.0.marks))) (demand_1.stepping _ _ _ _ _).0
 
 pub steps_call : (κs : _) (a : _) (r : _) (e : _) → steps.Learnt κs a r e
     → (w : Walk) → Stands a.0.now e.0.now (record_in r) w
     → ListRow a.1.0.now a.1.1.0.words.now a.1.1.0.spans.now a.1.1.1.1.0.now (walk_in a.0.now a.1.1.1.0) (told (listed_says r) w)
 steps_call κs a r e h w stands =
     subst (ListRow a.1.0.now a.1.1.0.words.now a.1.1.0.spans.now a.1.1.1.1.0.now (walk_in a.0.now a.1.1.1.0))
-    (ap list_told (sym h.1) ∙ ap (told (listed_says r)) (sym (stands h.0))) (demand_1.listing _ _ _ _ _).0
+    (ap list_told (sym h.1) ∙ ap (told (listed_says r)) (sym (stands h.0.waiting h.0.log h.0.marks))) (demand_1.listing _ _ _ _ _).0
 
 pub matches_call : (κs : _) (a : _) (r : _) (e : _) → matches.Learnt κs a r e → Below 65536 a.1.0.words.now
     → CountRow a.0.now a.1.0.words.now a.1.0.spans.now a.1.1.0.now (counted_says r)

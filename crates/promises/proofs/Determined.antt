@@ -4,7 +4,6 @@
 -- the words answered are equal: which of two equal parts of a table is lent is the one thing that no contract can say.
 use mathlib.Core.Path.{◌≡◌, ap, sym, ◌∙◌}
 use Rattle.folio.specs.Opening.{OpenOutcome}
-use Rattle.walk.specs.Lent.{Stands}
 use Rattle.walk.specs.Starting.{Walk, WalkOutcome, counting, record_after}
 use Rattle.listing.specs.Listing.{ListOutcome, record_in}
 use Rattle.report.specs.Lines.{LineOutcome}
@@ -46,6 +45,7 @@ use Rattle.views.specs.contracts.viewing.lengths_in as lengths-in
 use Rattle.views.specs.contracts.viewing.successor_in as successor-in
 use Rattle.views.specs.contracts.viewing.view as view
 use Rattle.readers.specs.PlanParts.{label_of, lengths_of, announcement_of, successor_of}
+use Rattle.promises.specs.LentWalk.{Stands}
 use Rattle.promises.proofs.Calls.{Allows, of_clause}
 use seplogic.Ra.Ura.{Ura}
 use base.Logic.{ent, via}
@@ -146,17 +146,17 @@ same_walk x f f' = (ap (λ (y : WalkOutcome). y.answer) x, f ∙ ap (λ (y : Wal
 
 pub start_determined : (κs : _) (a : _) (r r' : _) (e e' : _) → start.Learnt κs a r e → start.Learnt κs a r' e' → (w w' : Walk)
     → Stands a.0.now e.0.now (record_after r (counting 0 0 0)) w → Stands a.0.now e'.0.now (record_after r' (counting 0 0 0)) w' → (r ≡ r') × (w ≡ w')
-start_determined κs a r r' e e' h h' w w' f f' = same_walk (h.1 ∙ sym h'.1) (f h.0) (f' h'.0)
+start_determined κs a r r' e e' h h' w w' f f' = same_walk (h.1 ∙ sym h'.1) (f h.0.waiting h.0.log h.0.marks) (f' h'.0.waiting h'.0.log h'.0.marks)
 
 pub step_determined : (κs : _) (a : _) (r r' : _) (e e' : _) → step.Learnt κs a r e → step.Learnt κs a r' e' → (w w' : Walk)
     → Stands a.0.now e.0.now (record_after r a.1.1.1.0) w → Stands a.0.now e'.0.now (record_after r' a.1.1.1.0) w' → (r ≡ r') × (w ≡ w')
-step_determined κs a r r' e e' h h' w w' f f' = same_walk (h.1 ∙ sym h'.1) (f h.0) (f' h'.0)
+step_determined κs a r r' e e' h h' w w' f f' = same_walk (h.1 ∙ sym h'.1) (f h.0.waiting h.0.log h.0.marks) (f' h'.0.waiting h'.0.log h'.0.marks)
 
 pub steps_determined : (κs : _) (a : _) (r r' : _) (e e' : _) → steps.Learnt κs a r e → steps.Learnt κs a r' e' → (w w' : Walk)
     → Stands a.0.now e.0.now (record_in r) w → Stands a.0.now e'.0.now (record_in r') w' → (r ≡ r') × (w ≡ w')
 steps_determined κs a r r' e e' h h' w w' f f' = let x = h.1 ∙ sym h'.1 in (
   ap (λ (o : ListOutcome). o.answer) x,
-  f h.0 ∙ ap (λ (o : ListOutcome). o.walk) x ∙ sym (f' h'.0),
+  f h.0.waiting h.0.log h.0.marks ∙ ap (λ (o : ListOutcome). o.walk) x ∙ sym (f' h'.0.waiting h'.0.log h'.0.marks),
 )
 
 pub compare_determined : (κs : _) (a : _) (r r' : _) (e e' : _) → compare.Learnt κs a r e → compare.Learnt κs a r' e' → (r ≡ r')

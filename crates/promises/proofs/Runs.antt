@@ -24,7 +24,7 @@ use Rattle.folio.specs.Opening.{Lent, OpenOutcome, lent, out, opened}
 use Rattle.folio.specs.declared.Counts.{Counts}
 use Rattle.plan.specs.Building.{BuildOutcome, out as built-out, build_of}
 use Rattle.plan.specs.declared.Size.{Size}
-use Rattle.walk.specs.Lent.{Stands, walk_in}
+use Rattle.walk.specs.Lent.{walk_in}
 use Rattle.walk.specs.Starting.{Walk, WalkOutcome, counting, record_after, started}
 use Rattle.walk.specs.Stepping.{stepped, run}
 use Rattle.walk.specs.declared.Record.{Record}
@@ -41,6 +41,7 @@ use Rattle.comparing.specs.Comparing.{out_of, compared}
 use Rattle.replacing.specs.Putting.{PutOutcome, put_out, put_of}
 use Rattle.comparing.proofs.marking.compare.Reads as compare
 use Rattle.replacing.proofs.putting.put.Reads as put
+use Rattle.promises.specs.LentWalk.{Stands}
 use Rattle.promises.specs.OneFile.{OpenFile, OneFile, nodes_in, spans_in, shapes_in, score_in, lent_in, after}
 use Rattle.promises.specs.SoFar.{SoFar, Keeps}
 use Rattle.promises.specs.Demand2.{Demand2}
@@ -79,16 +80,16 @@ module _ (plan score spans : List ℕ) where
       ap₂ (λ x y. f x y t j w) ep es ∙ ap₂ (λ x y. f plan score x j y) et ew ∙ ap (λ x. f plan score spans x v) ei
 
   one_step : {i : ℕ} {w v : Walk} → Stepped i w v → v ≡ (stepped plan score spans i w).walk
-  one_step (by_step κs a r e h ep es et ew ei stands) = stands h.0 ∙ ap (λ (o : WalkOutcome). o.walk) (h.1 ∙ same_over stepped ep es et ew ei)
+  one_step (by_step κs a r e h ep es et ew ei stands) = stands h.0.waiting h.0.log h.0.marks ∙ ap (λ (o : WalkOutcome). o.walk) (h.1 ∙ same_over stepped ep es et ew ei)
 
   one_call : {choices : List ℕ} {w v : Walk} {k : ℕ} → Listed choices w k v → v ≡ run plan score spans (take k choices) w
   one_call {choices} {w} (by_steps κs a r e h ep es et ew ec stands) =
-      stands h.0
+      stands h.0.waiting h.0.log h.0.marks
       ∙ subst (λ (o : ListOutcome). o.walk ≡ run plan score spans (take (accepted_in o.answer) choices) w) (sym (h.1 ∙ same_over listed ep es et ew ec))
       (one_list plan score spans choices w).walk_is
 
   listed_walk : {choices : List ℕ} {w v : Walk} {k : ℕ} → Listed choices w k v → v ≡ (listed plan score spans choices w).walk
-  listed_walk (by_steps κs a r e h ep es et ew ec stands) = stands h.0 ∙ ap (λ (o : ListOutcome). o.walk) (h.1 ∙ same_over listed ep es et ew ec)
+  listed_walk (by_steps κs a r e h ep es et ew ec stands) = stands h.0.waiting h.0.log h.0.marks ∙ ap (λ (o : ListOutcome). o.walk) (h.1 ∙ same_over listed ep es et ew ec)
 
   pub steps_run : {w u : Walk} {is : List ℕ} → Walked w is u → u ≡ run plan score spans is w
   unfolding run
@@ -122,7 +123,7 @@ module _ (score spans : List ℕ) where
     start_lent = walk_in a.0.now (counting 0 0 0)
 
     begins : started a.1.0.now score spans start_lent ≡ record { answer = Ok first; walk = start_left }
-    begins = ap₂ (λ l m. started a.1.0.now l m start_lent) (sym of-score) (sym of-spans) ∙ sym starts.1 ∙ ap (λ v. record { answer = Ok first; walk = v }) (sym (stands starts.0))
+    begins = ap₂ (λ l m. started a.1.0.now l m start_lent) (sym of-score) (sym of-spans) ∙ sym starts.1 ∙ ap (λ v. record { answer = Ok first; walk = v }) (sym (stands starts.0.waiting starts.0.log starts.0.marks))
 
     module _ {u : Walk} (h : Handed start_left u) where
       from_start : HandedOn score spans (started a.1.0.now score spans start_lent).walk u
@@ -231,7 +232,7 @@ module _ {file : List ℕ} (bytes : Below 256 file)
         same_start begun (sym s-symbols)
         (ap (take counts.nodes) (is_left (λ l. l.score)) ∙ sym s-score)
         (ap (take counts.nodes) (is_left (λ l. l.spans)) ∙ sym s-spans)
-        ∙ sym starts.1 ∙ ap (λ v. record { answer = Ok first; walk = v }) (sym (stands starts.0))
+        ∙ sym starts.1 ∙ ap (λ v. record { answer = Ok first; walk = v }) (sym (stands starts.0.waiting starts.0.log starts.0.marks))
 
     abbrev pub one_file : OneFile open_file
     one_file = record {

@@ -4,6 +4,7 @@ pub mod Told
 pub mod Refusals
 pub mod Found
 pub mod StepFound
+pub mod LentWalk
 pub mod Exact
 pub mod SoFar
 pub mod Demand1

@@ -2,7 +2,6 @@
 --   SameBuffers  both hold the same three references, so what is written through one is found in the caller's buffers; each is as long as before
 --   walk_in      the walk in the buffers, with its record
 --   outcome_in   the outcome of a call, from its answer and the buffers as it leaves them
---   Stands       w is what stands in the buffers lent, behind a call that left these references: it is read through them, if they are the same ones
 use Rattle.kinds.specs.declared.Reason.{Reason}
 use Rattle.std.specs.Prelude.{◌≡◌, Result, length}
 use Rattle.walk.specs.declared.Record.{Record}
@@ -23,6 +22,3 @@ walk_in w r = walk_of w.waiting.now w.log.now w.marks.now r
 
 abbrev pub outcome_in : Result Record Reason → Record → Walk → WalkOutcome
 outcome_in a before w = outcome a before w.waiting.now w.log.now w.marks.now
-
-abbrev pub Stands : Walk → Walk → Record → plain.Walk → Type 0
-Stands lent left r w = SameBuffers left lent → w ≡ walk_in left r
