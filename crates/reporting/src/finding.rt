@@ -53,6 +53,11 @@ impl<'a, 'b, E: Engine> Finder<'a, 'b, E> {
         if FILE_BYTES < file.len() {
             return self.show_refusal(Refusal(Reason::Long, length));
         }
+        self.find_whole(file)
+    }
+
+    // The tables are in a function that returns in one place: they are cleared once.
+    fn find_whole(&mut self, file: &[u8]) -> io::Result<Shown> {
         let mut words = [0u16; SHAPES_WORDS];
         let mut starts = [0u16; MOST_SHAPES];
         let mut score = [0u16; SCORE_NODES];

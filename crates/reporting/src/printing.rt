@@ -24,7 +24,9 @@ impl<E: Engine> Finder<'_, '_, E> {
     ) -> io::Result<Shown> {
         self.out.put_line(|line| put_first(totals, line))?;
         for (node, mark) in (0..4096).zip(marks) {
-            self.show_mark(spans, Node(node), *mark)?;
+            if *mark != 0 {
+                self.show_mark(spans, Node(node), *mark)?;
+            }
         }
         Ok(Shown::Report)
     }

@@ -1,5 +1,5 @@
 use bufferstone::limits::{PLAN_WORDS, SCORE_NODES, SCRATCH_WORDS, WAITING_WORDS};
-use bufferstone::{Reason, Record, Refusal, Unbuilt, Walk, build};
+use bufferstone::{Reason, Record, Refusal, Size, Unbuilt, Walk, build};
 use running::parts::first;
 use running::tables::Tables;
 use totals::Made;
@@ -7,17 +7,20 @@ use totals::Made;
 // Builds the plan, and walks to the end.
 pub fn walk(tables: Tables<'_>, marks: &mut [u16]) -> Result<Made, Refusal> {
     let mut plan = [0u16; PLAN_WORDS];
-    let mut scratch = [0u16; SCRATCH_WORDS];
-    let size = match build(tables.symbols, tables.shapes(), &mut plan, &mut scratch) {
-        Ok(size) => size,
-        Err(Unbuilt::Refused(reason)) => return Err(Refusal(reason, 0)),
-        Err(Unbuilt::Stopped(reason, state)) => {
-            return Err(Refusal(reason, usize::from(state.0)));
-        }
-    };
+    let size = build_in(tables, &mut plan)?;
     match walk_whole(first(&plan, size.words), tables, marks) {
         Ok(end) => Ok(Made::Walk(size, end)),
         Err(reason) => Err(Refusal(reason, 0)),
+    }
+}
+
+// Scratch is of no use behind building: here nobody clears it again for nothing.
+fn build_in(tables: Tables<'_>, plan: &mut [u16]) -> Result<Size, Refusal> {
+    let mut scratch = [0u16; SCRATCH_WORDS];
+    match build(tables.symbols, tables.shapes(), plan, &mut scratch) {
+        Ok(size) => Ok(size),
+        Err(Unbuilt::Refused(reason)) => Err(Refusal(reason, 0)),
+        Err(Unbuilt::Stopped(reason, state)) => Err(Refusal(reason, usize::from(state.0))),
     }
 }
 
