@@ -86,7 +86,7 @@ module _ (ar ws st score spans marks : List ℕ) where
 abbrev one : Bool → ℕ
 one b = cond b 1 0
 
--- ---- the mark of a node, where the shapes that start at l are left: the words of the last of them end where those of the next shape begin
+-- ---- the mark of a node, where the shapes below j are left: the words of the last of them end where those of shape j begin
 pub record MarkFrom (ws st score spans : List ℕ) (x mark j end : ℕ) : Type 0 where
   pub bits : BitsFrom (matched_at ws st score spans x) (length st) mark j
   pub ends : (i : ℕ) → j ≡ suc i → end ≡ end_of ws st i

@@ -3,20 +3,19 @@
 --   BitsFrom                          a number has the bits that f tells, from bit j on
 --   bits_begin bits_half bits_room bits_down bits_end   none, how large it is, one more below them, all
 --   MarksFrom                         the marks that f tells are written and counted up to a node
---   marks_begin marks_next marks_end marks_front  none, one more, all; in a longer buffer
+--   marks_begin marks_next marks_end  none, one more, all
 use Prim.Native.Nat.{ℕ, zero, suc, ◌+◌, ◌-◌, ◌*◌, ◌/◌, ◌%◌, ◌^◌, ◌<◌, ◌≤◌}
 use mathlib.Core.Path.{◌≡◌, ap, ap₂, sym, ◌∙◌}
 use mathlib.Core.Bool.{Bool, true, false, cond, ◌&&◌}
-use mathlib.Core.List.{List, [], ◌∷◌, ◌++◌, map, append-nil}
+use mathlib.Core.List.{List, [], ◌∷◌, map}
 use native.Mathlib.Omega.{arith}
 use native.Mathlib.Nat.{add-zero, div-one, pow-succ', sub-zero, zero-add}
 use borrow.Author.Tests.{lt-ltb, le-ltb}
 use lib.Count.{ones, ones-le}
 use lib.Dec.{eqb, ltb}
-use lib.ListN.{length, take, drop, set, length-map, drop_of_length-le}
+use lib.ListN.{length, set, length-map}
 use lib.Pow.{pow_pos}
-use lib.Seq.{sets, length-take-le}
-use Rattle.kinds.proofs.ListLaws.{onto_sets}
+use lib.Seq.{sets}
 use Rattle.kinds.specs.Bits.{bit}
 use Rattle.kinds.specs.Lists.{range}
 use Rattle.kinds.proofs.Bools.{not_true, eqb_is, ltb_suc}
@@ -132,13 +131,3 @@ module _ {f : ℕ → ℕ} {n : ℕ} {marks₀ marks : List ℕ} {sum x : ℕ} (
   marks_end h =
       let e = none_left x n h in
       (sym (add-zero sum) ∙ ap (λ l. sum + total (map f l)) (sym e) ∙ b.counted, ap (λ l. sets marks x (map f l)) (sym e) ∙ b.written)
-
--- where the marks are the first n of a buffer
-pub marks_front : (f : ℕ → ℕ) (n : ℕ) (buffer : List ℕ) {marks : List ℕ} → n ≤ length buffer → marks ≡ sets (take n buffer) 0 (map f (range 0 n))
-    → marks ++ drop n buffer ≡ sets buffer 0 (map f (range 0 n))
-marks_front f n buffer h e =
-    let new : List ℕ = map f (range 0 n) in
-    let long : length new ≡ n = length-map (range 0 n) f ∙ length_range 0 n in
-    let front : length (take n buffer) ≡ n = length-take-le n buffer h in
-    ap (λ l. l ++ drop n buffer) (e ∙ sym (onto_sets new (take n buffer) (omega arith)) ∙ rw (drop_of_length-le (take n buffer) {i = length new} (omega arith)) (append-nil new))
-    ∙ ap (λ k. new ++ drop k buffer) (sym long) ∙ onto_sets new buffer (omega arith)

@@ -14,7 +14,7 @@ pub fn walk(tables: Tables<'_>, marks: &mut [u16]) -> Result<Made, Refusal> {
     }
 }
 
-// Scratch is of no use behind building: here nobody clears it again for nothing.
+// Scratch ends with this function, so that clearing it again behind building is left out.
 fn build_in(tables: Tables<'_>, plan: &mut [u16]) -> Result<Size, Refusal> {
     let mut scratch = [0u16; SCRATCH_WORDS];
     match build(tables.symbols, tables.shapes(), plan, &mut scratch) {
